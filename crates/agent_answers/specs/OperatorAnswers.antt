@@ -45,8 +45,10 @@ abbrev pub told_in : List Output → List (ℕ × Told)
 told_in [] = []
 told_in (output ∷ later) = told_by output ++ told_in later
 
--- by this snapshot another member leads than before, and the answer is that the switchover or the failover to it is done
-pub record HasNewLeader (kind : FailoverKind) (was : Option MemberId) (snapshot : SnapshotFacts) (answer : Told) : Type 0 where
+-- by this snapshot another member leads than before, and the answer is
+-- that the switchover or the failover to it is done
+pub record HasNewLeader (kind : FailoverKind) (was : Option MemberId) (snapshot : SnapshotFacts) (answer : Told) : Type
+    0 where
   pub leader : MemberId
   pub leads : holder_in snapshot ≡ Some leader
   pub other : is_same_member was (Some leader) ≡ false
@@ -54,25 +56,32 @@ pub record HasNewLeader (kind : FailoverKind) (was : Option MemberId) (snapshot 
   pub named : name_in snapshot.members (Some leader) ≡ Some name
   pub says : answer ≡ tolds.Text ok (done_text kind name)
 
--- by this snapshot the same member leads as before, or nobody as before, and nothing asks for another leader any more: the answer is that
--- the switchover or the failover failed
-pub record HasOldLeader (kind : FailoverKind) (was : Option MemberId) (snapshot : SnapshotFacts) (answer : Told) : Type 0 where
+-- by this snapshot the same member leads as before, or nobody as before, and nothing asks
+-- for another leader any more: the answer is that the switchover or the failover failed
+pub record HasOldLeader (kind : FailoverKind) (was : Option MemberId) (snapshot : SnapshotFacts) (answer : Told) : Type
+    0 where
   pub same : is_same_member was (holder_in snapshot) ≡ true
   pub over : failover_in snapshot ≡ None
   pub says : answer ≡ tolds.Text service_unavailable (failed_text kind)
 
--- a snapshot shows what came of a request before which this one led, and the answer says it. No snapshot shows that of a configuration
+-- a snapshot shows what came of a request before which this one led,
+-- and the answer says it. No snapshot shows that of a configuration
 abbrev pub IsResultBy : Operation → Option MemberId → SnapshotFacts → Told → Type 0
-IsResultBy (FailingOver kind) was snapshot answer = HasNewLeader kind was snapshot answer ⊎ HasOldLeader kind was snapshot answer
+IsResultBy (FailingOver kind) was snapshot answer =
+    HasNewLeader kind was snapshot answer ⊎ HasOldLeader kind was snapshot answer
 IsResultBy Configuring was snapshot answer = ⊥
 
--- why the request that waits gets this answer: its time is over; the read that the agent waits for shows what came of it; or the key store
--- answers the question that was asked for it, by the grant of the configuration or by a refusal
+-- why the request that waits gets this answer: its time is over; the read that the agent waits for shows what came of
+-- it; or the key store answers the question that was asked for it, by the grant of the configuration or by a refusal
 abbrev pub IsReason : Ticks → Heard → Outcome → Operating → Told → Type 0
-IsReason now Wake o waiting answer = ((operator_until o.knows.settings waiting.operation waiting.since).0 ≤ now.0) × (answer ≡ late_answer waiting.operation)
-IsReason now (ReadAnswered sequence snapshot) o waiting answer = (uses_read sequence (reconciled now o) ≡ true) × IsResultBy waiting.operation waiting.leader snapshot answer
-IsReason now (Granted sequence grant snapshot) o waiting answer = (waiting.sequence ≡ sequence) × (is_write_of o.knows.who.me grant ≡ true) × (waiting.operation ≡ Configuring) × (answer ≡ tolds.Written)
-IsReason now (Mismatch sequence key found) o waiting answer = (waiting.sequence ≡ sequence) × (answer ≡ refusal_of waiting.operation)
+IsReason now Wake o waiting answer = ((operator_until o.knows.settings waiting.operation waiting.since).0 ≤ now.0)
+    × (answer ≡ late_answer waiting.operation)
+IsReason now (ReadAnswered sequence snapshot) o waiting answer =
+    (uses_read sequence (reconciled now o) ≡ true) × IsResultBy waiting.operation waiting.leader snapshot answer
+IsReason now (Granted sequence grant snapshot) o waiting answer = (waiting.sequence ≡ sequence)
+    × (is_write_of o.knows.who.me grant ≡ true) × (waiting.operation ≡ Configuring) × (answer ≡ tolds.Written)
+IsReason now (Mismatch sequence key found) o waiting answer =
+    (waiting.sequence ≡ sequence) × (answer ≡ refusal_of waiting.operation)
 IsReason now _ o waiting answer = ⊥
 
 -- the request that waited is answered, for a reason, and no request waits any more
@@ -83,33 +92,42 @@ pub record AnswersWaiting (now : Ticks) (heard : Heard) (o after : Outcome) (ans
   pub reason : IsReason now heard o waiting answer.1
   pub over : after.knows.operating ≡ None
 
--- what an operator asks is done in this input, and answered so: the server restarts, or is wiped; the member holds on another one's request, or
--- refuses to
+-- what an operator asks is done in this input, and answered so: the server
+-- restarts, or is wiped; the member holds on another one's request, or refuses to
 abbrev pub IsDoneIn : List Output → OperatorRequest → Told → Type 0
-IsDoneIn outs requests.Restart answer = ((as_primary : Bool) × Contains outs (outputs.Restart as_primary)) × (answer ≡ tolds.Text ok texts.Restarted)
+IsDoneIn outs requests.Restart answer =
+    ((as_primary : Bool) × Contains outs (outputs.Restart as_primary)) × (answer ≡ tolds.Text ok texts.Restarted)
 IsDoneIn outs requests.Reinit answer = Contains outs outputs.Wipe × (answer ≡ tolds.Text ok texts.ReinitializeStarted)
 IsDoneIn outs (requests.Hold from ttl) answer =
-    (((until : Ticks) × ((member : MemberId) × Contains outs (outputs.HoldTaken until member unnumbered))) × (answer ≡ tolds.Text ok texts.Accepted)) ⊎ (answer ≡ tolds.Text internal_server_error texts.Refused)
+    (((until : Ticks) × ((member : MemberId) × Contains outs (outputs.HoldTaken until member unnumbered))) ×
+    (answer ≡ tolds.Text ok texts.Accepted))
+    ⊎ (answer ≡ tolds.Text internal_server_error texts.Refused)
 IsDoneIn outs _ answer = ⊥
 
 -- the request that is heard is answered at once
 abbrev pub AnswersAtOnce : Heard → Outcome → ℕ × Told → Type 0
-AnswersAtOnce (Operated action) after answer = (answer.0 ≡ action.request) × IsDoneIn after.outputs action.asked answer.1
+AnswersAtOnce (Operated action) after answer =
+    (answer.0 ≡ action.request) × IsDoneIn after.outputs action.asked answer.1
 AnswersAtOnce _ after answer = ⊥
 
 -- operators get no answer, or one that has its cause
 abbrev pub AnswersOneAtMost : Ticks → Heard → Outcome → Outcome → List (ℕ × Told) → Type 0
 AnswersOneAtMost now heard o after [] = Unit {0}
-AnswersOneAtMost now heard o after (answer ∷ []) = AnswersWaiting now heard o after answer ⊎ AnswersAtOnce heard after answer
+AnswersOneAtMost now heard o after (answer ∷ []) =
+    AnswersWaiting now heard o after answer ⊎ AnswersAtOnce heard after answer
 AnswersOneAtMost now heard o after (first ∷ second ∷ others) = ⊥
 
--- this is what the key store is asked for on such a request: the failover key, or the configuration, that the operator wants
+-- this is what the key store is asked for on such a request: the
+-- failover key, or the configuration, that the operator wants
 abbrev pub IsWish : OperatorRequest → Operation → Txn → Type 0
-IsWish (requests.Failover kind failover) operation txn = (operation ≡ FailingOver kind) × ((ttl : Ticks) × (txn ≡ txns.SetFailover failover ttl))
-IsWish (requests.Configuration config) operation txn = (operation ≡ Configuring) × ((revision : ℕ) × (txn ≡ txns.SetConfig revision config))
+IsWish (requests.Failover kind failover) operation txn =
+    (operation ≡ FailingOver kind) × ((ttl : Ticks) × (txn ≡ txns.SetFailover failover ttl))
+IsWish (requests.Configuration config) operation txn =
+    (operation ≡ Configuring) × ((revision : ℕ) × (txn ≡ txns.SetConfig revision config))
 IsWish _ operation txn = ⊥
 
--- what waits is this request, for which the key store is asked at this moment; noted is who leads by the newest snapshot
+-- what waits is this request, for which the key store is asked at this
+-- moment; noted is who leads by the newest snapshot
 pub record IsAskedFor (now : Ticks) (action : OperatorAction) (o after : Outcome) (waiting : Operating) : Type 0 where
   pub request : waiting.request ≡ action.request
   pub since : waiting.since ≡ now
@@ -125,7 +143,8 @@ WaitsForHeard now _ o after waiting = ⊥
 
 -- what waits after an input waited before, or is the request that is heard
 abbrev pub WaitsAsAsked : Ticks → Heard → Outcome → Outcome → Type 0
-WaitsAsAsked now heard o after = (waiting : Operating) → after.knows.operating ≡ Some waiting → (o.knows.operating ≡ Some waiting) ⊎ WaitsForHeard now heard o after waiting
+WaitsAsAsked now heard o after = (waiting : Operating) → after.knows.operating ≡ Some waiting
+    → (o.knows.operating ≡ Some waiting) ⊎ WaitsForHeard now heard o after waiting
 
 -- the request of this number waits for its result, and this is so of it
 pub record AwaitsResult (request : ℕ) (IsSo : Operating → Type 0) (knows : Knowledge) : Type 0 where
@@ -157,20 +176,24 @@ pub record IsRefusedFailover (heard : Heard) (waiting : Operating) : Type 0 wher
   pub operation : waiting.operation ≡ FailingOver kind
   pub refused : IsRefused heard waiting
 
--- until `retry_timeout` was over no answer was heard on whether the configuration is written: nothing is heard now, and it was asked for so
--- many seconds ago, or earlier
+-- until `retry_timeout` was over no answer was heard on whether the configuration is
+-- written: nothing is heard now, and it was asked for so many seconds ago, or earlier
 pub record IsUnheard (now : Ticks) (heard : Heard) (settings : Config) (waiting : Operating) : Type 0 where
   pub operation : waiting.operation ≡ Configuring
   pub unheard : heard ≡ Wake
   pub over : waiting.since.0 + TICKS_OF_SECOND * settings.retry_timeout ≤ now.0
 
--- words that tell of want of time, or of a refusal, have their cause. A configuration that was not written is told with the status of a
--- conflict where the key store refused it, and with that of want of service where no answer came in time. Other words are free here
+-- words that tell of want of time, or of a refusal, have their cause. A configuration that
+-- was not written is told with the status of a conflict where the key store refused it,
+-- and with that of want of service where no answer came in time. Other words are free here
 abbrev pub IsCause : Ticks → Heard → Knowledge → ℕ → ℕ → Text → Type 0
-IsCause now heard knows request status texts.NoResultInTime = (status ≡ service_unavailable) × AwaitsResult request (IsOverdue now) knows
-IsCause now heard knows request status texts.AnotherUnderWay = (status ≡ service_unavailable) × AwaitsResult request (IsRefusedFailover heard) knows
+IsCause now heard knows request status texts.NoResultInTime =
+    (status ≡ service_unavailable) × AwaitsResult request (IsOverdue now) knows
+IsCause now heard knows request status texts.AnotherUnderWay =
+    (status ≡ service_unavailable) × AwaitsResult request (IsRefusedFailover heard) knows
 IsCause now heard knows request status texts.ConfigurationNotWritten =
-    ((status ≡ conflict) × AwaitsResult request (IsRefusedWrite heard) knows) ⊎ ((status ≡ service_unavailable) × AwaitsResult request (IsUnheard now heard knows.settings) knows)
+    ((status ≡ conflict) × AwaitsResult request (IsRefusedWrite heard) knows)
+    ⊎ ((status ≡ service_unavailable) × AwaitsResult request (IsUnheard now heard knows.settings) knows)
 IsCause now heard knows request status _ = Unit {0}
 
 -- what is told has its cause, where it tells words
@@ -192,10 +215,12 @@ pub record AwaitsDecision (sequence : ℕ) (waiting : Operating) (knows : Knowle
   pub number : waiting.sequence ≡ sequence
   pub alone : awaits_number knows.waited sequence ≡ false
 
--- what the key store decided on the request that waits is told at once: its refusal, or that the configuration is written. So no request
--- waits on whose decision was heard, but for another leader
+-- what the key store decided on the request that waits is told at once: its refusal, or that the
+-- configuration is written. So no request waits on whose decision was heard, but for another leader
 abbrev pub TellsDecision : Heard → Knowledge → List Output → Type 0
-TellsDecision (Mismatch sequence key found) knows outs = (waiting : Operating) → AwaitsDecision sequence waiting knows → told_in outs ≡ (waiting.request, refusal_of waiting.operation) ∷ []
+TellsDecision (Mismatch sequence key found) knows outs = (waiting : Operating)
+    → AwaitsDecision sequence waiting knows → told_in outs ≡ (waiting.request, refusal_of waiting.operation) ∷ []
 TellsDecision (Granted sequence grant snapshot) knows outs =
-    (waiting : Operating) → AwaitsDecision sequence waiting knows → is_write_of knows.who.me grant ≡ true → waiting.operation ≡ Configuring → told_in outs ≡ (waiting.request, tolds.Written) ∷ []
+    (waiting : Operating) → AwaitsDecision sequence waiting knows → is_write_of knows.who.me grant ≡ true
+    → waiting.operation ≡ Configuring → told_in outs ≡ (waiting.request, tolds.Written) ∷ []
 TellsDecision _ knows outs = Unit {0}

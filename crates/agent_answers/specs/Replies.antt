@@ -8,16 +8,19 @@ use Rattle.agent_model.specs.declared.output.Output.TheVariants as outputs
 
 -- this member asked, under this number of that run of its agent
 abbrev pub IsAskOf : MemberId → ℕ → ℕ → Heard → Type 0
-IsAskOf member incarnation sequence (Asked from asked number) = (member ≡ from) × (incarnation ≡ asked) × (sequence ≡ number)
+IsAskOf member incarnation sequence (Asked from asked number) =
+    (member ≡ from) × (incarnation ≡ asked) × (sequence ≡ number)
 IsAskOf member incarnation sequence _ = ⊥
 
 -- this member asked to stay primary, under this number of that run of its agent
 abbrev pub IsFailsafeAskOf : MemberId → ℕ → ℕ → Heard → Type 0
-IsFailsafeAskOf member incarnation sequence (FailsafeAsked from asked number ttl) = (member ≡ from) × (incarnation ≡ asked) × (sequence ≡ number)
+IsFailsafeAskOf member incarnation sequence (FailsafeAsked from asked number ttl) =
+    (member ≡ from) × (incarnation ≡ asked) × (sequence ≡ number)
 IsFailsafeAskOf member incarnation sequence _ = ⊥
 
 -- an answer goes to the member that asks, under the incarnation and the number of its ask
 abbrev pub RepliesTo : Heard → Output → Type 0
 RepliesTo heard (outputs.Answer to incarnation sequence answer) = IsAskOf to incarnation sequence heard
-RepliesTo heard (outputs.FailsafeAnswer to incarnation sequence accepted) = IsFailsafeAskOf to incarnation sequence heard
+RepliesTo heard (outputs.FailsafeAnswer to incarnation sequence accepted) =
+    IsFailsafeAskOf to incarnation sequence heard
 RepliesTo heard _ = Unit {0}

@@ -49,18 +49,23 @@ pub record Ground (s : State) (m quorum : ℕ) (o b : Outcome) : Type 0 where
 
 -- what is made of it is lawful, where the agent goes on
 abbrev pub Lawful : ℕ → Ticks → ℕ → Granted → SnapshotFacts → State → ℕ → AgentInput → Outcome → Outcome → Type 0
-Lawful quorum now sequence grant snapshot s m input o x = Onward (Some snapshot) o x → IsShown s m o x input → IsLawfulAs now (HeardGranted sequence grant snapshot) quorum o s m input
+Lawful quorum now sequence grant snapshot s m input o x = Onward (Some snapshot) o x → IsShown s m o x input
+    → IsLawfulAs now (HeardGranted sequence grant snapshot) quorum o s m input
 
 -- a row that leaves what commits depend on
-pub rests : {quorum : ℕ} (now : Ticks) (sequence : ℕ) (grant : Granted) (snapshot : SnapshotFacts) (s : State) (m : ℕ) (input : AgentInput) (o b x : Outcome) → Ground s m quorum o b → Idle None b x → Lawful quorum now sequence grant snapshot s m input o x
+pub rests : {quorum : ℕ} (now : Ticks) (sequence : ℕ) (grant : Granted) (snapshot : SnapshotFacts) (s : State)
+    (m : ℕ) (input : AgentInput) (o b x : Outcome) → Ground s m quorum o b → Idle None b x
+    → Lawful quorum now sequence grant snapshot s m input o x
 rests now sequence grant snapshot s m input o b x ground idle onward is =
-    idle-lawful now (HeardGranted sequence grant snapshot) None (Some snapshot) s m input o x ground.stands is onward (idle-then None o b x ground.behind.idle idle ground.behind.last) ground.quiet (λ told e. absurd (none-told told e))
+    idle-lawful now (HeardGranted sequence grant snapshot) None (Some snapshot) s m input o x ground.stands is onward
+    (idle-then None o b x ground.behind.idle idle ground.behind.last) ground.quiet (λ told e. absurd (none-told told e))
   where
     none-told : (told : SnapshotFacts) → ◌≡◌ {A = Option SnapshotFacts} None (Some told) → ⊥
     none-told told e = cc
 
 -- what is known of a lease that is heard
-pub record Leased (s : State) (m sequence : ℕ) (grant : Granted) (snapshot : SnapshotFacts) (input : AgentInput) (o : Outcome) : Type 0 where
+pub record Leased (s : State) (m sequence : ℕ) (grant : Granted) (snapshot : SnapshotFacts)
+    (input : AgentInput) (o : Outcome) : Type 0 where
   pub awaited : IsAwaitedLease sequence grant o.knows
   pub hears : HearsLease s m input.heard sequence grant.revision snapshot o.knows
 
@@ -76,26 +81,39 @@ pub record Changes (s : State) (m : ℕ) (o x : Outcome) : Type 0 where
   pub turn : x.knows.turn_sync ≡ o.knows.turn_sync
   pub waited : x.knows.waited ≡ None
   pub unasking : All (IsUnasking true) x.outputs
-  pub notes : (noted_position x.knows.noted ≡ end_of (entries_of (s.members m).log)) ⊎ (Narrows (s.members m).required (confirmers_in x.machine.replication.required) × (x.knows.noted ≡ o.knows.noted))
+  pub notes : (noted_position x.knows.noted ≡ end_of (entries_of (s.members m).log))
+      ⊎ (Narrows (s.members m).required (confirmers_in x.machine.replication.required) ×
+      (x.knows.noted ≡ o.knows.noted))
 
 notes-shown : (s : State) (m : ℕ) (input : AgentInput) (o x : Outcome) → IsShown s m o x input → Changes s m o x
-    → (input.agent.noted ≡ end_of (entries_of (s.members m).log)) ⊎ (Narrows (s.members m).required input.required × (input.agent.noted ≡ (was_of o).noted))
+    → (input.agent.noted ≡ end_of (entries_of (s.members m).log))
+    ⊎ (Narrows (s.members m).required input.required × (input.agent.noted ≡ (was_of o).noted))
 notes-shown s m input o x is changes = elim changes.notes [
   | inl end ↦ inl (ap (λ (a : Agent). a.noted) is.agent ∙ end)
-  | inr narrows ↦ inr (subst (Narrows (s.members m).required) (sym is.required) narrows.0, keeps-noted s m input o x is narrows.1)
+  | inr narrows ↦
+      inr (subst (Narrows (s.members m).required) (sym is.required) narrows.0, keeps-noted s m input o x is narrows.1)
 ]
 
-overlaps-shown : (s : State) (m : ℕ) (input : AgentInput) (o x : Outcome) (key : SyncKey) (standbys : ℕ → Bool) → IsShown s m o x input → key.standbys ≡ standbys → Overlaps s.member_count standbys key.quorum (confirmers_in x.machine.replication.required)
+overlaps-shown : (s : State) (m : ℕ) (input : AgentInput) (o x : Outcome) (key : SyncKey) (standbys : ℕ → Bool)
+    → IsShown s m o x input → key.standbys ≡ standbys
+    → Overlaps s.member_count standbys key.quorum (confirmers_in x.machine.replication.required)
     → Overlaps s.member_count key.standbys key.quorum input.required
 overlaps-shown s m input o x key standbys is same over =
     subst (λ (n : Confirmers). Overlaps s.member_count key.standbys key.quorum n) (sym is.required)
-    (subst (λ (set : ℕ → Bool). Overlaps s.member_count set key.quorum (confirmers_in x.machine.replication.required)) (sym same) over)
+    (subst (λ (set : ℕ → Bool). Overlaps s.member_count set key.quorum (confirmers_in x.machine.replication.required))
+    (sym same) over)
 
 -- in a turn
-pub changes-lawful : {quorum : ℕ} (now : Ticks) (sequence : ℕ) (grant : Granted) (snapshot : SnapshotFacts) (s : State) (m : ℕ) (input : AgentInput) (o b x : Outcome) → Ground s m quorum o b → Leased s m sequence grant snapshot input o → (led : IsLedBy s m quorum snapshot o) → is_leader b.role ≡ true → Changes s m o x
-    → Overlaps s.member_count (set_members (published_in snapshot)) led.key.quorum (confirmers_in x.machine.replication.required) → GrowsByConnected o (s.members m).required (confirmers_in x.machine.replication.required) → Lawful quorum now sequence grant snapshot s m input o x
+pub changes-lawful : {quorum : ℕ} (now : Ticks) (sequence : ℕ) (grant : Granted) (snapshot : SnapshotFacts) (s : State)
+    (m : ℕ) (input : AgentInput) (o b x : Outcome) → Ground s m quorum o b → Leased s m sequence grant snapshot input o
+    → (led : IsLedBy s m quorum snapshot o) → is_leader b.role ≡ true → Changes s m o x
+    → Overlaps s.member_count (set_members (published_in snapshot)) led.key.quorum
+    (confirmers_in x.machine.replication.required)
+    → GrowsByConnected o (s.members m).required (confirmers_in x.machine.replication.required)
+    → Lawful quorum now sequence grant snapshot s m input o x
 changes-lawful now sequence grant snapshot s m input o b x ground leased led leads changes over grows onward is =
-    lawful-as now (HeardGranted sequence grant snapshot) (Some snapshot) s m input o x ground.stands is onward (waits-nothing o x changes.waited)
+    lawful-as now (HeardGranted sequence grant snapshot) (Some snapshot) s m input o x ground.stands is onward
+    (waits-nothing o x changes.waited)
     (ChangingRequired (record {
       grant = lease_granted_as m sequence grant.revision snapshot o;
       hears = hears-lease s m sequence grant snapshot input o leased.hears leased.awaited;
@@ -111,10 +129,17 @@ changes-lawful now sequence grant snapshot s m input o b x ground leased led lea
     })) (subst (GrowsByConnected o (s.members m).required) (sym is.required) grows)
 
 -- on a granted write of the sync key
-pub settles-lawful : {quorum : ℕ} (now : Ticks) (sequence : ℕ) (grant : Granted) (snapshot : SnapshotFacts) (s : State) (m : ℕ) (input : AgentInput) (o b x : Outcome) → Ground s m quorum o b → (awaited : IsAwaitedWrite sequence grant o.knows) → (hears : HearsWrite s m input.heard sequence awaited.waited.question o.knows)
-    → is_leader b.role ≡ true → Changes s m o x → Overlaps s.member_count hears.key.standbys hears.key.quorum (confirmers_in x.machine.replication.required) → GrowsByConnected o (s.members m).required (confirmers_in x.machine.replication.required) → Lawful quorum now sequence grant snapshot s m input o x
+pub settles-lawful : {quorum : ℕ} (now : Ticks) (sequence : ℕ) (grant : Granted) (snapshot : SnapshotFacts)
+    (s : State) (m : ℕ) (input : AgentInput) (o b x : Outcome) → Ground s m quorum o b
+    → (awaited : IsAwaitedWrite sequence grant o.knows)
+    → (hears : HearsWrite s m input.heard sequence awaited.waited.question o.knows)
+    → is_leader b.role ≡ true → Changes s m o x
+    → Overlaps s.member_count hears.key.standbys hears.key.quorum (confirmers_in x.machine.replication.required)
+    → GrowsByConnected o (s.members m).required (confirmers_in x.machine.replication.required)
+    → Lawful quorum now sequence grant snapshot s m input o x
 settles-lawful now sequence grant snapshot s m input o b x ground awaited hears leads changes over grows onward is =
-    lawful-as now (HeardGranted sequence grant snapshot) (Some snapshot) s m input o x ground.stands is onward (waits-nothing o x changes.waited)
+    lawful-as now (HeardGranted sequence grant snapshot) (Some snapshot) s m input o x ground.stands is onward
+    (waits-nothing o x changes.waited)
     (SettlingRequired (record {
       sync_grant = write_granted_as m sequence hears.key o;
       hears = hears-write s m sequence grant input o awaited hears;
@@ -127,26 +152,39 @@ settles-lawful now sequence grant snapshot s m input o b x ground awaited hears 
       notes = notes-shown s m input o x is changes;
     })) (subst (GrowsByConnected o (s.members m).required) (sym is.required) grows)
 
--- a leader that asks for standbys that are required, and are published already or have confirmed the noted position, of which no fewer may lack a
--- commit than before
-pub publishes-lawful : {quorum : ℕ} (now : Ticks) (sequence : ℕ) (grant : Granted) (snapshot : SnapshotFacts) (s : State) (m : ℕ) (input : AgentInput) (o b : Outcome) (w : WatchdogAfter b) → Ground s m quorum o b → Leased s m sequence grant snapshot input o → (led : IsLedBy s m quorum snapshot o) → is_leader b.role ≡ true → (settling : Settling) (set : MemberSet)
-    → IsWithin (set_members set) (set_members (required_members o.machine.replication.required)) → ((n : ℕ) → set_members set n ≡ true → (set_members (published_in snapshot) n ≡ true) ⊎ HasReached o.machine.replication.confirmed_positions (noted_position o.knows.noted) n)
+-- a leader that asks for standbys that are required, and are published already or
+-- have confirmed the noted position, of which no fewer may lack a commit than before
+pub publishes-lawful : {quorum : ℕ} (now : Ticks) (sequence : ℕ) (grant : Granted) (snapshot : SnapshotFacts)
+    (s : State) (m : ℕ) (input : AgentInput) (o b : Outcome) (w : WatchdogAfter b) → Ground s m quorum o b
+    → Leased s m sequence grant snapshot input o → (led : IsLedBy s m quorum snapshot o)
+    → is_leader b.role ≡ true → (settling : Settling) (set : MemberSet)
+    → IsWithin (set_members set) (set_members (required_members o.machine.replication.required))
+    → ((n : ℕ) → set_members set n ≡ true → (set_members (published_in snapshot) n ≡ true) ⊎
+    HasReached o.machine.replication.confirmed_positions (noted_position o.knows.noted) n)
     → led.key.quorum ≤ quorum_written (txns.SetSync grant.revision (expected_of (sync_read_in snapshot)) set)
-    → Lawful quorum now sequence grant snapshot s m input o (naming now grant.revision settling set (led_by b w grant.revision snapshot))
-publishes-lawful now sequence grant snapshot s m input o b w ground leased led leads settling set required each fewer onward is =
+    → Lawful quorum now sequence grant snapshot s m input o
+    (naming now grant.revision settling set (led_by b w grant.revision snapshot))
+publishes-lawful now sequence grant snapshot s m input o b w ground leased led leads settling set required each fewer
+    onward is =
     let fed : Outcome = led_by b w grant.revision snapshot in
     let x : Outcome = naming now grant.revision settling set fed in
-    let fed-quiet : All (Stands true) fed.outputs = w.quiet true (ground.behind.idle.quiet true (λ _ _. refl) ground.quiet) in
+    let fed-quiet : All (Stands true) fed.outputs =
+    w.quiet true (ground.behind.idle.quiet true (λ _ _. refl) ground.quiet) in
     let txn : Txn = txns.SetSync grant.revision (expected_of (sync_read_in snapshot)) set in
     let output : Output = outputs.Send targets.Store (b.knows.sequence + 1) (bodies.Request txn) in
-    let request : SyncRequest = publish_request m o.knows.incarnation (b.knows.sequence + 1) grant.revision (expected_of (sync_read_in snapshot)) set in
+    let request : SyncRequest = publish_request m o.knows.incarnation (b.knows.sequence + 1) grant.revision
+    (expected_of (sync_read_in snapshot)) set in
     let lives : (s.members m).live ≡ true = leads-live s m o b ground.stands ground.behind leads in
-    let was-published : (n : ℕ) → set_members (published_in snapshot) n ≡ true → led.key.standbys n ≡ true = λ n e. ap (λ (f : ℕ → Bool). f n) led.standbys ∙ e in
-    lawful-as now (HeardGranted sequence grant snapshot) (Some snapshot) s m input o x ground.stands is onward (waits-new o x _ refl (omega (arith, ground.behind.last)))
+    let was-published : (n : ℕ) → set_members (published_in snapshot) n ≡ true → led.key.standbys n ≡ true =
+    λ n e. ap (λ (f : ℕ → Bool). f n) led.standbys ∙ e in
+    lawful-as now (HeardGranted sequence grant snapshot) (Some snapshot) s m input o x ground.stands is onward
+    (waits-new o x _ refl (omega (arith, ground.behind.last)))
     (Publishing (record {
       grant = lease_granted_as m sequence grant.revision snapshot o;
       hears = hears-lease s m sequence grant snapshot input o leased.hears leased.awaited;
-      keeps = keeps-server s m input o x ground.stands is (last-unbegun true fed.outputs output (unasking true fed.outputs fed-quiet) refl) (ap (λ (r : Replication). r.required) ground.behind.replication);
+      keeps = keeps-server s m input o x ground.stands is
+          (last-unbegun true fed.outputs output (unasking true fed.outputs fed-quiet) refl)
+          (ap (λ (r : Replication). r.required) ground.behind.replication);
       live = lives;
       led = ground.behind.idle.leads leads;
       ready = keeps-ready s m input o x is (λ e. absurd (no-way e));
@@ -155,16 +193,22 @@ publishes-lawful now sequence grant snapshot s m input o b w ground leased led l
       key = led.key;
       key_is = led.seen;
       request = request;
-      sends = sends-one s m input o x request is (last-request true m o.knows.incarnation fed.outputs output fed-quiet) refl refl (omega (arith, ground.behind.last)) (omega arith) refl;
+      sends = sends-one s m input o x request is (last-request true m o.knows.incarnation fed.outputs output fed-quiet)
+          refl refl (omega (arith, ground.behind.last)) (omega arith) refl;
       leader = refl;
       sync = compared-as (sync_read_in snapshot) ∙ ap sync_revision_of led.seen;
       standbys = set_members set;
       quorum = quorum_written txn;
       aim = refl;
-      overlaps = subst (λ (n : Confirmers). Overlaps s.member_count (set_members set) (quorum_written txn) n) (sym ground.stands.required) (covers-required s.member_count (quorum_written txn) (set_members set) o.machine.replication.required required);
+      overlaps = subst (λ (n : Confirmers). Overlaps s.member_count (set_members set) (quorum_written txn) n)
+          (sym ground.stands.required)
+          (covers-required s.member_count (quorum_written txn)
+          (set_members set) o.machine.replication.required required);
       connected = λ n e. elim (each n e) [
         | inl was ↦ inl (was-published n was)
-        | inr reached ↦ inr (confirmed-any s m (noted_position o.knows.noted) n (has-confirmed s m o (noted_position o.knows.noted) n ground.stands reached))
+        | inr reached ↦
+            inr (confirmed-any s m (noted_position o.knows.noted) n
+            (has-confirmed s m o (noted_position o.knows.noted) n ground.stands reached))
       ];
       may = Added (λ n e. elim (each n e) [
         | inl was ↦ inl (was-published n was)

@@ -32,4 +32,8 @@ as-it-was b = record { machine = b.machine; outs = b.outputs; quiet = λ leads q
 
 -- the leader with that watchdog
 abbrev pub led_by : (b : Outcome) → WatchdogAfter b → ℕ → SnapshotFacts → Outcome
-led_by b w revision snapshot = record (Told snapshot b) { role = Leader revision; machine = record b.machine { watchdog = w.machine.watchdog; by_failsafe = w.machine.by_failsafe }; outputs = w.outs }
+led_by b w revision snapshot = record (Told snapshot b) {
+  role = Leader revision;
+  machine = record b.machine { watchdog = w.machine.watchdog; by_failsafe = w.machine.by_failsafe };
+  outputs = w.outs;
+}

@@ -16,7 +16,8 @@ pub record IsShown (s : State) (m : ℕ) (o after : Outcome) (input : AgentInput
   pub holder_was_live : (input.holder_was_live ≡ s.holder_was_live) ⊎ HolderCarries s m input
   pub inside : has_one is_claim_outside_sync after.outputs ≡ false
 
-pub shown : (s : State) (m : ℕ) (o after : Outcome) (input : AgentInput) → IsCommitInputOf s m o after input → (has_one is_carrying after.outputs ≡ true → live_shown o after ≡ true) → IsShown s m o after input
+pub shown : (s : State) (m : ℕ) (o after : Outcome) (input : AgentInput) → IsCommitInputOf s m o after input
+    → (has_one is_carrying after.outputs ≡ true → live_shown o after ≡ true) → IsShown s m o after input
 shown s m o after input is carried = record {
   agent = is.agent;
   live = is.live;
@@ -24,7 +25,12 @@ shown s m o after input is carried = record {
   sends = is.sends;
   holder_was_live = elim is.holder_was_live [
     | inl same ↦ inl same
-    | inr asks ↦ inr (record { revision = asks.revision; leader = asks.leader; holder = asks.holder; live = is.live ∙ carried asks.carries })
+    | inr asks ↦ inr (record {
+      revision = asks.revision;
+      leader = asks.leader;
+      holder = asks.holder;
+      live = is.live ∙ carried asks.carries;
+    })
   ];
   inside = is.inside;
 }

@@ -1,4 +1,5 @@
--- Which inputs of the law of kept commits an input of the table stands for, and that they are lawful while the synchronous mode is on.
+-- Which inputs of the law of kept commits an input of the table stands
+-- for, and that they are lawful while the synchronous mode is on.
 use Rattle.std.specs.Prelude.{ℕ, zero, suc, ◌≡◌, ◌⊎◌, ◌<◌, ◌≤◌, ◌++◌, ◌||◌, if◌then◌else◌, Bool, true, false, List, [], ◌∷◌, Option, Some, None, All, slice_get}
 use Rattle.std.specs.List.{filter_map}
 use Rattle.std.specs.Option.{ForSome}
@@ -54,9 +55,11 @@ sync_seen (Some read) = Some (key_seen read.key read.revision)
 -- the number of what is waited for, if that is a create, a renewal or a write of the sync key
 abbrev pub number_waited : Option PendingQuestion → Option ℕ
 number_waited None = None
-number_waited (Some waited) = if asks_lease waited.question || asks_sync waited.question then Some waited.sequence else None
+number_waited (Some waited) =
+    if asks_lease waited.question || asks_sync waited.question then Some waited.sequence else None
 
--- what the law sees of an agent in this role. No race counts: in synchronous mode only whom the sync key names takes the leader key
+-- what the law sees of an agent in this role. No race counts: in
+-- synchronous mode only whom the sync key names takes the leader key
 abbrev pub committer_seen : RoleFacts → Knowledge → Agent
 committer_seen role knows = record {
   incarnation = knows.incarnation;
@@ -88,7 +91,8 @@ pub record StandsToCommit (s : State) (m quorum : ℕ) (o : Outcome) : Type 0 wh
   pub required : (s.members m).required ≡ confirmers_in o.machine.replication.required
   pub end : IsEndOf o.machine.server.end (s.members m).log
   pub has_log : has_data o.machine.server.state ≡ true → HasLog (s.members m).log
-  pub connected : (n : ℕ) (end : Lsn) → slice_get o.machine.replication.confirmed_positions n ≡ Some (Some end) → IsConnected s m n end
+  pub connected : (n : ℕ) (end : Lsn)
+      → slice_get o.machine.replication.confirmed_positions n ≡ Some (Some end) → IsConnected s m n end
   pub me : o.knows.who.me.number ≡ m
   pub counts : m < s.member_count
   pub strict : (key : SyncKey) → s.sync ≡ Some key → IsOfQuorum s.member_count quorum key
@@ -101,35 +105,50 @@ pub record IsAwaitedWrite (sequence : ℕ) (grant : Granted) (knows : Knowledge)
   pub mine : is_write_of knows.who.me grant ≡ true
 
 -- the message that this member hears grants a create or a renewal of this number and revision, with this snapshot
-pub record HearsLease (s : State) (m : ℕ) (heard : Option ℕ) (sequence revision : ℕ) (snapshot : SnapshotFacts) (knows : Knowledge) : Type 0 where
+pub record HearsLease (s : State) (m : ℕ) (heard : Option ℕ) (sequence revision : ℕ)
+    (snapshot : SnapshotFacts) (knows : Knowledge) : Type 0 where
   pub number : ℕ
   pub heard_is : heard ≡ Some number
-  pub is : s.flight number ≡ Some (LeaseGranted (record { member = m; incarnation = knows.incarnation; sequence = sequence; revision = revision; sync = sync_seen (sync_read_in snapshot) }))
+  pub is : s.flight number ≡ Some (LeaseGranted (record {
+    member = m;
+    incarnation = knows.incarnation;
+    sequence = sequence;
+    revision = revision;
+    sync = sync_seen (sync_read_in snapshot);
+  }))
 
--- the standbys in a sync key are those that this question asked for: a claim names none, and a required list settles to those that it
--- is asked for with
+-- the standbys in a sync key are those that this question asked for: a claim
+-- names none, and a required list settles to those that it is asked for with
 abbrev pub IsAskedBy : Question → SyncKey → Type 0
 IsAskedBy Claiming key = (n : ℕ) → key.standbys n ≡ false
 IsAskedBy (Syncing (NamesStandbys standbys)) key = (n : ℕ) → key.standbys n ≡ set_members standbys n
 IsAskedBy _ key = Unit {0}
 
 -- the message that it hears grants a write of the sync key of this number, which this question asked
-pub record HearsWrite (s : State) (m : ℕ) (heard : Option ℕ) (sequence : ℕ) (question : Question) (knows : Knowledge) : Type 0 where
+pub record HearsWrite (s : State) (m : ℕ) (heard : Option ℕ) (sequence : ℕ) (question : Question)
+    (knows : Knowledge) : Type 0 where
   pub number : ℕ
   pub key : SyncKey
   pub heard_is : heard ≡ Some number
-  pub is : s.flight number ≡ Some (SyncGranted (record { member = m; incarnation = knows.incarnation; sequence = sequence; key = key }))
+  pub is : s.flight number
+      ≡ Some (SyncGranted (record { member = m; incarnation = knows.incarnation; sequence = sequence; key = key }))
   pub asked : IsAskedBy question key
 
--- it hears the answer to a granted request: where that is waited for, the grant of a lease or of a write of the sync key
-pub record HearsGranted (s : State) (m : ℕ) (heard : Option ℕ) (sequence : ℕ) (grant : Granted) (snapshot : SnapshotFacts) (knows : Knowledge) : Type 0 where
+-- it hears the answer to a granted request: where that is waited for,
+-- the grant of a lease or of a write of the sync key
+pub record HearsGranted (s : State) (m : ℕ) (heard : Option ℕ) (sequence : ℕ) (grant : Granted)
+    (snapshot : SnapshotFacts) (knows : Knowledge) : Type 0 where
   pub lease : IsAwaitedLease sequence grant knows → HearsLease s m heard sequence grant.revision snapshot knows
-  pub write : (awaited : IsAwaitedWrite sequence grant knows) → HearsWrite s m heard sequence awaited.waited.question knows
+  pub write : (awaited : IsAwaitedWrite sequence grant knows)
+      → HearsWrite s m heard sequence awaited.waited.question knows
 
--- what the law hears of what comes to an agent. Of a refusal, and of what other members ask and answer, it needs nothing
+-- what the law hears of what comes to an agent. Of a refusal, and of
+-- what other members ask and answer, it needs nothing
 abbrev pub HearsToCommit : State → ℕ → AgentInput → Heard → Outcome → Type 0
-HearsToCommit s m input (heards.ReadAnswered sequence snapshot) o = HearsSnapshot s input (sync_seen (sync_read_in snapshot))
-HearsToCommit s m input (heards.Granted sequence grant snapshot) o = HearsGranted s m input.heard sequence grant snapshot o.knows
+HearsToCommit s m input (heards.ReadAnswered sequence snapshot) o =
+    HearsSnapshot s input (sync_seen (sync_read_in snapshot))
+HearsToCommit s m input (heards.Granted sequence grant snapshot) o =
+    HearsGranted s m input.heard sequence grant snapshot o.knows
 HearsToCommit s m input _ o = Unit {0}
 
 -- the synchronous mode is on in a snapshot, and the cluster isn't paused by it
@@ -153,7 +172,8 @@ FollowsSynchronousMode on _ = Unit {0}
 
 -- what an agent waits for it asked with the synchronous mode on
 abbrev pub AsksInSynchronousMode : Knowledge → Type 0
-AsksInSynchronousMode knows = ForSome knows.waited (λ waited. FollowsSynchronousMode knows.turn_settings.synchronous_mode waited.question)
+AsksInSynchronousMode knows =
+    ForSome knows.waited (λ waited. FollowsSynchronousMode knows.turn_settings.synchronous_mode waited.question)
 
 -- the request that compares the sync key, if this is one
 abbrev pub request_in : Query → Option SyncRequest
@@ -186,12 +206,15 @@ IsSent [] sends = sends ≡ None
 IsSent (request ∷ []) sends = (number : ℕ) × (sends ≡ Some (record { number = number; request = request }))
 IsSent (request ∷ other ∷ more) sends = ⊥
 
--- a request as synchronous mode has it, among so many members, of which so many standbys may lack a commit: a create compares no sync key,
--- nobody removes the sync key, and whom it comes to name are members, of which at most so many may
+-- a request as synchronous mode has it, among so many members, of which so many
+-- standbys may lack a commit: a create compares no sync key, nobody removes the
+-- sync key, and whom it comes to name are members, of which at most so many may
 abbrev pub IsSynchronousTxn : ℕ → ℕ → Txn → Type 0
 IsSynchronousTxn count quorum (txns.Create info ttl failsafe (Some sync)) = ⊥
 IsSynchronousTxn count quorum (txns.DropSync revision sync) = ⊥
-IsSynchronousTxn count quorum (txns.SetSync revision sync standbys) = ((n : ℕ) → set_members standbys n ≡ true → n < count) × (quorum_written (txns.SetSync revision sync standbys) ≤ quorum)
+IsSynchronousTxn count quorum (txns.SetSync revision sync standbys) =
+    ((n : ℕ) → set_members standbys n ≡ true → n < count)
+    × (quorum_written (txns.SetSync revision sync standbys) ≤ quorum)
 IsSynchronousTxn count quorum _ = Unit {0}
 
 -- the same of what a message says
@@ -217,7 +240,8 @@ HearsBelow count _ = Unit {0}
 -- and so have the members to which the server is connected
 pub record KnowsBelow (count : ℕ) (heard : Heard) (o : Outcome) : Type 0 where
   pub published : HearsBelow count heard
-  pub connected : (n : ℕ) (end : Lsn) → slice_get o.machine.replication.confirmed_positions n ≡ Some (Some end) → n < count
+  pub connected : (n : ℕ) (end : Lsn)
+      → slice_get o.machine.replication.confirmed_positions n ≡ Some (Some end) → n < count
 
 -- a request that neither compares the sync key nor writes it, nor carries a set for the failsafe key
 abbrev pub IsQuietTxn : Txn → Type 0
@@ -233,7 +257,8 @@ abbrev pub IsQuietBody : Body → Type 0
 IsQuietBody (bodies.Request txn) = IsQuietTxn txn
 IsQuietBody _ = Unit {0}
 
--- an output that changes neither the server nor its log, and asks for no write of the sync key: the law's input covers it
+-- an output that changes neither the server nor its log, and asks for
+-- no write of the sync key: the law's input covers it
 abbrev pub IsCovered : Output → Type 0
 IsCovered (outputs.Send to sequence body) = IsQuietBody body
 IsCovered (outputs.Armed until) = Unit {0}
@@ -243,8 +268,8 @@ IsCovered (outputs.Note note) = Unit {0}
 IsCovered (outputs.Told request told) = Unit {0}
 IsCovered _ = ⊥
 
--- an output that may be an action of its own: neither does it ask for a write of the sync key, nor are others required by it, nor does
--- the server begin; and it isn't the note that leads to a claim
+-- an output that may be an action of its own: neither does it ask for a write of the sync key, nor
+-- are others required by it, nor does the server begin; and it isn't the note that leads to a claim
 abbrev pub StandsAlone : Output → Type 0
 StandsAlone (outputs.Send to sequence body) = IsQuietBody body
 StandsAlone (outputs.Require required) = ⊥
@@ -254,11 +279,13 @@ StandsAlone _ = Unit {0}
 
 -- the output asks for a renewal that carries a set for the failsafe key
 abbrev pub is_carrying : Output → Bool
-is_carrying (outputs.Send targets.Store sequence (bodies.Request (txns.Renew revision info ttl status row (Some members)))) = true
+is_carrying
+    (outputs.Send targets.Store sequence (bodies.Request (txns.Renew revision info ttl status row (Some members)))) =
+    true
 is_carrying _ = false
 
--- the last output that the law's input covers, behind those that it covers in any case: none, a question to the key store, or whom commits wait
--- for from now on
+-- the last output that the law's input covers, behind those that it covers in any
+-- case: none, a question to the key store, or whom commits wait for from now on
 pub data Closing : Type 0 where
   NoMore : Closing
   Asks : (sequence : ℕ) → (body : Body) → Closing
@@ -270,19 +297,25 @@ closing_outputs NoMore = []
 closing_outputs (Asks sequence body) = outputs.Send targets.Store sequence body ∷ []
 closing_outputs (Requires required) = outputs.Require required ∷ []
 
--- the table of orders: what may stand behind each. Outputs that may be actions of their own; nothing; nothing, or that the server begins
+-- the table of orders: what may stand behind each. Outputs that may be
+-- actions of their own; nothing; nothing, or that the server begins
 abbrev pub MayStandBehind : Closing → List Output → Type 0
 MayStandBehind NoMore behind = All StandsAlone behind
 MayStandBehind (Asks sequence body) behind = behind ≡ []
 MayStandBehind (Requires required) behind = (behind ≡ []) ⊎ (behind ≡ outputs.Begin ∷ [])
 
--- the form of an input's outputs: they stand in one of these orders; or the law's input covers all up to the note that the sync key doesn't name
--- the member, and its claim of that key
+-- the form of an input's outputs: they stand in one of these orders; or the law's input covers
+-- all up to the note that the sync key doesn't name the member, and its claim of that key
 pub data HasForm (outs : List Output) : Type 0 where
-  Ordered : (front : List Output) → (closing : Closing) → (behind : List Output) → (covered : All IsCovered front) → (order : MayStandBehind closing behind)
+  Ordered : (front : List Output) → (closing : Closing) → (behind : List Output)
+      → (covered : All IsCovered front) → (order : MayStandBehind closing behind)
       → (whole : front ++ (closing_outputs closing ++ behind) ≡ outs) → HasForm outs
-  ClaimsOutsideSync : (front : List Output) → (sequence revision : ℕ) → (sync : Expected) → (covered : All IsCovered front)
-      → (whole : front ++ outputs.ClaimsOutsideSync ∷ outputs.Send targets.Store sequence (bodies.Request (txns.Claim revision sync)) ∷ [] ≡ outs) → HasForm outs
+  ClaimsOutsideSync : (front : List Output) → (sequence revision : ℕ) → (sync : Expected)
+      → (covered : All IsCovered front)
+      → (whole : front ++ outputs.ClaimsOutsideSync
+      ∷ outputs.Send targets.Store sequence (bodies.Request (txns.Claim revision sync)) ∷ []
+      ≡ outs)
+      → HasForm outs
 
 -- the member takes the leader key though the sync key doesn't name it
 abbrev pub is_claim_outside_sync : Output → Bool
@@ -296,7 +329,8 @@ is_begin _ = false
 
 -- whether the server is live after an input, but for its end, which is an action of its own
 abbrev pub live_shown : Outcome → Outcome → Bool
-live_shown o after = if has_one is_begin after.outputs then live after.machine.server.state else live o.machine.server.state
+live_shown o after =
+    if has_one is_begin after.outputs then live after.machine.server.state else live o.machine.server.state
 
 -- who holds the leader key asks for a renewal that carries a set for the failsafe key
 pub record HolderAsks (s : State) (m : ℕ) (after : Outcome) : Type 0 where
@@ -314,9 +348,11 @@ pub record IsCommitInputOf (s : State) (m : ℕ) (o after : Outcome) (input : Ag
   pub holder_was_live : (input.holder_was_live ≡ s.holder_was_live) ⊎ HolderAsks s m after
   pub inside : has_one is_claim_outside_sync after.outputs ≡ false
 
--- on a lease of this revision an agent claims the sync key: it hears the grant that it waits for, and wasn't about to begin
+-- on a lease of this revision an agent claims the sync key: it hears
+-- the grant that it waits for, and wasn't about to begin
 abbrev pub ArmsOn : Ticks → Heard → Outcome → ℕ → Type 0
-ArmsOn now (heards.Granted sequence grant snapshot) o revision = IsAwaitedLease sequence grant o.knows × (grant.revision ≡ revision) × (is_ready o.role ≡ false)
+ArmsOn now (heards.Granted sequence grant snapshot) o revision =
+    IsAwaitedLease sequence grant o.knows × (grant.revision ≡ revision) × (is_ready o.role ≡ false)
 ArmsOn now _ o revision = ⊥
 
 -- this member is among the confirmers, by name
@@ -338,36 +374,47 @@ abbrev pub MayRace : ℕ → Type 0
 MayRace zero = ⊥
 MayRace (suc quorum) = Unit {0}
 
--- what an input does, so far as the law leaves open what the table settles, where so many standbys may lack a commit: no race counts and no
--- create compares the sync key where none may, an agent claims on the lease that it waits for, and a required list grows by connected members
-abbrev pub DoesAs : Ticks → Heard → ℕ → Outcome → (s : State) (m : ℕ) (input : AgentInput) (was : Agent) → Does s m input was → Type 0
+-- what an input does, so far as the law leaves open what the table settles, where so many
+-- standbys may lack a commit: no race counts and no create compares the sync key where none may,
+-- an agent claims on the lease that it waits for, and a required list grows by connected members
+abbrev pub DoesAs : Ticks → Heard → ℕ → Outcome → (s : State) (m : ℕ) (input : AgentInput) (was : Agent)
+    → Does s m input was → Type 0
 DoesAs now heard quorum o s m input was (Racing races) = MayRace quorum
 DoesAs now heard quorum o s m input was (HearingAnswer answer) = MayRace quorum
 DoesAs now heard quorum o s m input was (WinningRace wins) = MayRace quorum
 DoesAs now heard quorum o s m input was (CreatingLeader creates) = MayRace quorum
-DoesAs now heard quorum o s m input was (Arming arms) = ArmsOn now heard o arms.grant.revision × (input.agent.ready ≡ true)
-DoesAs now heard quorum o s m input was (ChangingRequired changes) = GrowsByConnected o (s.members m).required input.required
-DoesAs now heard quorum o s m input was (SettlingRequired settles) = GrowsByConnected o (s.members m).required input.required
+DoesAs now heard quorum o s m input was (Arming arms) =
+    ArmsOn now heard o arms.grant.revision × (input.agent.ready ≡ true)
+DoesAs now heard quorum o s m input was (ChangingRequired changes) =
+    GrowsByConnected o (s.members m).required input.required
+DoesAs now heard quorum o s m input was (SettlingRequired settles) =
+    GrowsByConnected o (s.members m).required input.required
 DoesAs now heard quorum o s m input was _ = Unit {0}
 
 -- an input of the law is lawful, and does what it may
-pub record IsLawfulAs (now : Ticks) (heard : Heard) (quorum : ℕ) (o : Outcome) (s : State) (m : ℕ) (input : AgentInput) : Type 0 where
+pub record IsLawfulAs (now : Ticks) (heard : Heard) (quorum : ℕ) (o : Outcome) (s : State) (m : ℕ)
+    (input : AgentInput) : Type 0 where
   pub lawful : IsLawful s m input
   pub does : DoesAs now heard quorum o s m input lawful.was lawful.does
 
--- an input leaves the synchronous mode on: what it waits for it asked with the mode on; it sends one request at most that compares the
--- sync key; what it sends is as the mode has it, among members of whom it knows, and of which at most so many may lack a commit; its outputs
--- have one of the forms; the server begins only where it can; and a renewal carries a set for the failsafe key only where the server is live
+-- an input leaves the synchronous mode on: what it waits for it asked with the mode on; it sends one
+-- request at most that compares the sync key; what it sends is as the mode has it, among members of whom
+-- it knows, and of which at most so many may lack a commit; its outputs have one of the forms; the server
+-- begins only where it can; and a renewal carries a set for the failsafe key only where the server is live
 pub record StaysInSynchronousMode (quorum : ℕ) (heard : Heard) (o after : Outcome) : Type 0 where
   pub asks : AsksInSynchronousMode after.knows
   pub one : IsOneAtMost (requests_of o.knows.who.me.number o.knows.incarnation after.outputs)
   pub sends : (count : ℕ) → KnowsBelow count heard o → All (IsSynchronousOutput count quorum) after.outputs
   pub form : HasForm after.outputs
-  pub begins : has_one is_begin after.outputs ≡ true → can_begin_on_claim o.machine.server.was_primary o.machine.server.state ≡ true
+  pub begins : has_one is_begin after.outputs ≡ true
+      → can_begin_on_claim o.machine.server.was_primary o.machine.server.state ≡ true
   pub carries : has_one is_carrying after.outputs ≡ true → live_shown o after ≡ true
 
--- while the synchronous mode is on, and no pause, whatever input of the law stands for this one of the table is lawful. No standby may lack a
--- commit: an agent has no quorum mode
+-- while the synchronous mode is on, and no pause, whatever input of the law stands for this
+-- one of the table is lawful. No standby may lack a commit: an agent has no quorum mode
 pub record CommitsFrom (now : Ticks) (heard : Heard) (o after : Outcome) : Type 0 where
-  pub stays : is_paused o.knows ≡ false → AsksInSynchronousMode o.knows → HearsSynchronousMode heard → StaysInSynchronousMode strict_quorum heard o after
-  pub lawful : is_paused o.knows ≡ false → AsksInSynchronousMode o.knows → HearsSynchronousMode heard → (s : State) (m : ℕ) (input : AgentInput) → IsSound s → StandsToCommit s m strict_quorum o → HearsToCommit s m input heard o → IsCommitInputOf s m o after input → IsLawfulAs now heard strict_quorum o s m input
+  pub stays : is_paused o.knows ≡ false → AsksInSynchronousMode o.knows → HearsSynchronousMode heard
+      → StaysInSynchronousMode strict_quorum heard o after
+  pub lawful : is_paused o.knows ≡ false → AsksInSynchronousMode o.knows → HearsSynchronousMode heard → (s : State)
+      (m : ℕ) (input : AgentInput) → IsSound s → StandsToCommit s m strict_quorum o → HearsToCommit s m input heard o
+      → IsCommitInputOf s m o after input → IsLawfulAs now heard strict_quorum o s m input

@@ -41,12 +41,23 @@ counted knows = record knows { sequence = knows.sequence + 1 }
 
 -- the agent sends this to the key store under the next number, and doesn't wait for the answer
 abbrev pub sending : Body → Outcome → Outcome
-sending body o = record o { knows = counted o.knows; outputs = with_output (outputs.Send targets.Store (o.knows.sequence + 1) body) o.outputs }
+sending body o = record o {
+  knows = counted o.knows;
+  outputs = with_output (outputs.Send targets.Store (o.knows.sequence + 1) body) o.outputs;
+}
 
 -- the agent waits for the answer to its last question until a moment: what it asked for are leases of its settings'
 -- span
 abbrev pub waiting : Ticks → Question → Ticks → Knowledge → Knowledge
-waiting now question until knows = record knows { waited = Some (record { question = question; sequence = knows.sequence; until = until; ttl = lease_span knows.settings; sent = now }) }
+waiting now question until knows = record knows {
+  waited = Some (record {
+    question = question;
+    sequence = knows.sequence;
+    until = until;
+    ttl = lease_span knows.settings;
+    sent = now;
+  });
+}
 
 -- the agent asks the key store, and waits for the answer until a moment
 abbrev pub asking : Ticks → Question → Ticks → Body → Outcome → Outcome
@@ -58,7 +69,8 @@ waiting_no_more o = record o { knows = record o.knows { waited = None } }
 
 -- the agent tells of itself
 abbrev pub touching : Outcome → Outcome
-touching o = sending (bodies.Request (txns.Touch (info_of o.knows.who o.machine.server) (lease_span o.knows.settings))) o
+touching o =
+    sending (bodies.Request (txns.Touch (info_of o.knows.who o.machine.server) (lease_span o.knows.settings))) o
 
 -- the agent gives the leader key of this revision up
 abbrev pub releasing : ℕ → Outcome → Outcome
@@ -66,11 +78,17 @@ releasing revision o = sending (bodies.Request (txns.Release revision)) o
 
 -- the agent ends its server
 abbrev pub ending_server : Ticks → Reason → Outcome → Outcome
-ending_server now reason o = record o { machine = record o.machine { server = status_stopping now o.machine.server }; outputs = with_output (outputs.Stop reason) o.outputs }
+ending_server now reason o = record o {
+  machine = record o.machine { server = status_stopping now o.machine.server };
+  outputs = with_output (outputs.Stop reason) o.outputs;
+}
 
 -- the server shuts down
 abbrev pub shutting_down : Ticks → Outcome → Outcome
-shutting_down now o = record o { machine = record o.machine { server = status_stopping now o.machine.server }; outputs = with_output outputs.ShutDown o.outputs }
+shutting_down now o = record o {
+  machine = record o.machine { server = status_stopping now o.machine.server };
+  outputs = with_output outputs.ShutDown o.outputs;
+}
 
 -- the server of this member, if one is named
 abbrev pub upstream_of : Option MemberId → Option ServerId
@@ -79,11 +97,17 @@ upstream_of (Some leader) = Some (server_id_of leader)
 
 -- the server starts as a replica of this member's, or of none
 abbrev pub starting_replica : Ticks → Option MemberId → Outcome → Outcome
-starting_replica now leader o = record o { machine = record o.machine { server = status_replica_started now (upstream_of leader) o.machine.server }; outputs = with_output (outputs.StartReplica leader) o.outputs }
+starting_replica now leader o = record o {
+  machine = record o.machine { server = status_replica_started now (upstream_of leader) o.machine.server };
+  outputs = with_output (outputs.StartReplica leader) o.outputs;
+}
 
 -- the server follows this member's
 abbrev pub following_server : MemberId → Outcome → Outcome
-following_server leader o = record o { machine = record o.machine { server = status_following (server_id_of leader) o.machine.server }; outputs = with_output (outputs.Follow leader) o.outputs }
+following_server leader o = record o {
+  machine = record o.machine { server = status_following (server_id_of leader) o.machine.server };
+  outputs = with_output (outputs.Follow leader) o.outputs;
+}
 
 -- a replica is promoted, and one that is down and was a primary starts as one again; another server stays as it is
 abbrev pub status_begun : Ticks → ServerStatus → ServerStatus
@@ -91,7 +115,10 @@ status_begun now s = status_primary_started now (status_promoted s)
 
 -- the server begins to accept writes, at once or when its start is complete
 abbrev pub beginning : Ticks → Outcome → Outcome
-beginning now o = record o { machine = record o.machine { server = status_begun now o.machine.server }; outputs = with_output outputs.Begin o.outputs }
+beginning now o = record o {
+  machine = record o.machine { server = status_begun now o.machine.server };
+  outputs = with_output outputs.Begin o.outputs;
+}
 
 -- the server's commits wait for these
 abbrev pub with_required : Required → Machine → Machine
@@ -99,7 +126,8 @@ with_required required machine = record machine { replication = record machine.r
 
 -- the server's commits wait for these from now on
 abbrev pub requiring : Required → Outcome → Outcome
-requiring required o = record o { machine = with_required required o.machine; outputs = with_output (outputs.Require required) o.outputs }
+requiring required o =
+    record o { machine = with_required required o.machine; outputs = with_output (outputs.Require required) o.outputs }
 
 -- the machine with no deadline of its watchdog
 abbrev pub without_deadline : Machine → Machine
@@ -112,15 +140,20 @@ disarmed (Some deadline) out = with_output outputs.Disarmed out
 
 -- the watchdog has no deadline any more
 abbrev pub disarming : Outcome → Outcome
-disarming o = record o { machine = without_deadline o.machine; outputs = disarmed o.machine.watchdog.deadline o.outputs }
+disarming o =
+    record o { machine = without_deadline o.machine; outputs = disarmed o.machine.watchdog.deadline o.outputs }
 
 -- the new deadline of a watchdog that is fed at this moment, if it is used and its device works
 abbrev pub deadline_after : Ticks → Ticks → WatchdogFacts → Option Ticks
-deadline_after now ttl watchdog = if is_armable watchdog.mode watchdog.works then Some (record { 0 = now.0 + timeout_of watchdog.margin ttl.0 }) else None
+deadline_after now ttl watchdog = if is_armable watchdog.mode watchdog.works
+    then Some (record { 0 = now.0 + timeout_of watchdog.margin ttl.0 }) else None
 
 -- the machine once a grant fed its watchdog, over leases of this span
 abbrev pub with_feed : Ticks → Ticks → Machine → Machine
-with_feed now ttl machine = record machine { watchdog = fed now.0 ttl.0 machine.watchdog; by_failsafe = not (is_armable machine.watchdog.mode machine.watchdog.works) && machine.by_failsafe }
+with_feed now ttl machine = record machine {
+  watchdog = fed now.0 ttl.0 machine.watchdog;
+  by_failsafe = not (is_armable machine.watchdog.mode machine.watchdog.works) && machine.by_failsafe;
+}
 
 -- whether the member needs a watchdog whose device doesn't work
 abbrev pub is_refusing : Mode → Bool → Bool
@@ -139,11 +172,17 @@ fed_until (Some until) out = with_output (outputs.Fed until) out
 
 -- the watchdog gets its first deadline, where it is used and its device works
 abbrev pub arming : Ticks → Ticks → Outcome → Outcome
-arming now ttl o = record o { machine = with_feed now ttl o.machine; outputs = armed (deadline_after now ttl o.machine.watchdog) o.outputs }
+arming now ttl o = record o {
+  machine = with_feed now ttl o.machine;
+  outputs = armed (deadline_after now ttl o.machine.watchdog) o.outputs;
+}
 
 -- the watchdog gets a new deadline, where it is used and its device works
 abbrev pub feeding : Ticks → Ticks → Outcome → Outcome
-feeding now ttl o = record o { machine = with_feed now ttl o.machine; outputs = fed_until (deadline_after now ttl o.machine.watchdog) o.outputs }
+feeding now ttl o = record o {
+  machine = with_feed now ttl o.machine;
+  outputs = fed_until (deadline_after now ttl o.machine.watchdog) o.outputs;
+}
 
 -- an answer to what is waited for comes too late to arm or feed the watchdog
 abbrev pub comes_late : Ticks → PendingQuestion → Machine → Bool

@@ -53,8 +53,8 @@ pub record AgentFacts : Type 0 where
 abbrev pub most_messages : ℕ
 most_messages = 2 ^ 60
 
--- what holds of all that an agent knows: its turns began at moments that are reckoned with, what it asked for are leases, and what an
--- operator waits for was asked at such a moment
+-- what holds of all that an agent knows: its turns began at moments that are reckoned with,
+-- what it asked for are leases, and what an operator waits for was asked at such a moment
 pub record IsSound (knows : Knowledge) : Type 0 where
   pub turn : ForSome knows.last_turn (λ moment. moment.0 ≤ latest)
   pub span : ForSome knows.waited (λ waited. IsLeaseSpan waited.ttl.0)

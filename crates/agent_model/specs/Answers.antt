@@ -25,9 +25,11 @@ has_answered member answers = list_any (is_from member) answers
 
 -- the answers with one more; a second one of a member counts for nothing
 abbrev pub with_answer : PeerAnswer → List PeerAnswer → List PeerAnswer
-with_answer answer answers = if not (has_answered answer.member answers) && nat_lt (length answers) MOST_MEMBERS then answers ++ answer ∷ [] else answers
+with_answer answer answers = if not (has_answered answer.member answers) && nat_lt (length answers) MOST_MEMBERS
+    then answers ++ answer ∷ [] else answers
 
--- so many outputs a grant brings at most: the feeding of a watchdog, or its rest with the note of that, and a question to each other member
+-- so many outputs a grant brings at most: the feeding of a watchdog, or
+-- its rest with the note of that, and a question to each other member
 abbrev pub most_grant_outputs : ℕ
 most_grant_outputs = 18
 
@@ -38,12 +40,15 @@ is_other who member = nat_lt member.number who.members && not (member.number == 
 -- the ask to this member, where it is another one
 abbrev pub asking_one : Who → ℕ → Option MemberId → List Output → List Output
 asking_one who sequence None out = out
-asking_one who sequence (Some member) out = if is_other who member then with_output (outputs.Send (targets.Member member) sequence bodies.Ask) out else out
+asking_one who sequence (Some member) out =
+    if is_other who member then with_output (outputs.Send (targets.Member member) sequence bodies.Ask) out else out
 
--- the asks to the other members among so many first ones, in the order in which the script declares them, all under one number
+-- the asks to the other members among so many first ones, in the order
+-- in which the script declares them, all under one number
 abbrev pub asking_first : Who → ℕ → ℕ → List Output → List Output
 asking_first who sequence zero out = out
-asking_first who sequence (suc count) out = asking_one who sequence (member_of count) (asking_first who sequence count out)
+asking_first who sequence (suc count) out =
+    asking_one who sequence (member_of count) (asking_first who sequence count out)
 
 -- the asks to all other members
 abbrev pub asking_all : Who → ℕ → List Output → List Output

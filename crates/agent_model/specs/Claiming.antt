@@ -1,4 +1,5 @@
--- How a member begins that has the leader key: in synchronous mode it claims the sync key first (Patroni, "Replication modes").
+-- How a member begins that has the leader key: in synchronous mode it
+-- claims the sync key first (Patroni, "Replication modes").
 use Rattle.std.specs.Prelude.{ℕ, if◌then◌else◌, Bool, true, false, List, Some, None}
 use Rattle.pat_base.specs.declared.server_state.State.{State}
 use Rattle.pat_base.specs.declared.server_state.State.TheVariants as states
@@ -26,7 +27,9 @@ begins now revision o = record (beginning now (requiring (unnamed o.knows.turn_s
 
 -- the agent claims the sync key, as its turn read it, and is about to begin
 abbrev pub claims : Ticks → ℕ → Outcome → Outcome
-claims now revision o = record (asking now Claiming (seconds_after now o.knows.settings.retry_timeout) (bodies.Request (txns.Claim revision (expected_of o.knows.turn_sync))) o) { role = Ready revision }
+claims now revision o =
+    record (asking now Claiming (seconds_after now o.knows.settings.retry_timeout)
+    (bodies.Request (txns.Claim revision (expected_of o.knows.turn_sync))) o) { role = Ready revision }
 
 -- that the member leads though the sync key doesn't name it stands behind what it did so far
 abbrev pub told_passing : Bool → List Output → List Output
@@ -39,11 +42,15 @@ passing o = record o { outputs = told_passing (is_named_if o.knows.who.me o.know
 
 -- an agent with an armed watchdog begins; in synchronous mode it claims the sync key first
 abbrev pub begins_or_claims : Ticks → ℕ → Outcome → Outcome
-begins_or_claims now revision o = if o.knows.turn_settings.synchronous_mode then claims now revision (passing o) else begins now revision o
+begins_or_claims now revision o =
+    if o.knows.turn_settings.synchronous_mode then claims now revision (passing o) else begins now revision o
 
 -- the member keeps the leader key, and its promotion is postponed: what was armed is given up
 abbrev pub postpones : ℕ → Outcome → Outcome
-postpones revision o = let undone = disarming o in record undone { role = Holder revision; outputs = with_output (outputs.Note agent_notes.PostponesPromotion) undone.outputs }
+postpones revision o = let undone = disarming o in record undone {
+  role = Holder revision;
+  outputs = with_output (outputs.Note agent_notes.PostponesPromotion) undone.outputs;
+}
 
 -- a claim of the sync key fails: who is about to begin on it doesn't
 abbrev pub claim_fails_as : RoleFacts → Outcome → Outcome
@@ -63,8 +70,10 @@ can_begin_on_claim was_primary _ = false
 
 -- a member may begin on a granted claim, where its server still can; in a pause where an operator wants it to lead
 abbrev pub may_begin_on_claim : Knowledge → ServerStatus → Bool
-may_begin_on_claim knows server = if is_paused knows then is_wanted_by knows.who.me knows.seen server.state else can_begin_on_claim server.was_primary server.state
+may_begin_on_claim knows server = if is_paused knows then is_wanted_by knows.who.me knows.seen server.state
+    else can_begin_on_claim server.was_primary server.state
 
 -- the claim is granted: the member begins, where it may
 abbrev pub claim_granted : Ticks → ℕ → Outcome → Outcome
-claim_granted now revision o = if may_begin_on_claim o.knows o.machine.server then begins now revision o else postpones revision o
+claim_granted now revision o =
+    if may_begin_on_claim o.knows o.machine.server then begins now revision o else postpones revision o

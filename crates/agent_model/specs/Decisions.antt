@@ -34,13 +34,15 @@ has_lasted now span (Some begun) = nat_le span (now.0 - begun.0)
 
 -- the start of a primary takes longer than it may
 abbrev pub is_start_too_long : Ticks → Knowledge → State → Bool
-is_start_too_long now knows (states.Starting as_primary at) = has_lasted now (TICKS_OF_SECOND * knows.settings.primary_start_timeout) knows.begun
+is_start_too_long now knows (states.Starting as_primary at) =
+    has_lasted now (TICKS_OF_SECOND * knows.settings.primary_start_timeout) knows.begun
 is_start_too_long now knows _ = false
 
 -- then another member is to lead; else the leader does what it owes its cluster
 abbrev pub judges_start : Ticks → ℕ → Outcome → Outcome
 judges_start now revision o =
-    if is_start_too_long now o.knows o.machine.server.state then record (ending_server now StartTooLong o) { role = Ending revision HandOver } else duties now revision o
+    if is_start_too_long now o.knows o.machine.server.state
+    then record (ending_server now StartTooLong o) { role = Ending revision HandOver } else duties now revision o
 
 -- the lease of a leader is renewed: its watchdog is fed
 abbrev pub leader_renewed : Ticks → Ticks → ℕ → Outcome → Outcome
@@ -50,10 +52,11 @@ leader_renewed now ttl revision o = judges_start now revision (record (feeding n
 abbrev pub leader_kept : Ticks → ℕ → Outcome → Outcome
 leader_kept now revision o = judges_start now revision (record o { role = Leader revision })
 
--- an agent leads from now on with the server that is live already. What was acknowledged before is known to no agent any more, so the
--- end of the log is noted, which covers it
+-- an agent leads from now on with the server that is live already. What was acknowledged
+-- before is known to no agent any more, so the end of the log is noted, which covers it
 abbrev pub takes_over : Ticks → ℕ → Outcome → Outcome
-takes_over now revision o = record o { role = Leader revision; knows = record o.knows { begun = Some now; noted = o.machine.server.end } }
+takes_over now revision o =
+    record o { role = Leader revision; knows = record o.knows { begun = Some now; noted = o.machine.server.end } }
 
 -- an agent whose server is live without a lease can't arm its watchdog: it ends the server
 abbrev pub unleased_unarmed : Ticks → Outcome → Outcome
@@ -62,17 +65,19 @@ unleased_unarmed now o = ending_server now WatchdogNotArmed o
 -- an agent whose server is live without a lease gets one: it leads, once its watchdog is armed
 abbrev pub unleased_renewed : Ticks → Ticks → ℕ → Outcome → Outcome
 unleased_renewed now ttl revision o =
-    if is_refusing o.machine.watchdog.mode o.machine.watchdog.works then unleased_unarmed now o else takes_over now revision (arming now ttl o)
+    if is_refusing o.machine.watchdog.mode o.machine.watchdog.works then unleased_unarmed now o
+    else takes_over now revision (arming now ttl o)
 
 -- so many ticks have passed since the crash was noted; none where none was
 abbrev pub since_crash : Ticks → Option Ticks → ℕ
 since_crash now None = 0
 since_crash now (Some crashed) = now.0 - crashed.0
 
--- a server that is down may start as a primary again: its last run was one, and since its crash less time has passed than the start of a primary
--- may take, by what this turn read
+-- a server that is down may start as a primary again: its last run was one, and since its
+-- crash less time has passed than the start of a primary may take, by what this turn read
 abbrev pub may_start_again : Ticks → Knowledge → ServerStatus → Bool
-may_start_again now knows server = server.was_primary && nat_lt (since_crash now knows.crashed) (TICKS_OF_SECOND * knows.turn_settings.primary_start_timeout)
+may_start_again now knows server = server.was_primary
+    && nat_lt (since_crash now knows.crashed) (TICKS_OF_SECOND * knows.turn_settings.primary_start_timeout)
 
 -- the server can begin to accept writes, by its state
 abbrev pub can_begin : Ticks → Knowledge → ServerStatus → State → Bool
@@ -83,7 +88,8 @@ can_begin now knows server _ = false
 
 -- a member may take the leader key: no hold is active, its server can begin, and in synchronous mode it may lead
 abbrev pub may_take : Ticks → Knowledge → Machine → Bool
-may_take now knows machine = not (is_hold_active now machine.hold) && (can_begin now knows machine.server machine.server.state && may_lead_in_sync knows)
+may_take now knows machine = not (is_hold_active now machine.hold)
+    && (can_begin now knows machine.server machine.server.state && may_lead_in_sync knows)
 
 -- the leader key is given back
 abbrev pub gives_back : ℕ → Outcome → Outcome
@@ -91,12 +97,14 @@ gives_back revision o = record (releasing revision o) { role = Follower }
 
 -- nobody begins whose watchdog can't be armed
 abbrev pub cannot_arm : ℕ → Outcome → Outcome
-cannot_arm revision o = gives_back revision (record o { outputs = with_output (outputs.Note agent_notes.CannotArm) o.outputs })
+cannot_arm revision o =
+    gives_back revision (record o { outputs = with_output (outputs.Note agent_notes.CannotArm) o.outputs })
 
 -- nobody begins without an armed watchdog, where the member needs one
 abbrev pub arms : Ticks → Ticks → ℕ → Outcome → Outcome
 arms now ttl revision o =
-    if is_refusing o.machine.watchdog.mode o.machine.watchdog.works then cannot_arm revision o else begins_or_claims now revision (arming now ttl o)
+    if is_refusing o.machine.watchdog.mode o.machine.watchdog.works then cannot_arm revision o
+    else begins_or_claims now revision (arming now ttl o)
 
 -- an agent that isn't leading gets a lease
 abbrev pub takes_key : Ticks → Ticks → ℕ → Outcome → Outcome
@@ -109,11 +117,13 @@ takes_late now revision o = if may_take now o.knows o.machine then cannot_arm re
 -- in a pause only whom an operator wants to lead takes the leader key, and its watchdog rests
 abbrev pub takes_key_in_pause : Ticks → Bool → ℕ → Outcome → Outcome
 takes_key_in_pause now renews revision o =
-    if is_wanted o.knows.who.me o.knows.turn_failover o.machine.server.state && may_take now o.knows o.machine then begins_or_claims now revision (disabling_watchdog renews o) else gives_back revision o
+    if is_wanted o.knows.who.me o.knows.turn_failover o.machine.server.state && may_take now o.knows o.machine
+    then begins_or_claims now revision (disabling_watchdog renews o) else gives_back revision o
 
 -- what each role does in a pause with a lease that it was granted, by a renewal or as the key was free
 abbrev pub granted_in_pause : Ticks → Bool → ℕ → RoleFacts → Outcome → Outcome
-granted_in_pause now renews revision (Leader held) o = duties now revision (record (disabling_watchdog renews o) { role = Leader revision })
+granted_in_pause now renews revision (Leader held) o =
+    duties now revision (record (disabling_watchdog renews o) { role = Leader revision })
 granted_in_pause now renews revision Unleased o = takes_over now revision (disabling_watchdog renews o)
 granted_in_pause now renews revision Follower o = takes_key_in_pause now renews revision o
 granted_in_pause now renews revision (Holder held) o = takes_key_in_pause now renews revision o
@@ -173,20 +183,27 @@ asks_renewal _ = false
 
 -- a lease is granted that was asked for so, and heard of in time or too late
 abbrev pub lease_heard : Ticks → PendingQuestion → ℕ → Outcome → Outcome
-lease_heard now waited revision o = if comes_late now waited o.machine then granted_late now revision o.role o else lease_granted now waited.ttl revision o.role o
+lease_heard now waited revision o = if comes_late now waited o.machine then granted_late now revision o.role o
+    else lease_granted now waited.ttl revision o.role o
 
 -- a lease is granted that was asked for so; in a pause nothing is late
 abbrev pub lease_used : Ticks → PendingQuestion → ℕ → Outcome → Outcome
-lease_used now waited revision o = if is_paused o.knows then granted_in_pause now (asks_renewal waited.question) revision o.role o else lease_heard now waited revision o
+lease_used now waited revision o = if is_paused o.knows
+    then granted_in_pause now (asks_renewal waited.question) revision o.role o else lease_heard now waited revision o
 
 -- a leader's failsafe set is confirmed by a grant of its key whose snapshot has a failsafe key
 abbrev pub confirming : SnapshotFacts → Outcome → Outcome
-confirming snapshot o = record o { knows = record o.knows { confirmed = o.knows.confirmed || (is_leader o.role && is_some (failsafe_in snapshot)) } }
+confirming snapshot o = record o {
+  knows = record o.knows { confirmed = o.knows.confirmed || (is_leader o.role && is_some (failsafe_in snapshot)) };
+}
 
--- a grant that is waited for is used where its question belongs to the role; its snapshot is then the newest, also for whether there is a pause
+-- a grant that is waited for is used where its question belongs to the
+-- role; its snapshot is then the newest, also for whether there is a pause
 abbrev pub accepted_grant : Ticks → PendingQuestion → ℕ → SnapshotFacts → Outcome → Outcome
 accepted_grant now waited revision snapshot o =
-    if uses_lease (is_paused (informed snapshot o.knows)) waited.question o.role then confirming snapshot (lease_used now waited revision (record o { knows = informed snapshot o.knows })) else waiting_no_more o
+    if uses_lease (is_paused (informed snapshot o.knows)) waited.question o.role
+    then confirming snapshot (lease_used now waited revision (record o { knows = informed snapshot o.knows }))
+    else waiting_no_more o
 
 -- a question that asks for a lease of the leader key
 abbrev pub asks_lease : Question → Bool
@@ -224,17 +241,21 @@ sync_granted now _ role o = o
 
 -- such a grant is used where its question belongs to the role; its snapshot is then the newest
 abbrev pub accepted_sync : Ticks → PendingQuestion → SnapshotFacts → Outcome → Outcome
-accepted_sync now waited snapshot o = if belongs waited.question o.role then sync_granted now waited.question o.role (record o { knows = informed snapshot o.knows }) else waiting_no_more o
+accepted_sync now waited snapshot o = if belongs waited.question o.role
+    then sync_granted now waited.question o.role (record o { knows = informed snapshot o.knows }) else waiting_no_more o
 
 -- a grant of another write than that of the leader key
 abbrev pub granted_write : Ticks → ℕ → Granted → SnapshotFacts → PendingQuestion → Outcome → Outcome
-granted_write now sequence grant snapshot waited o = if is_sync_decision waited sequence && is_write_of o.knows.who.me grant then accepted_sync now waited snapshot o else o
+granted_write now sequence grant snapshot waited o =
+    if is_sync_decision waited sequence && is_write_of o.knows.who.me grant
+    then accepted_sync now waited snapshot o else o
 
 -- a grant, by what is waited for
 abbrev pub granted_for : Ticks → ℕ → Granted → SnapshotFacts → Option PendingQuestion → Outcome → Outcome
 granted_for now sequence grant snapshot None o = o
 granted_for now sequence grant snapshot (Some waited) o =
-    if is_decision waited sequence && is_lease_of o.knows.who.me grant then accepted_grant now waited grant.revision snapshot o else granted_write now sequence grant snapshot waited o
+    if is_decision waited sequence && is_lease_of o.knows.who.me grant
+    then accepted_grant now waited grant.revision snapshot o else granted_write now sequence grant snapshot waited o
 
 -- a request was granted: what is waited for is used, and any other dropped
 abbrev pub granted : Ticks → ℕ → Granted → SnapshotFacts → Outcome → Outcome
@@ -270,7 +291,8 @@ awaits_decision waited sequence = is_decision waited sequence || is_sync_decisio
 -- a refusal, by what is waited for
 abbrev pub refused_for : Ticks → ℕ → Option PendingQuestion → Outcome → Outcome
 refused_for now sequence None o = o
-refused_for now sequence (Some waited) o = if awaits_decision waited sequence then refused_as now waited.question (waiting_no_more o) else o
+refused_for now sequence (Some waited) o =
+    if awaits_decision waited sequence then refused_as now waited.question (waiting_no_more o) else o
 
 -- a request was refused: what is waited for is used, and any other dropped
 abbrev pub refused : Ticks → ℕ → Outcome → Outcome

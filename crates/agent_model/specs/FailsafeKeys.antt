@@ -33,7 +33,8 @@ failsafe_expected (Some read) = Revision read.revision
 
 -- what a create expects of the failsafe key: with failsafe mode that it is as the turn read it
 abbrev pub failsafe_compared : Knowledge → Option Expected
-failsafe_compared knows = if knows.turn_settings.failsafe_mode then Some (failsafe_expected knows.turn_failsafe) else None
+failsafe_compared knows =
+    if knows.turn_settings.failsafe_mode then Some (failsafe_expected knows.turn_failsafe) else None
 
 -- acknowledgements set the deadline of the watchdog last, if it has one
 abbrev pub is_fed_by_failsafe : Machine → Bool
@@ -44,6 +45,8 @@ abbrev pub set_in : Bool → Option SnapshotFacts → Option MemberSet
 set_in mode None = None
 set_in mode (Some snapshot) = set_to_write mode snapshot
 
--- whom it writes there with its renewal: it leads, and its deadline is by a grant, so that it asks these before the next one that isn't
+-- whom it writes there with its renewal: it leads, and its deadline is
+-- by a grant, so that it asks these before the next one that isn't
 abbrev pub set_carried : Outcome → Option MemberSet
-set_carried o = if is_leader o.role && not (is_fed_by_failsafe o.machine) then set_in o.knows.settings.failsafe_mode o.knows.seen else None
+set_carried o = if is_leader o.role && not (is_fed_by_failsafe o.machine)
+    then set_in o.knows.settings.failsafe_mode o.knows.seen else None

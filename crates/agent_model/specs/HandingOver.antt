@@ -1,5 +1,5 @@
--- How a leader hands over to another member where a failover key asks for that (Patroni's documentation of the REST API, "Switchover and
--- failover endpoints").
+-- How a leader hands over to another member where a failover key asks for that
+-- (Patroni's documentation of the REST API, "Switchover and failover endpoints").
 use Rattle.std.specs.Prelude.{ℕ, ◌+◌, ◌-◌, ◌==◌, ◌&&◌, ◌||◌, nat_le, if◌then◌else◌, not, Bool, true, false, is_some, is_none, List, Option, Some, None, option_map}
 use Rattle.pat_base.specs.declared.lsn.Lsn.{Lsn}
 use Rattle.pat_base.specs.declared.member_id.MemberId.{MemberId}
@@ -70,12 +70,17 @@ is_standby_in (Some read) member = is_standby member read.key
 
 -- where the synchronous mode is active, a switchover goes to a standby alone: another may lack an acknowledged commit
 abbrev pub may_follow_in_sync : Knowledge → FailoverKey → MemberId → Bool
-may_follow_in_sync knows failover member = if knows.turn_settings.synchronous_mode && is_some failover.leader then is_standby_in knows.turn_sync member else true
+may_follow_in_sync knows failover member = if knows.turn_settings.synchronous_mode && is_some failover.leader
+    then is_standby_in knows.turn_sync member else true
 
--- a member that answers so may lead next: it accepts no writes, may fail over, and its log ends near enough to the own one
+-- a member that answers so may lead next: it accepts no writes, may
+-- fail over, and its log ends near enough to the own one
 abbrev pub is_successor : Knowledge → ServerStatus → FailoverKey → PeerAnswer → Bool
 is_successor knows server failover answer =
-    not answer.writes && (may_fail_over answer.tags && (is_near knows.turn_settings.maximum_lag_on_failover server.end answer.end && may_follow_in_sync knows failover answer.member))
+    not answer.writes
+    && (may_fail_over answer.tags
+    && (is_near knows.turn_settings.maximum_lag_on_failover server.end answer.end
+    && may_follow_in_sync knows failover answer.member))
 
 -- of the members that may lead next, by what they answered, the one that the script declares first
 abbrev pub successor_by : Option FailoverKey → Knowledge → ServerStatus → Option MemberId
@@ -84,7 +89,9 @@ successor_by (Some failover) knows server = first_of (is_successor knows server 
 
 -- the member notes that it hands over to this one, and ends its server; it gives up the leader key when that has ended
 abbrev pub hands_over : Ticks → ℕ → MemberId → Outcome → Outcome
-hands_over now revision candidate o = record (shutting_down now (record o { outputs = with_output (outputs.Note (agent_notes.HandsOver candidate)) o.outputs })) { role = Ending revision HandOver; knows = record o.knows { handed_over = true } }
+hands_over now revision candidate o = record (shutting_down now (record o {
+  outputs = with_output (outputs.Note (agent_notes.HandsOver candidate)) o.outputs;
+})) { role = Ending revision HandOver; knows = record o.knows { handed_over = true } }
 
 -- a leader hands over, or asks that the failover key be removed where nobody may lead next
 abbrev pub hands_over_to : Ticks → ℕ → Option MemberId → Outcome → Outcome
@@ -93,7 +100,8 @@ hands_over_to now revision (Some candidate) o = hands_over now revision candidat
 
 -- the handover is judged by the answers that there are: none are waited for any more
 abbrev pub handover_judged : Ticks → ℕ → Outcome → Outcome
-handover_judged now revision o = hands_over_to now revision (successor_by o.knows.turn_failover o.knows o.machine.server) (waiting_no_more o)
+handover_judged now revision o =
+    hands_over_to now revision (successor_by o.knows.turn_failover o.knows o.machine.server) (waiting_no_more o)
 
 -- so it is for a leader
 abbrev pub judged_if_leading : Ticks → RoleFacts → Outcome → Outcome
@@ -112,19 +120,26 @@ whom_answered who (Some candidate) answers = is_settled who answers (Some candid
 
 -- the leader asks who may lead in its place, all under one number, and waits for the answers
 abbrev pub checking : Ticks → Option MemberId → Outcome → Outcome
-checking now candidate o = record o { knows = waiting now FindingCandidate (answers_until now) (counted o.knows); outputs = asking_whom o.knows.who candidate (o.knows.sequence + 1) o.outputs }
+checking now candidate o = record o {
+  knows = waiting now FindingCandidate (answers_until now) (counted o.knows);
+  outputs = asking_whom o.knows.who candidate (o.knows.sequence + 1) o.outputs;
+}
 
 -- it asks them; where there is nobody to ask, the handover is judged at once
 abbrev pub checks : Ticks → ℕ → Option MemberId → Outcome → Outcome
-checks now revision candidate o = if whom_answered o.knows.who candidate o.knows.answers then handover_judged now revision o else checking now candidate o
+checks now revision candidate o = if whom_answered o.knows.who candidate o.knows.answers
+    then handover_judged now revision o else checking now candidate o
 
 -- a leader looks for who may lead next; in a pause only where the failover key names a candidate
 abbrev pub checks_unless_paused : Ticks → ℕ → Option MemberId → Outcome → Outcome
-checks_unless_paused now revision candidate o = if is_paused o.knows && is_none candidate then o else checks now revision candidate (unheard o)
+checks_unless_paused now revision candidate o =
+    if is_paused o.knows && is_none candidate then o else checks now revision candidate (unheard o)
 
--- what a leader owes its cluster under a failover key: one that asks no more of it is removed, and else it looks for who may lead next
+-- what a leader owes its cluster under a failover key: one that asks
+-- no more of it is removed, and else it looks for who may lead next
 abbrev pub failover_duty : Ticks → ℕ → FailoverKey → Outcome → Outcome
-failover_duty now revision failover o = if is_done o.knows.who.me failover then clearing o else checks_unless_paused now revision failover.candidate o
+failover_duty now revision failover o =
+    if is_done o.knows.who.me failover then clearing o else checks_unless_paused now revision failover.candidate o
 
 -- a step with its synchronous standbys; in a pause they stay as they are
 abbrev pub plans_unless_paused : Ticks → ℕ → Outcome → Outcome
@@ -141,9 +156,11 @@ duties now revision o = duty_on now revision o.knows.turn_failover o
 
 -- the handover is judged as soon as each that was asked answered
 abbrev pub judged_if_whom : Ticks → ℕ → Outcome → Outcome
-judged_if_whom now revision o = if whom_answered o.knows.who (candidate_of o.knows.turn_failover) o.knows.answers then handover_judged now revision o else o
+judged_if_whom now revision o = if whom_answered o.knows.who (candidate_of o.knows.turn_failover) o.knows.answers
+    then handover_judged now revision o else o
 
 -- an answer that a leader waits for is kept. In another role nothing is waited for any more
 abbrev pub check_answered : Ticks → PeerAnswer → RoleFacts → Outcome → Outcome
-check_answered now answer (Leader revision) o = judged_if_whom now revision (record o { knows = record o.knows { answers = with_answer answer o.knows.answers } })
+check_answered now answer (Leader revision) o =
+    judged_if_whom now revision (record o { knows = record o.knows { answers = with_answer answer o.knows.answers } })
 check_answered now answer _ o = waiting_no_more o

@@ -70,11 +70,20 @@ holder_if (Some snapshot) = holder_in snapshot
 
 -- the agent owes the answer to a request, for which it asked its last question
 abbrev pub owing : Ticks → ℕ → Operation → Knowledge → Knowledge
-owing now request operation knows = record knows { operating = Some (record { request = request; operation = operation; sequence = knows.sequence; since = now; leader = holder_if knows.seen }) }
+owing now request operation knows = record knows {
+  operating = Some (record {
+    request = request;
+    operation = operation;
+    sequence = knows.sequence;
+    since = now;
+    leader = holder_if knows.seen;
+  });
+}
 
 -- the agent asks the key store for what the operator wants, and owes the answer
 abbrev pub operating : Ticks → ℕ → Operation → Body → Outcome → Outcome
-operating now request operation body o = record (sending body o) { knows = owing now request operation (counted o.knows) }
+operating now request operation body o =
+    record (sending body o) { knows = owing now request operation (counted o.knows) }
 
 -- the revision under which an entry was written, if it is there; 0 is no entry's
 abbrev pub revision_of_entry : Option KeyEntry → ℕ
@@ -96,22 +105,29 @@ restarting now o = record o {
 
 -- the server is wiped, and waits for a copy
 abbrev pub wiping : Outcome → Outcome
-wiping o = record o { machine = record o.machine { server = status_wiped o.machine.server }; outputs = with_output outputs.Wipe o.outputs }
+wiping o = record o {
+  machine = record o.machine { server = status_wiped o.machine.server };
+  outputs = with_output outputs.Wipe o.outputs;
+}
 
 -- the number of a failsafe request that no message brings: those of messages are counted from 1
 abbrev pub unnumbered : ℕ
 unnumbered = 0
 
--- a member that another one asks to let it stay primary for this span acknowledges, where it may, and holds: of its own accord, as no message has it
--- do so
+-- a member that another one asks to let it stay primary for this span acknowledges,
+-- where it may, and holds: of its own accord, as no message has it do so
 abbrev pub asked_to_hold : Ticks → ℕ → Ticks → Outcome → Outcome
 asked_to_hold now request ttl o =
-    if may_hold (shown now o) (awaits_lease o.knows.waited) then telling request (tolds.Text ok texts.Accepted) (holding_for now o.knows.who.me unnumbered ttl o) else telling request (tolds.Text internal_server_error texts.Refused) o
+    if may_hold (shown now o) (awaits_lease o.knows.waited)
+    then telling request (tolds.Text ok texts.Accepted) (holding_for now o.knows.who.me unnumbered ttl o)
+    else telling request (tolds.Text internal_server_error texts.Refused) o
 
 -- what an agent does on a request of this number, which passed its checks
 abbrev pub operated : Ticks → ℕ → OperatorRequest → Outcome → Outcome
-operated now request (requests.Failover kind failover) o = operating now request (FailingOver kind) (bodies.Request (txns.SetFailover failover (lease_span o.knows.settings))) o
-operated now request (requests.Configuration config) o = operating now request Configuring (bodies.Request (txns.SetConfig (config_revision o.knows.seen) config)) o
+operated now request (requests.Failover kind failover) o = operating now request (FailingOver kind)
+    (bodies.Request (txns.SetFailover failover (lease_span o.knows.settings))) o
+operated now request (requests.Configuration config) o =
+    operating now request Configuring (bodies.Request (txns.SetConfig (config_revision o.knows.seen) config)) o
 operated now request requests.Restart o = telling request (tolds.Text ok texts.Restarted) (restarting now o)
 operated now request requests.Reinit o = telling request (tolds.Text ok texts.ReinitializeStarted) (wiping o)
 operated now request (requests.Hold from ttl) o = asked_to_hold now request (record { 0 = ttl }) o
@@ -145,11 +161,12 @@ abbrev pub failed_by : FailoverKind → Option FailoverKey → Option Told
 failed_by kind None = Some (tolds.Text service_unavailable (failed_text kind))
 failed_by kind (Some failover) = None
 
--- what a snapshot tells of a switchover or a failover before which this one led: it is done where another member leads, and failed where the
--- same one leads, or nobody as before, and there is no failover key any more
+-- what a snapshot tells of a switchover or a failover before which this one led: it is done where another
+-- member leads, and failed where the same one leads, or nobody as before, and there is no failover key any more
 abbrev pub failover_result : FailoverKind → Option MemberId → SnapshotFacts → Option Told
 failover_result kind was snapshot =
-    if is_same_member was (holder_in snapshot) then failed_by kind (failover_in snapshot) else done_by kind (name_in snapshot.members (holder_in snapshot))
+    if is_same_member was (holder_in snapshot) then failed_by kind (failover_in snapshot)
+    else done_by kind (name_in snapshot.members (holder_in snapshot))
 
 -- what a snapshot tells of what was asked for, before which this one led
 abbrev pub result_as : Operation → Option MemberId → SnapshotFacts → Option Told
@@ -159,7 +176,8 @@ result_as Configuring was snapshot = None
 -- a snapshot answers the request that waits, if it tells what came of it
 abbrev pub looked_by : Option Operating → SnapshotFacts → Outcome → Outcome
 looked_by None snapshot o = o
-looked_by (Some waiting) snapshot o = answering_if waiting.request (result_as waiting.operation waiting.leader snapshot) o
+looked_by (Some waiting) snapshot o =
+    answering_if waiting.request (result_as waiting.operation waiting.leader snapshot) o
 
 -- this is the answer to the read that the agent waits for, in a role that reads
 abbrev pub uses_read : ℕ → Outcome → Bool
@@ -182,7 +200,8 @@ late_answer Configuring = tolds.Text service_unavailable texts.ConfigurationNotW
 -- a request whose time is over is answered so
 abbrev pub given_up_by : Ticks → Option Operating → Outcome → Outcome
 given_up_by now None o = o
-given_up_by now (Some waiting) o = if nat_le (operator_until o.knows.settings waiting.operation waiting.since).0 now.0 then answering waiting.request (late_answer waiting.operation) o else o
+given_up_by now (Some waiting) o = if nat_le (operator_until o.knows.settings waiting.operation waiting.since).0 now.0
+    then answering waiting.request (late_answer waiting.operation) o else o
 
 -- so is the one that waits
 abbrev pub given_up : Ticks → Outcome → Outcome

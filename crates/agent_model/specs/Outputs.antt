@@ -28,13 +28,16 @@ abbrev pub has_one : (Output → Bool) → List Output → Bool
 has_one test [] = false
 has_one test (output ∷ later) = test output || has_one test later
 
--- P holds, where the server comes to accept writes by this output, or will when its start is complete; so does a primary that starts again
+-- P holds, where the server comes to accept writes by this output, or
+-- will when its start is complete; so does a primary that starts again
 abbrev pub BeginsOnly : Type 0 → Output → Type 0
 BeginsOnly P outputs.Begin = P
 BeginsOnly P (outputs.Restart as_primary) = as_primary ≡ true → P
 BeginsOnly P _ = Unit {0}
 
--- P holds of the outputs before each one by which the server comes to accept writes; the first list stands before the second
+-- P holds of the outputs before each one by which the server comes to
+-- accept writes; the first list stands before the second
 abbrev pub OutputsBeginBehind : (List Output → Type 0) → List Output → List Output → Type 0
 OutputsBeginBehind P before [] = Unit {0}
-OutputsBeginBehind P before (output ∷ later) = BeginsOnly (P before) output × OutputsBeginBehind P (with_output output before) later
+OutputsBeginBehind P before (output ∷ later) =
+    BeginsOnly (P before) output × OutputsBeginBehind P (with_output output before) later

@@ -1,5 +1,5 @@
--- What agents do otherwise while the cluster is paused: by themselves they neither start nor end nor rewind a server, but for a handover
--- (Patroni's documentation, "Pause/Resume mode for the cluster").
+-- What agents do otherwise while the cluster is paused: by themselves they neither start nor end nor
+-- rewind a server, but for a handover (Patroni's documentation, "Pause/Resume mode for the cluster").
 use Rattle.std.specs.Prelude.{◌&&◌, ◌||◌, not, Bool, true, false, List, Option, Some, None}
 use Rattle.pat_base.specs.declared.member_id.MemberId.{MemberId}
 use Rattle.pat_base.specs.declared.server_state.State.{State}
@@ -36,24 +36,30 @@ ends_forks settings = not (settings.use_pg_rewind || settings.pause)
 
 -- a primary runs on without the leader key
 abbrev pub running_without_key : Outcome → Outcome
-running_without_key o = record o { role = Unleased; outputs = with_output (outputs.Note agent_notes.RunsWithoutKey) o.outputs }
+running_without_key o =
+    record o { role = Unleased; outputs = with_output (outputs.Note agent_notes.RunsWithoutKey) o.outputs }
 
 -- a deadline that is removed is told; where that comes of a renewal, it is noted besides
 abbrev pub disabling_told : Bool → Option Ticks → List Output → List Output
 disabling_told renews None out = out
-disabling_told true (Some deadline) out = with_output (outputs.Note agent_notes.DisablesWatchdog) (with_output outputs.Disarmed out)
+disabling_told true (Some deadline) out =
+    with_output (outputs.Note agent_notes.DisablesWatchdog) (with_output outputs.Disarmed out)
 disabling_told false (Some deadline) out = with_output outputs.Disarmed out
 
 -- a member leads without a watchdog: its deadline is removed, on a renewal or on the grant of a free key
 abbrev pub disabling_watchdog : Bool → Outcome → Outcome
-disabling_watchdog renews o = record o { machine = without_deadline o.machine; outputs = disabling_told renews o.machine.watchdog.deadline o.outputs }
+disabling_watchdog renews o = record o {
+  machine = without_deadline o.machine;
+  outputs = disabling_told renews o.machine.watchdog.deadline o.outputs;
+}
 
 -- the server runs as a replica
 abbrev pub is_replica : State → Bool
 is_replica states.Replica = true
 is_replica _ = false
 
--- an operator wants this member to lead, by a failover key, and its server is a replica: only such a one takes the leader key in a pause
+-- an operator wants this member to lead, by a failover key, and its
+-- server is a replica: only such a one takes the leader key in a pause
 abbrev pub is_wanted : MemberId → Option FailoverKey → State → Bool
 is_wanted me failover state = is_candidate me failover && is_replica state
 

@@ -17,7 +17,10 @@ use Rattle.agent_model.specs.Racing.{judged}
 
 -- a member that is asked answers at once, whatever it waits for
 abbrev pub asked : MemberId → ℕ → ℕ → Outcome → Outcome
-asked from incarnation sequence o = record o { outputs = with_output (outputs.Answer from incarnation sequence (peer_answer_of o.knows.who o.machine.server)) o.outputs }
+asked from incarnation sequence o = record o {
+  outputs =
+      with_output (outputs.Answer from incarnation sequence (peer_answer_of o.knows.who o.machine.server)) o.outputs;
+}
 
 -- a question to the other members in a race
 abbrev pub is_asking : Question → Bool
@@ -61,7 +64,8 @@ awaits_check waited sequence = is_checking waited.question && waited.sequence ==
 -- an answer, by what is waited for
 abbrev pub answered_for : Ticks → ℕ → PeerAnswer → Option PendingQuestion → Outcome → Outcome
 answered_for now sequence answer None o = o
-answered_for now sequence answer (Some waited) o = if awaits_answer waited sequence then accepted_answer now answer o else if awaits_check waited sequence then check_answered now answer o.role o else o
+answered_for now sequence answer (Some waited) o = if awaits_answer waited sequence then accepted_answer now answer o
+    else if awaits_check waited sequence then check_answered now answer o.role o else o
 
 -- the answer of another member: what is waited for is used, and any other dropped
 abbrev pub answered : Ticks → ℕ → PeerAnswer → Outcome → Outcome

@@ -24,17 +24,25 @@ use Rattle.agent_model.specs.Agents.{Outcome}
 use Rattle.agent_model.specs.Synchronous.{sync_read_if, expected_of, waiting_for}
 use Rattle.agent_model.specs.Views.{view_of}
 
--- what a leader shows of itself and of synchronous replication on its server, but for its newest snapshot, which stands beside it
+-- what a leader shows of itself and of synchronous replication on its
+-- server, but for its newest snapshot, which stands beside it
 abbrev pub leader_view : Ticks → Knowledge → Machine → LeaderView
-leader_view now knows machine = record { view = view_of now words.Leader knows machine; required = machine.replication.required; confirmed_positions = machine.replication.confirmed_positions; noted = knows.noted }
+leader_view now knows machine = record {
+  view = view_of now words.Leader knows machine;
+  required = machine.replication.required;
+  confirmed_positions = machine.replication.confirmed_positions;
+  noted = knows.noted;
+}
 
 -- the agent asks for a write of the sync key, and waits for the answer; with a grant the required list settles so
 abbrev pub writing_sync : Ticks → Settling → Txn → Outcome → Outcome
-writing_sync now settling txn o = asking now (Syncing settling) (seconds_after now o.knows.settings.retry_timeout) (bodies.Request txn) o
+writing_sync now settling txn o =
+    asking now (Syncing settling) (seconds_after now o.knows.settings.retry_timeout) (bodies.Request txn) o
 
 -- it asks that these be the standbys in the sync key, as that was read last
 abbrev pub naming : Ticks → ℕ → Settling → MemberSet → Outcome → Outcome
-naming now revision settling standbys o = writing_sync now settling (txns.SetSync revision (expected_of (sync_read_if o.knows.seen)) standbys) o
+naming now revision settling standbys o =
+    writing_sync now settling (txns.SetSync revision (expected_of (sync_read_if o.knows.seen)) standbys) o
 
 -- it asks that the sync key be removed, which was read so
 abbrev pub switching_off : Ticks → ℕ → Option SyncRead → Outcome → Outcome
@@ -58,7 +66,8 @@ planned_as now revision (plans.DropRequired members) o = requiring (waiting_for 
 -- the step that the newest snapshot calls for, if there is one
 abbrev pub planned_on : Ticks → ℕ → Option SnapshotFacts → Outcome → Outcome
 planned_on now revision None o = o
-planned_on now revision (Some snapshot) o = planned_as now revision (plan_of (leader_view now o.knows o.machine) snapshot) o
+planned_on now revision (Some snapshot) o =
+    planned_as now revision (plan_of (leader_view now o.knows o.machine) snapshot) o
 
 -- a leader's step
 abbrev pub planned : Ticks → ℕ → Outcome → Outcome

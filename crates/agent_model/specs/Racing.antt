@@ -1,5 +1,5 @@
--- What a member without a lease does about a free leader key: where nothing bars it, it asks the other members how far their
--- servers are, and is judged by what they answer.
+-- What a member without a lease does about a free leader key: where nothing bars it, it
+-- asks the other members how far their servers are, and is judged by what they answer.
 use Rattle.std.specs.Prelude.{ℕ, ◌+◌, ◌&&◌, if◌then◌else◌, not, Bool, List, [], Option, Some, None}
 use Rattle.pat_base.specs.declared.peer_answer.PeerAnswer.{PeerAnswer}
 use Rattle.pat_base.specs.declared.ticks.Ticks.{Ticks}
@@ -42,13 +42,17 @@ bar_of now knows machine = bar_by (view_of now words.Follower knows machine) kno
 
 -- the agent asks for the leader key
 abbrev pub creating : Ticks → Outcome → Outcome
-creating now o = asking now Creating (seconds_after now o.knows.settings.retry_timeout) (bodies.Request (txns.Create (info_of o.knows.who o.machine.server) (lease_span o.knows.settings) (failsafe_compared o.knows) None)) o
+creating now o = asking now Creating (seconds_after now o.knows.settings.retry_timeout)
+    (bodies.Request (txns.Create (info_of o.knows.who o.machine.server) (lease_span o.knows.settings)
+    (failsafe_compared o.knows) None))
+    o
 
 -- a member that is barred tells by what, and tells of itself
 abbrev pub barred : Ineligibility → Outcome → Outcome
 barred bar o = touching (record o { outputs = with_output (outputs.Note (agent_notes.DoesNotRace bar)) o.outputs })
 
--- what bars a member that shows this from winning, by the newest snapshot and these answers; nothing where there is no snapshot
+-- what bars a member that shows this from winning, by the newest
+-- snapshot and these answers; nothing where there is no snapshot
 abbrev pub outcome_by : AgentView → Option SnapshotFacts → List PeerAnswer → Option Ineligibility
 outcome_by view None answers = None
 outcome_by view (Some seen) answers = outcome_of view seen answers
@@ -76,7 +80,10 @@ answers_until now = record { 0 = now.0 + answer_ticks }
 
 -- the agent asks each other member how far its server is, all under one number, and waits for the answers
 abbrev pub asking_others : Ticks → Outcome → Outcome
-asking_others now o = record o { knows = waiting now ComparingPositions (answers_until now) (counted o.knows); outputs = asking_all o.knows.who (o.knows.sequence + 1) o.outputs }
+asking_others now o = record o {
+  knows = waiting now ComparingPositions (answers_until now) (counted o.knows);
+  outputs = asking_all o.knows.who (o.knows.sequence + 1) o.outputs;
+}
 
 -- the agent forgets what it heard of other members
 abbrev pub unheard : Outcome → Outcome
@@ -99,10 +106,11 @@ races_unless now (Some bar) o = barred bar o
 abbrev pub starts_alone : Ticks → Outcome → Outcome
 starts_alone now o = if is_paused o.knows then o else starting_replica now None o
 
--- what a member without a lease does while nobody leads: a server that can start does so as a replica of none, and its agent tells
--- of itself; else the member races, unless something bars it
+-- what a member without a lease does while nobody leads: a server that can start does so as a
+-- replica of none, and its agent tells of itself; else the member races, unless something bars it
 abbrev pub free_key : Ticks → Outcome → Outcome
-free_key now o = if can_start o.machine.server then touching (starts_alone now o) else races_unless now (bar_of now o.knows o.machine) o
+free_key now o = if can_start o.machine.server then touching (starts_alone now o)
+    else races_unless now (bar_of now o.knows o.machine) o
 
 -- a follower, or a holder, whose lease is lost, finds that nobody leads
 abbrev pub finds_free : Ticks → Outcome → Outcome

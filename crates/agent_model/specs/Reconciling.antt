@@ -14,7 +14,10 @@ noted_or now (Some moment) = moment
 
 -- a leader finds that its server has ended: it keeps the leader key, and the crash is noted
 abbrev pub leader_finds_ended : Ticks → ℕ → Outcome → Outcome
-leader_finds_ended now revision o = record (disarming o) { role = Holder revision; knows = record o.knows { crashed = Some (noted_or now o.knows.crashed) } }
+leader_finds_ended now revision o = record (disarming o) {
+  role = Holder revision;
+  knows = record o.knows { crashed = Some (noted_or now o.knows.crashed) };
+}
 
 -- an agent that ends its server finds that it has ended: it gives up the leader key, if it has that still
 abbrev pub has_ended : Why → ℕ → Outcome → Outcome

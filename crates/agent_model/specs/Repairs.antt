@@ -22,8 +22,8 @@ is_upstream leader (Some upstream) = upstream.number == leader.number
 abbrev pub rewind_if : Bool → Bool → Option Repair
 rewind_if lets diverged = if lets && diverged then Some Rewind else None
 
--- how the log of a server in this state is repaired: a replica of the leader's and one that was shut down by a rewind, and one that waits
--- for a copy by a clone
+-- how the log of a server in this state is repaired: a replica of the leader's and
+-- one that was shut down by a rewind, and one that waits for a copy by a clone
 abbrev pub repair_in : Bool → Bool → Bool → State → Option Repair
 repair_in lets follows diverged states.Replica = rewind_if (lets && follows) diverged
 repair_in lets follows diverged states.Stopped = rewind_if lets diverged
@@ -34,8 +34,8 @@ repair_in lets follows diverged _ = None
 abbrev pub repair_of : Config → MemberId → ServerStatus → Option Repair
 repair_of settings leader s = repair_in (lets_rewind settings) (is_upstream leader s.upstream) s.diverged s.state
 
--- the agent has the log of its server repaired by this leader's. Whether that can be done shows where it is done, so the agent reckons with
--- its server as it was
+-- the agent has the log of its server repaired by this leader's. Whether that can
+-- be done shows where it is done, so the agent reckons with its server as it was
 abbrev pub repairing : MemberId → Repair → Outcome → Outcome
 repairing leader repair o = record o { outputs = with_output (outputs.Repair leader repair) o.outputs }
 

@@ -38,7 +38,8 @@ abbrev pub known_with : MemberSet → Option MemberSet → MemberSet
 known_with known None = known
 known_with known (Some members) = record { bits = bit_or known.bits members.bits }
 
--- a snapshot is the newest: its settings hold from now on, its failsafe key's members are known, and nothing is waited for
+-- a snapshot is the newest: its settings hold from now on, its
+-- failsafe key's members are known, and nothing is waited for
 abbrev pub informed : SnapshotFacts → Knowledge → Knowledge
 informed snapshot knows = record knows {
   waited = None;
@@ -95,11 +96,14 @@ missing_row now me (Some snapshot) points = option_map (row_at now me) (missing_
 
 -- the row that a primary tells with its renewal, if one is missing
 abbrev pub row_told : Ticks → List HistoryPoint → Knowledge → ServerStatus → Option HistoryRow
-row_told now points knows server = if is_primary server.state then missing_row now knows.who.me knows.seen points else None
+row_told now points knows server =
+    if is_primary server.state then missing_row now knows.who.me knows.seen points else None
 
--- the renewal of this revision, with what it tells of the member and of its server, and whom it writes into the failsafe key
+-- the renewal of this revision, with what it tells of the member and
+-- of its server, and whom it writes into the failsafe key
 abbrev pub renewal : Ticks → List HistoryPoint → ℕ → Knowledge → ServerStatus → Option MemberSet → Txn
-renewal now points revision knows server carried = txns.Renew revision (info_of knows.who server) (lease_span knows.settings) (status_told server) (row_told now points knows server) carried
+renewal now points revision knows server carried = txns.Renew revision (info_of knows.who server)
+    (lease_span knows.settings) (status_told server) (row_told now points knows server) carried
 
 -- when the turn began that asks this
 abbrev pub turn_start : Ticks → Option Ticks → Ticks
@@ -112,15 +116,19 @@ carrying carried o = record o { knows = record o.knows { known = known_with o.kn
 
 -- the agent asks for the renewal of the leader key that it read, and writes these members into the failsafe key, if any
 abbrev pub renewing_with : Ticks → List HistoryPoint → ℕ → Option MemberSet → Outcome → Outcome
-renewing_with now points revision carried o = asking now Renewing (seconds_after (turn_start now o.knows.last_turn) o.knows.settings.retry_timeout) (bodies.Request (renewal now points revision o.knows o.machine.server carried)) (carrying carried o)
+renewing_with now points revision carried o =
+    asking now Renewing (seconds_after (turn_start now o.knows.last_turn) o.knows.settings.retry_timeout)
+    (bodies.Request (renewal now points revision o.knows o.machine.server carried)) (carrying carried o)
 
 -- the agent asks for the renewal of the leader key that it read
 abbrev pub renewing : Ticks → List HistoryPoint → ℕ → Outcome → Outcome
 renewing now points revision o = renewing_with now points revision (set_carried o) o
 
--- an agent that isn't leading finds the leader key its own: it asks for the renewal, unless its hold is active; in a pause it asks in any case
+-- an agent that isn't leading finds the leader key its own: it asks for
+-- the renewal, unless its hold is active; in a pause it asks in any case
 abbrev pub finds_own_key : Ticks → List HistoryPoint → ℕ → Outcome → Outcome
-finds_own_key now points revision o = if is_hold_active now o.machine.hold && not (is_paused o.knows) then touching o else renewing now points revision o
+finds_own_key now points revision o =
+    if is_hold_active now o.machine.hold && not (is_paused o.knows) then touching o else renewing now points revision o
 
 -- the leader key is its own
 abbrev pub own_key : Ticks → List HistoryPoint → ℕ → RoleFacts → Outcome → Outcome
@@ -145,7 +153,8 @@ ends_fork now o = if o.machine.server.diverged && ends_forks o.knows.settings th
 
 -- a replica of another server, or of none, follows this member's
 abbrev pub follows_anew : Ticks → MemberId → Outcome → Outcome
-follows_anew now leader o = if is_upstream leader o.machine.server.upstream then ends_fork now o else following_server leader o
+follows_anew now leader o =
+    if is_upstream leader o.machine.server.upstream then ends_fork now o else following_server leader o
 
 -- what a server does under another leader, by whether its agent may start it
 abbrev pub follow_row : Bool → Ticks → MemberId → State → Outcome → Outcome
@@ -158,10 +167,12 @@ follow_row may_start now leader _ o = o
 abbrev pub led_by_another : Outcome → Outcome
 led_by_another o = record o { role = Follower; knows = record o.knows { handed_over = false } }
 
--- another member leads: the server follows that one's, and the agent tells of itself; a log that has to be is repaired behind that
+-- another member leads: the server follows that one's, and the agent
+-- tells of itself; a log that has to be is repaired behind that
 abbrev pub follows : Ticks → MemberId → Outcome → Outcome
 follows now leader o =
-    repaired_if leader (repair_of o.knows.settings leader o.machine.server) (touching (follow_row (may_start_behind o.knows) now leader o.machine.server.state (led_by_another o)))
+    repaired_if leader (repair_of o.knows.settings leader o.machine.server)
+    (touching (follow_row (may_start_behind o.knows) now leader o.machine.server.state (led_by_another o)))
 
 -- the leader key is another's
 abbrev pub others_key : Ticks → MemberId → RoleFacts → Outcome → Outcome
@@ -182,7 +193,8 @@ no_key now _ o = o
 -- what the agent does where somebody leads
 abbrev pub led_by : Ticks → List HistoryPoint → LeaderEntry → Outcome → Outcome
 led_by now points leader o =
-    if leader.holder.number == o.knows.who.me.number then own_key now points leader.revision o.role o else others_key now leader.holder o.role o
+    if leader.holder.number == o.knows.who.me.number then own_key now points leader.revision o.role o
+    else others_key now leader.holder o.role o
 
 -- what the agent does on the leader key
 abbrev pub led : Ticks → List HistoryPoint → Option LeaderEntry → Outcome → Outcome
@@ -204,15 +216,24 @@ abbrev pub awaits_read : Option PendingQuestion → ℕ → Bool
 awaits_read None sequence = false
 awaits_read (Some waited) sequence = is_read waited.question && waited.sequence == sequence
 
--- a read was answered at this moment, with this snapshot: what this turn asks for is judged by its settings, its sync key, its failover key and its
--- failsafe key
+-- a read was answered at this moment, with this snapshot: what this turn asks for
+-- is judged by its settings, its sync key, its failover key and its failsafe key
 abbrev pub read_noted : Ticks → SnapshotFacts → Knowledge → Knowledge
-read_noted now snapshot knows = record (informed snapshot knows) { last_read = Some now; turn_settings = settings_in knows.settings snapshot; turn_sync = sync_read_in snapshot; turn_failover = failover_in snapshot; turn_failsafe = failsafe_read_in snapshot }
+read_noted now snapshot knows = record (informed snapshot knows) {
+  last_read = Some now;
+  turn_settings = settings_in knows.settings snapshot;
+  turn_sync = sync_read_in snapshot;
+  turn_failover = failover_in snapshot;
+  turn_failsafe = failsafe_read_in snapshot;
+}
 
 -- the answer to a read that is waited for is used by a role that reads
 abbrev pub accepted : Ticks → List HistoryPoint → SnapshotFacts → Outcome → Outcome
-accepted now points snapshot o = if is_active o.role then led now points (leader_in snapshot) (record o { knows = read_noted now snapshot o.knows }) else waiting_no_more o
+accepted now points snapshot o =
+    if is_active o.role then led now points (leader_in snapshot) (record o { knows = read_noted now snapshot o.knows })
+    else waiting_no_more o
 
 -- the answer to a read: what is waited for is used, and any other dropped
 abbrev pub read_answered : Ticks → List HistoryPoint → ℕ → SnapshotFacts → Outcome → Outcome
-read_answered now points sequence snapshot o = if awaits_read o.knows.waited sequence then accepted now points snapshot o else o
+read_answered now points sequence snapshot o =
+    if awaits_read o.knows.waited sequence then accepted now points snapshot o else o

@@ -1,5 +1,5 @@
--- How a leader goes on without the key store by the word of all other members, and how these acknowledge it (Patroni documentation, "DCS Failsafe
--- Mode").
+-- How a leader goes on without the key store by the word of all other members,
+-- and how these acknowledge it (Patroni documentation, "DCS Failsafe Mode").
 use Rattle.std.specs.Prelude.{ℕ, zero, suc, ◌+◌, ◌==◌, ◌&&◌, ◌||◌, if◌then◌else◌, not, Bool, true, false, List, Option, Some, None}
 use Rattle.pat_base.specs.MemberId.{member_of}
 use Rattle.pat_base.specs.declared.member_id.MemberId.{MemberId}
@@ -37,12 +37,14 @@ others_known knows = without_member knows.known knows.who.me
 -- the failsafe request to this member, where it is in the set
 abbrev pub requesting_one : MemberSet → ℕ → Ticks → Option MemberId → List Output → List Output
 requesting_one members sequence ttl None out = out
-requesting_one members sequence ttl (Some member) out = if has members member.number then with_output (outputs.Send (targets.Member member) sequence (bodies.FailsafeRequest ttl)) out else out
+requesting_one members sequence ttl (Some member) out = if has members member.number
+    then with_output (outputs.Send (targets.Member member) sequence (bodies.FailsafeRequest ttl)) out else out
 
 -- the failsafe requests to those of the set among so many first members, all under one number
 abbrev pub requesting_first : MemberSet → ℕ → Ticks → ℕ → List Output → List Output
 requesting_first members sequence ttl zero out = out
-requesting_first members sequence ttl (suc count) out = requesting_one members sequence ttl (member_of count) (requesting_first members sequence ttl count out)
+requesting_first members sequence ttl (suc count) out =
+    requesting_one members sequence ttl (member_of count) (requesting_first members sequence ttl count out)
 
 -- the failsafe requests to all of the set
 abbrev pub requesting_all : MemberSet → ℕ → Ticks → List Output → List Output
@@ -58,24 +60,30 @@ asking_to_stay now members o = record o {
 -- ---- staying
 -- the machine once acknowledgements fed its watchdog, over leases of this span
 abbrev pub with_failsafe_feed : Ticks → Ticks → Machine → Machine
-with_failsafe_feed now ttl machine = record machine { watchdog = fed now.0 ttl.0 machine.watchdog; by_failsafe = is_armable machine.watchdog.mode machine.watchdog.works || machine.by_failsafe }
+with_failsafe_feed now ttl machine = record machine {
+  watchdog = fed now.0 ttl.0 machine.watchdog;
+  by_failsafe = is_armable machine.watchdog.mode machine.watchdog.works || machine.by_failsafe;
+}
 
 -- a deadline by acknowledgements is told, if there is one: who gave them, of which request, and since when
 abbrev pub fed_by_failsafe : Option Ticks → MemberSet → ℕ → Ticks → List Output → List Output
 fed_by_failsafe None members sequence since out = out
-fed_by_failsafe (Some until) members sequence since out = with_output (outputs.FedByFailsafe until members sequence since) out
+fed_by_failsafe (Some until) members sequence since out =
+    with_output (outputs.FedByFailsafe until members sequence since) out
 
 -- the member stays primary: its watchdog is fed for this span, and it waits for nothing
 abbrev pub stays : Ticks → Ticks → ℕ → Ticks → Outcome → Outcome
 stays now ttl sequence since o = record o {
   knows = record o.knows { waited = None };
   machine = with_failsafe_feed now ttl o.machine;
-  outputs = with_output outputs.StaysByFailsafe (fed_by_failsafe (deadline_after now ttl o.machine.watchdog) o.knows.failsafe.members sequence since o.outputs);
+  outputs = with_output outputs.StaysByFailsafe
+      (fed_by_failsafe (deadline_after now ttl o.machine.watchdog) o.knows.failsafe.members sequence since o.outputs);
 }
 
 -- nobody is to be asked: it stays primary at once
 abbrev pub stays_alone : Ticks → MemberSet → Outcome → Outcome
-stays_alone now members o = stays now (lease_span o.knows.settings) o.knows.sequence now (record o { knows = record o.knows { failsafe = asked members now } })
+stays_alone now members o = stays now (lease_span o.knows.settings) o.knows.sequence now
+    (record o { knows = record o.knows { failsafe = asked members now } })
 
 -- a leader without the key store asks these members to let it stay primary; with nobody to ask it stays so at once
 abbrev pub seeks_to_stay : Ticks → MemberSet → Outcome → Outcome
@@ -88,7 +96,8 @@ may_stay knows = knows.settings.failsafe_mode && knows.confirmed
 -- ---- answers
 -- one that was asked didn't acknowledge in time, or refused: the leader ends its server
 abbrev pub leader_unacknowledged : Ticks → ℕ → Outcome → Outcome
-leader_unacknowledged now revision o = record (ending_server now FailsafeNotAcknowledged o) { role = Ending revision Lost }
+leader_unacknowledged now revision o =
+    record (ending_server now FailsafeNotAcknowledged o) { role = Ending revision Lost }
 
 -- so does a leader; nothing is waited for any more
 abbrev pub unacknowledged_as : Ticks → RoleFacts → Outcome → Outcome
@@ -99,9 +108,11 @@ unacknowledged_as now _ o = o
 abbrev pub unacknowledged : Ticks → Outcome → Outcome
 unacknowledged now o = if is_paused o.knows then waiting_no_more o else unacknowledged_as now o.role (waiting_no_more o)
 
--- all acknowledged, the first of them at this moment: the member stays primary, unless the last answer comes too late outside a pause
+-- all acknowledged, the first of them at this moment: the member stays
+-- primary, unless the last answer comes too late outside a pause
 abbrev pub stays_by : Ticks → PendingQuestion → Ticks → Outcome → Outcome
-stays_by now waited since o = if not (is_paused o.knows) && comes_late now waited o.machine then waiting_no_more o else stays now waited.ttl waited.sequence since o
+stays_by now waited since o = if not (is_paused o.knows) && comes_late now waited o.machine
+    then waiting_no_more o else stays now waited.ttl waited.sequence since o
 
 -- the member stays primary once each that was asked has acknowledged
 abbrev pub stays_if : Ticks → PendingQuestion → Option Ticks → Outcome → Outcome
@@ -114,11 +125,14 @@ counting from sent o = record o { knows = record o.knows { failsafe = heard o.kn
 
 -- a leader hears an acknowledgement
 abbrev pub acknowledged_to : Ticks → PendingQuestion → MemberId → Ticks → Outcome → Outcome
-acknowledged_to now waited from sent o = stays_if now waited (moment_of_all (heard o.knows.failsafe from true sent)) (counting from sent o)
+acknowledged_to now waited from sent o =
+    stays_if now waited (moment_of_all (heard o.knows.failsafe from true sent)) (counting from sent o)
 
--- an answer that is waited for counts for a leader; one refusal is enough. In another role nothing is waited for any more
+-- an answer that is waited for counts for a leader; one refusal is
+-- enough. In another role nothing is waited for any more
 abbrev pub accepted_failsafe : Ticks → PendingQuestion → MemberId → Bool → Ticks → RoleFacts → Outcome → Outcome
-accepted_failsafe now waited from accepted sent (Leader revision) o = if accepted then acknowledged_to now waited from sent o else unacknowledged now o
+accepted_failsafe now waited from accepted sent (Leader revision) o =
+    if accepted then acknowledged_to now waited from sent o else unacknowledged now o
 accepted_failsafe now waited from accepted sent _ o = waiting_no_more o
 
 -- the question to all other members whether it may stay primary
@@ -133,11 +147,13 @@ awaits_failsafe waited sequence = is_staying waited.question && waited.sequence 
 -- an answer to a failsafe request, by what is waited for
 abbrev pub failsafe_answered_for : Ticks → MemberId → ℕ → Bool → Ticks → Option PendingQuestion → Outcome → Outcome
 failsafe_answered_for now from sequence accepted sent None o = o
-failsafe_answered_for now from sequence accepted sent (Some waited) o = if awaits_failsafe waited sequence then accepted_failsafe now waited from accepted sent o.role o else o
+failsafe_answered_for now from sequence accepted sent (Some waited) o =
+    if awaits_failsafe waited sequence then accepted_failsafe now waited from accepted sent o.role o else o
 
 -- an answer to a failsafe request: what is waited for is used, and any other dropped
 abbrev pub failsafe_answered : Ticks → MemberId → ℕ → Bool → Ticks → Outcome → Outcome
-failsafe_answered now from sequence accepted sent o = failsafe_answered_for now from sequence accepted sent o.knows.waited o
+failsafe_answered now from sequence accepted sent o =
+    failsafe_answered_for now from sequence accepted sent o.knows.waited o
 
 -- ---- being asked
 -- the question asks for a lease of the leader key
@@ -157,9 +173,12 @@ span_after now span = record { 0 = now.0 + span.0 }
 
 -- what a member answers a failsafe request
 abbrev pub answering_failsafe : MemberId → ℕ → ℕ → Bool → Outcome → Outcome
-answering_failsafe to incarnation sequence accepted o = record o { outputs = with_output (outputs.FailsafeAnswer to incarnation sequence accepted) o.outputs }
+answering_failsafe to incarnation sequence accepted o = record o {
+  outputs = with_output (outputs.FailsafeAnswer to incarnation sequence accepted) o.outputs;
+}
 
--- a member promises not to take the leader key for this span, on the failsafe request of this number; a longer promise stays
+-- a member promises not to take the leader key for this span, on the
+-- failsafe request of this number; a longer promise stays
 abbrev pub holding_for : Ticks → MemberId → ℕ → Ticks → Outcome → Outcome
 holding_for now from sequence ttl o = record o {
   machine = record o.machine { hold = prolonged_to (span_after now ttl) o.machine.hold };
@@ -169,4 +188,6 @@ holding_for now from sequence ttl o = record o {
 -- a member that is asked acknowledges and holds, where it may
 abbrev pub failsafe_asked : Ticks → MemberId → ℕ → ℕ → Ticks → Outcome → Outcome
 failsafe_asked now from incarnation sequence ttl o =
-    if may_hold (shown now o) (awaits_lease o.knows.waited) then answering_failsafe from incarnation sequence true (holding_for now from sequence ttl o) else answering_failsafe from incarnation sequence false o
+    if may_hold (shown now o) (awaits_lease o.knows.waited)
+    then answering_failsafe from incarnation sequence true (holding_for now from sequence ttl o)
+    else answering_failsafe from incarnation sequence false o

@@ -45,11 +45,12 @@ abbrev pub is_named_if : MemberId → Option SyncRead → Bool
 is_named_if me None = true
 is_named_if me (Some read) = is_named me read.key
 
--- in synchronous mode only a member may lead that the sync key names, as the turn read both, since another may lack an acknowledged commit;
--- or one that a failover by hand names
+-- in synchronous mode only a member may lead that the sync key names, as the turn read
+-- both, since another may lack an acknowledged commit; or one that a failover by hand names
 abbrev pub may_lead_in_sync : Knowledge → Bool
 may_lead_in_sync knows =
-    if knows.turn_settings.synchronous_mode then is_named_if knows.who.me knows.turn_sync || is_failover_to knows.who.me knows.turn_failover else true
+    if knows.turn_settings.synchronous_mode
+    then is_named_if knows.who.me knows.turn_sync || is_failover_to knows.who.me knows.turn_failover else true
 
 -- commits wait for some standby in synchronous mode, also where none is named
 abbrev pub is_strict : Config → Bool

@@ -1,4 +1,5 @@
--- What a woken agent does: an operator whose time is over comes first, then a deadline that has passed, and then a turn that is due.
+-- What a woken agent does: an operator whose time is over comes first,
+-- then a deadline that has passed, and then a turn that is due.
 use Rattle.std.specs.Prelude.{ℕ, ◌&&◌, ◌||◌, nat_le, if◌then◌else◌, not, Bool, true, false, is_none, Option, Some, None}
 use Rattle.pat_base.specs.declared.server_state.State.{State}
 use Rattle.pat_base.specs.declared.server_state.State.TheVariants as states
@@ -38,7 +39,8 @@ has_turn now knows = is_none knows.waited && nat_le knows.next_turn.0 now.0
 
 -- whether there is something to do for an agent that is woken
 abbrev pub is_due : Ticks → RoleFacts → Knowledge → Machine → Bool
-is_due now role knows machine = finds_ended role machine.server.state || (is_overdue now knows.waited || has_turn now knows)
+is_due now role knows machine =
+    finds_ended role machine.server.state || (is_overdue now knows.waited || has_turn now knows)
 
 -- from when on an agent has something to do that waits so, or has its next turn then
 abbrev pub waits_until : Option PendingQuestion → Ticks → Ticks
@@ -47,7 +49,8 @@ waits_until (Some waited) next_turn = waited.until
 
 -- from when on there is something to do for an agent whose server is in this state
 abbrev pub due_from : RoleFacts → Knowledge → State → Ticks
-due_from role knows state = if finds_ended role state then record { 0 = 0 } else waits_until knows.waited knows.next_turn
+due_from role knows state =
+    if finds_ended role state then record { 0 = 0 } else waits_until knows.waited knows.next_turn
 
 -- a leader whose read or renewal isn't answered in time ends its server, since another may have its key soon
 abbrev pub leader_out_of_reach : Ticks → ℕ → Outcome → Outcome
@@ -55,13 +58,15 @@ leader_out_of_reach now revision o = record (ending_server now StoreOutOfReach o
 
 -- with failsafe mode it may ask the other members first
 abbrev pub leader_unanswered : Ticks → ℕ → Outcome → Outcome
-leader_unanswered now revision o = if may_stay o.knows then seeks_to_stay now (others_known o.knows) o else leader_out_of_reach now revision o
+leader_unanswered now revision o =
+    if may_stay o.knows then seeks_to_stay now (others_known o.knows) o else leader_out_of_reach now revision o
 
 -- one that has no lease while its server is live ends that
 abbrev pub unleased_out_of_reach : Ticks → Outcome → Outcome
 unleased_out_of_reach now o = ending_server now StoreOutOfReach o
 
--- what each role does without an answer: who has a live server ends it, but a leader that may ask the other members to let it stay
+-- what each role does without an answer: who has a live server ends
+-- it, but a leader that may ask the other members to let it stay
 abbrev pub out_of_reach_as : Ticks → RoleFacts → Outcome → Outcome
 out_of_reach_as now (Leader revision) o = leader_unanswered now revision o
 out_of_reach_as now Unleased o = unleased_out_of_reach now o

@@ -19,29 +19,35 @@ with_server server machine = record machine { server = server }
 
 -- the machine with this deadline of its watchdog, which acknowledgements set or a grant
 abbrev pub with_deadline : Ticks → Bool → Machine → Machine
-with_deadline deadline by_failsafe machine = record machine { watchdog = record machine.watchdog { deadline = Some deadline }; by_failsafe = by_failsafe }
+with_deadline deadline by_failsafe machine =
+    record machine { watchdog = record machine.watchdog { deadline = Some deadline }; by_failsafe = by_failsafe }
 
 -- the machine once this output is carried out at this moment
 abbrev pub machine_after_output : Ticks → Machine → Output → Machine
 machine_after_output now machine outputs.Begin = with_server (status_begun now machine.server) machine
-machine_after_output now machine (outputs.StartReplica leader) = with_server (status_replica_started now (upstream_of leader) machine.server) machine
+machine_after_output now machine (outputs.StartReplica leader) =
+    with_server (status_replica_started now (upstream_of leader) machine.server) machine
 machine_after_output now machine (outputs.Stop reason) = with_server (status_stopping now machine.server) machine
 machine_after_output now machine outputs.ShutDown = with_server (status_stopping now machine.server) machine
-machine_after_output now machine (outputs.Restart as_primary) = with_server (status_restarted now machine.server) machine
+machine_after_output now machine (outputs.Restart as_primary) =
+    with_server (status_restarted now machine.server) machine
 machine_after_output now machine outputs.Wipe = with_server (status_wiped machine.server) machine
-machine_after_output now machine (outputs.Follow leader) = with_server (status_following (server_id_of leader) machine.server) machine
+machine_after_output now machine (outputs.Follow leader) =
+    with_server (status_following (server_id_of leader) machine.server) machine
 machine_after_output now machine (outputs.Armed until) = with_deadline until false machine
 machine_after_output now machine (outputs.Fed until) = with_deadline until false machine
 machine_after_output now machine (outputs.FedByFailsafe until members sequence since) = with_deadline until true machine
 machine_after_output now machine outputs.Disarmed = without_deadline machine
 machine_after_output now machine (outputs.Require required) = with_required required machine
-machine_after_output now machine (outputs.HoldTaken until from sequence) = record machine { hold = prolonged_to until machine.hold }
+machine_after_output now machine (outputs.HoldTaken until from sequence) =
+    record machine { hold = prolonged_to until machine.hold }
 machine_after_output now machine _ = machine
 
 -- the machine once these outputs are carried out at this moment, in their order
 abbrev pub machine_after_outputs : Ticks → Machine → List Output → Machine
 machine_after_outputs now machine [] = machine
-machine_after_outputs now machine (output ∷ later) = machine_after_outputs now (machine_after_output now machine output) later
+machine_after_outputs now machine (output ∷ later) =
+    machine_after_outputs now (machine_after_output now machine output) later
 
 -- an output that the table makes: of another member it only asks how far its server is, and whether it may stay primary
 abbrev pub IsOfTable : Output → Type 0
@@ -58,8 +64,8 @@ abbrev pub RepairsLast : List Output → Type 0
 RepairsLast [] = Unit {0}
 RepairsLast (output ∷ later) = EndsRepairing output later × RepairsLast later
 
--- the machine that an input leaves is what its outputs, carried out in their order, make of the machine before, but for a repair of
--- its server's log, which comes last; and the table makes each of them
+-- the machine that an input leaves is what its outputs, carried out in their order, make of the machine
+-- before, but for a repair of its server's log, which comes last; and the table makes each of them
 pub record IsCarriedOut (now : Ticks) (machine : Machine) (after : Outcome) : Type 0 where
   pub machine_is : after.machine ≡ machine_after_outputs now machine after.outputs
   pub kinds : All IsOfTable after.outputs

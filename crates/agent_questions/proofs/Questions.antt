@@ -84,12 +84,14 @@ asks-other : (waited : PendingQuestion) (output : Output) → no-message output 
 asks-other waited (outputs.Send to sequence body) is = absurd is
 asks-other waited _ is = tt
 
-between-later : (low high more : ℕ) → high ≤ more → (output : Output) → SendsBetween low high output → SendsBetween low more output
+between-later : (low high more : ℕ) → high ≤ more → (output : Output) → SendsBetween low high output
+    → SendsBetween low more output
 between-later low high more h (outputs.Send to sequence body) is = (is.0, omega (arith, is.1, h), is.2)
 between-later low high more h _ is = tt
 
 -- a number above all that were sent is none of theirs
-above-all : (low high : ℕ) (waited : PendingQuestion) → high < waited.sequence → (output : Output) → SendsBetween low high output → AsksFor waited output
+above-all : (low high : ℕ) (waited : PendingQuestion) → high < waited.sequence → (output : Output)
+    → SendsBetween low high output → AsksFor waited output
 above-all low high waited h (outputs.Send to sequence body) is = λ e. absurd (omega (arith, e, h, is.1))
 above-all low high waited h _ is = tt
 
@@ -97,51 +99,67 @@ above-all low high waited h _ is = tt
 abbrev Reaches : Ticks → Knowledge → Outcome → Type 0
 Reaches now known o = AsksAnew now known o.knows o.outputs
 
-one-waits : (now : Ticks) (known knows : Knowledge) (outs : List Output) (output : Output) → no-message output → WaitsOn now known knows outs → WaitsOn now known knows (outs ++ output ∷ [])
+one-waits : (now : Ticks) (known knows : Knowledge) (outs : List Output) (output : Output) → no-message output
+    → WaitsOn now known knows outs → WaitsOn now known knows (outs ++ output ∷ [])
 one-waits now known knows outs output other (Same is) = Same is
 one-waits now known knows outs output other (Nothing is) = Nothing is
-one-waits now known knows outs output other (New waited is later counts sent span asks) = New waited is later counts sent span (All-push (AsksFor waited) outs output asks (asks-other waited output other))
+one-waits now known knows outs output other (New waited is later counts sent span asks) =
+    New waited is later counts sent span (All-push (AsksFor waited) outs output asks (asks-other waited output other))
 
-one-more : (now : Ticks) (known knows : Knowledge) (outs : List Output) (output : Output) → no-message output → AsksAnew now known knows outs → AsksAnew now known knows (outs ++ output ∷ [])
+one-more : (now : Ticks) (known knows : Knowledge) (outs : List Output) (output : Output) → no-message output
+    → AsksAnew now known knows outs → AsksAnew now known knows (outs ++ output ∷ [])
 one-more now known knows outs output other r = record {
   who = r.who;
   incarnation = r.incarnation;
   last = r.last;
-  sends = All-push (SendsBetween known.sequence knows.sequence) outs output r.sends (between-other known.sequence knows.sequence output other);
+  sends = All-push (SendsBetween known.sequence knows.sequence) outs output r.sends
+      (between-other known.sequence knows.sequence output other);
   waits = one-waits now known knows outs output other r.waits;
 }
 
 -- what it knows beside its questions doesn't count
-same-waits : (now : Ticks) (known knows after : Knowledge) (outs : List Output) → after.sequence ≡ knows.sequence → after.waited ≡ knows.waited → WaitsOn now known knows outs → WaitsOn now known after outs
+same-waits : (now : Ticks) (known knows after : Knowledge) (outs : List Output) → after.sequence ≡ knows.sequence
+    → after.waited ≡ knows.waited → WaitsOn now known knows outs → WaitsOn now known after outs
 same-waits now known knows after outs last waited (Same is) = Same (waited ∙ is)
 same-waits now known knows after outs last waited (Nothing is) = Nothing (waited ∙ is)
-same-waits now known knows after outs last waited (New w is later counts sent span asks) = New w (waited ∙ is) later (omega (arith, counts, last)) sent span asks
+same-waits now known knows after outs last waited (New w is later counts sent span asks) =
+    New w (waited ∙ is) later (omega (arith, counts, last)) sent span asks
 
-goes-on : (now : Ticks) (known knows after : Knowledge) (outs : List Output) → after.who ≡ knows.who → after.incarnation ≡ knows.incarnation → after.sequence ≡ knows.sequence → after.waited ≡ knows.waited → AsksAnew now known knows outs → AsksAnew now known after outs
+goes-on : (now : Ticks) (known knows after : Knowledge) (outs : List Output) → after.who ≡ knows.who
+    → after.incarnation ≡ knows.incarnation → after.sequence ≡ knows.sequence → after.waited ≡ knows.waited
+    → AsksAnew now known knows outs → AsksAnew now known after outs
 goes-on now known knows after outs who incarnation last waited r = record {
   who = who ∙ r.who;
   incarnation = incarnation ∙ r.incarnation;
   last = omega (arith, r.last, last);
-  sends = all-of (SendsBetween known.sequence knows.sequence) (SendsBetween known.sequence after.sequence) outs (between-later known.sequence knows.sequence after.sequence (omega (arith, last))) r.sends;
+  sends = all-of (SendsBetween known.sequence knows.sequence) (SendsBetween known.sequence after.sequence) outs
+      (between-later known.sequence knows.sequence after.sequence (omega (arith, last))) r.sends;
   waits = same-waits now known knows after outs last waited r.waits;
 }
 
 -- it waits for nothing any more
-rests : (now : Ticks) (known knows after : Knowledge) (outs : List Output) → after.who ≡ knows.who → after.incarnation ≡ knows.incarnation → after.sequence ≡ knows.sequence → after.waited ≡ None → AsksAnew now known knows outs → AsksAnew now known after outs
+rests : (now : Ticks) (known knows after : Knowledge) (outs : List Output) → after.who ≡ knows.who
+    → after.incarnation ≡ knows.incarnation → after.sequence ≡ knows.sequence → after.waited ≡ None
+    → AsksAnew now known knows outs → AsksAnew now known after outs
 rests now known knows after outs who incarnation last waited r = record {
   who = who ∙ r.who;
   incarnation = incarnation ∙ r.incarnation;
   last = omega (arith, r.last, last);
-  sends = all-of (SendsBetween known.sequence knows.sequence) (SendsBetween known.sequence after.sequence) outs (between-later known.sequence knows.sequence after.sequence (omega (arith, last))) r.sends;
+  sends = all-of (SendsBetween known.sequence knows.sequence) (SendsBetween known.sequence after.sequence) outs
+      (between-later known.sequence knows.sequence after.sequence (omega (arith, last))) r.sends;
   waits = Nothing waited;
 }
 
 -- a message under the next number
-next-sends : (known knows : Knowledge) (outs : List Output) (body : Body) → known.sequence ≤ knows.sequence → IsQuestion body → All (SendsBetween known.sequence knows.sequence) outs
-    → All (SendsBetween known.sequence (knows.sequence + 1)) (outs ++ outputs.Send targets.Store (knows.sequence + 1) body ∷ [])
+next-sends : (known knows : Knowledge) (outs : List Output) (body : Body) → known.sequence ≤ knows.sequence
+    → IsQuestion body → All (SendsBetween known.sequence knows.sequence) outs
+    → All (SendsBetween known.sequence (knows.sequence + 1))
+    (outs ++ outputs.Send targets.Store (knows.sequence + 1) body ∷ [])
 next-sends known knows outs body last span all =
-    All-push (SendsBetween known.sequence (knows.sequence + 1)) outs (outputs.Send targets.Store (knows.sequence + 1) body)
-    (all-of (SendsBetween known.sequence knows.sequence) (SendsBetween known.sequence (knows.sequence + 1)) outs (between-later known.sequence knows.sequence (knows.sequence + 1) (omega arith)) all)
+    All-push (SendsBetween known.sequence (knows.sequence + 1)) outs
+    (outputs.Send targets.Store (knows.sequence + 1) body)
+    (all-of (SendsBetween known.sequence knows.sequence) (SendsBetween known.sequence (knows.sequence + 1)) outs
+    (between-later known.sequence knows.sequence (knows.sequence + 1) (omega arith)) all)
     (omega (arith, last), omega arith, span)
 
 next-waits : (now : Ticks) (known knows : Knowledge) (outs : List Output) (body : Body) → WaitsOn now known knows outs
@@ -149,9 +167,12 @@ next-waits : (now : Ticks) (known knows : Knowledge) (outs : List Output) (body 
 next-waits now known knows outs body (Same is) = Same is
 next-waits now known knows outs body (Nothing is) = Nothing is
 next-waits now known knows outs body (New waited is later counts sent span asks) =
-    New waited is later (omega (arith, counts)) sent span (All-push (AsksFor waited) outs (outputs.Send targets.Store (knows.sequence + 1) body) asks (λ e. absurd (omega (arith, e, counts))))
+    New waited is later (omega (arith, counts)) sent span
+    (All-push (AsksFor waited) outs (outputs.Send targets.Store (knows.sequence + 1) body) asks
+    (λ e. absurd (omega (arith, e, counts))))
 
-send-reaches : (now : Ticks) (known : Knowledge) (body : Body) (o : Outcome) → IsQuestion body → Reaches now known o → Reaches now known (sending body o)
+send-reaches : (now : Ticks) (known : Knowledge) (body : Body) (o : Outcome) → IsQuestion body
+    → Reaches now known o → Reaches now known (sending body o)
 send-reaches now known body o span r = record {
   who = r.who;
   incarnation = r.incarnation;
@@ -161,13 +182,22 @@ send-reaches now known body o span r = record {
 }
 
 is-lease : (settings : Config) → IsLeaseSpan (lease_span settings).0
-is-lease settings = record { least = omega (arith, settings.ttl_range.0); greatest = omega (arith, settings.ttl_range.1) }
+is-lease settings =
+    record { least = omega (arith, settings.ttl_range.0); greatest = omega (arith, settings.ttl_range.1) }
 
 -- a question whose answer is waited for
-ask-reaches : (now : Ticks) (known : Knowledge) (question : Question) (until : Ticks) (body : Body) (o : Outcome) → IsQuestion body → (asks_lease question ≡ true → span_asked body ≡ (lease_span o.knows.settings).0)
-    → (asks_sync question ≡ true → IsPutByBody question body) → Reaches now known o → Reaches now known (asking now question until body o)
+ask-reaches : (now : Ticks) (known : Knowledge) (question : Question) (until : Ticks) (body : Body) (o : Outcome)
+    → IsQuestion body → (asks_lease question ≡ true → span_asked body ≡ (lease_span o.knows.settings).0)
+    → (asks_sync question ≡ true → IsPutByBody question body) → Reaches now known o
+    → Reaches now known (asking now question until body o)
 ask-reaches now known question until body o span asks puts r =
-    let waited : PendingQuestion = record { question = question; sequence = o.knows.sequence + 1; until = until; ttl = lease_span o.knows.settings; sent = now } in
+    let waited : PendingQuestion = record {
+      question = question;
+      sequence = o.knows.sequence + 1;
+      until = until;
+      ttl = lease_span o.knows.settings;
+      sent = now;
+    } in
     record {
       who = r.who;
       incarnation = r.incarnation;
@@ -175,30 +205,37 @@ ask-reaches now known question until body o span asks puts r =
       sends = next-sends known o.knows o.outputs body r.last span r.sends;
       waits = New waited refl (omega (arith, r.last)) (omega arith) refl (is-lease o.knows.settings)
           (All-push (AsksFor waited) o.outputs (outputs.Send targets.Store (o.knows.sequence + 1) body)
-          (all-of (SendsBetween known.sequence o.knows.sequence) (AsksFor waited) o.outputs (above-all known.sequence o.knows.sequence waited (omega arith)) r.sends)
+          (all-of (SendsBetween known.sequence o.knows.sequence) (AsksFor waited) o.outputs
+          (above-all known.sequence o.knows.sequence waited (omega arith)) r.sends)
           (λ _. record { lease = asks; write = puts }));
     }
 
-disarms : (now : Ticks) (known knows : Knowledge) (outs : List Output) (deadline : Option Ticks) → AsksAnew now known knows outs → AsksAnew now known knows (disarmed deadline outs)
+disarms : (now : Ticks) (known knows : Knowledge) (outs : List Output) (deadline : Option Ticks)
+    → AsksAnew now known knows outs → AsksAnew now known knows (disarmed deadline outs)
 disarms now known knows outs (Some deadline) r = one-more now known knows outs outputs.Disarmed tt r
 disarms now known knows outs None r = r
 
-feeds : (now : Ticks) (known knows : Knowledge) (outs : List Output) (until : Option Ticks) → AsksAnew now known knows outs → AsksAnew now known knows (fed_until until outs)
+feeds : (now : Ticks) (known knows : Knowledge) (outs : List Output) (until : Option Ticks)
+    → AsksAnew now known knows outs → AsksAnew now known knows (fed_until until outs)
 feeds now known knows outs (Some until) r = one-more now known knows outs (outputs.Fed until) tt r
 feeds now known knows outs None r = r
 
-arms-it : (now : Ticks) (known knows : Knowledge) (outs : List Output) (until : Option Ticks) → AsksAnew now known knows outs → AsksAnew now known knows (armed until outs)
+arms-it : (now : Ticks) (known knows : Knowledge) (outs : List Output) (until : Option Ticks)
+    → AsksAnew now known knows outs → AsksAnew now known knows (armed until outs)
 arms-it now known knows outs (Some until) r = one-more now known knows outs (outputs.Armed until) tt r
 arms-it now known knows outs None r = r
 
 disarm-reaches : (now : Ticks) (known : Knowledge) (o : Outcome) → Reaches now known o → Reaches now known (disarming o)
 disarm-reaches now known o r = disarms now known o.knows o.outputs o.machine.watchdog.deadline r
 
-ended-reaches : (now : Ticks) (known : Knowledge) (why : Why) (held : ℕ) (o : Outcome) → Reaches now known o → Reaches now known (has_ended why held o)
-ended-reaches now known HandOver held o r = send-reaches now known (bodies.Request (txns.Release held)) (disarming o) tt (disarm-reaches now known o r)
+ended-reaches : (now : Ticks) (known : Knowledge) (why : Why) (held : ℕ) (o : Outcome) → Reaches now known o
+    → Reaches now known (has_ended why held o)
+ended-reaches now known HandOver held o r =
+    send-reaches now known (bodies.Request (txns.Release held)) (disarming o) tt (disarm-reaches now known o r)
 ended-reaches now known Lost held o r = disarm-reaches now known o r
 
-before-reaches : (now : Ticks) (known : Knowledge) (o : Outcome) → Reaches now known o → Reaches now known (reconciled now o)
+before-reaches : (now : Ticks) (known : Knowledge) (o : Outcome) → Reaches now known o
+    → Reaches now known (reconciled now o)
 before-reaches now known o r = before-by (Reaches now known) now o (record {
   kept = λ _. r;
   leader = λ held _ _. goes-on now known o.knows _ _ refl refl refl refl (disarm-reaches now known o r);
@@ -213,26 +250,38 @@ is-spanned : (settings : Config) → 0 < (lease_span settings).0
 is-spanned settings = omega (arith, settings.ttl_range.0)
 
 -- the race is judged
-judged-reaches : (now : Ticks) (known : Knowledge) (o : Outcome) → Reaches now known o → Reaches now known (judged now o)
+judged-reaches : (now : Ticks) (known : Knowledge) (o : Outcome) → Reaches now known o
+    → Reaches now known (judged now o)
 judged-reaches now known o r =
     let quiet : Reaches now known (waiting_no_more o) = rests now known o.knows _ o.outputs refl refl refl refl r in
     judged-by (Reaches now known) now o
-    (ask-reaches now known Creating (seconds_after now o.knows.settings.retry_timeout) _ (waiting_no_more o) (is-spanned o.knows.settings) (λ _. refl) (λ e. absurd (both e)) quiet)
-    (λ bar. send-reaches now known _ (record (waiting_no_more o) { outputs = with_output (outputs.Note (agent_notes.DoesNotRace bar)) o.outputs }) tt (one-more now known (waiting_no_more o).knows o.outputs (outputs.Note (agent_notes.DoesNotRace bar)) tt quiet))
+    (ask-reaches now known Creating (seconds_after now o.knows.settings.retry_timeout) _ (waiting_no_more o)
+    (is-spanned o.knows.settings) (λ _. refl) (λ e. absurd (both e)) quiet)
+    (λ bar. send-reaches now known _
+    (record (waiting_no_more o) { outputs = with_output (outputs.Note (agent_notes.DoesNotRace bar)) o.outputs }) tt
+    (one-more now known (waiting_no_more o).knows o.outputs (outputs.Note (agent_notes.DoesNotRace bar)) tt quiet))
 
 -- the asks to other members, all under the next number
-ask-sends : (low high : ℕ) (who : Who) (sequence : ℕ) (member : Option MemberId) (outs : List Output) → low < sequence → sequence ≤ high → All (SendsBetween low high) outs → All (SendsBetween low high) (asking_one who sequence member outs)
+ask-sends : (low high : ℕ) (who : Who) (sequence : ℕ) (member : Option MemberId) (outs : List Output)
+    → low < sequence → sequence ≤ high → All (SendsBetween low high) outs
+    → All (SendsBetween low high) (asking_one who sequence member outs)
 ask-sends low high who sequence None outs later less all = all
 ask-sends low high who sequence (Some member) outs later less all =
-    if-cases (λ (l : List Output). All (SendsBetween low high) l) (is_other who member) (with_output (outputs.Send (targets.Member member) sequence bodies.Ask) outs) outs
-    (λ _. All-push (SendsBetween low high) outs (outputs.Send (targets.Member member) sequence bodies.Ask) all (later, less, tt)) (λ _. all)
+    if-cases (λ (l : List Output). All (SendsBetween low high) l) (is_other who member)
+    (with_output (outputs.Send (targets.Member member) sequence bodies.Ask) outs) outs
+    (λ _. All-push (SendsBetween low high) outs (outputs.Send (targets.Member member) sequence bodies.Ask) all
+    (later, less, tt))
+    (λ _. all)
 
-asks-send : (low high : ℕ) (who : Who) (sequence count : ℕ) (outs : List Output) → low < sequence → sequence ≤ high → All (SendsBetween low high) outs → All (SendsBetween low high) (asking_first who sequence count outs)
+asks-send : (low high : ℕ) (who : Who) (sequence count : ℕ) (outs : List Output) → low < sequence → sequence ≤ high
+    → All (SendsBetween low high) outs → All (SendsBetween low high) (asking_first who sequence count outs)
 asks-send low high who sequence zero outs later less all = all
-asks-send low high who sequence (suc count) outs later less all = ask-sends low high who sequence (member_of count) (asking_first who sequence count outs) later less (asks-send low high who sequence count outs later less all)
+asks-send low high who sequence (suc count) outs later less all = ask-sends low high who sequence (member_of count)
+    (asking_first who sequence count outs) later less (asks-send low high who sequence count outs later less all)
 
 -- they ask for no lease, and for no write
-asks-none : (waited : PendingQuestion) (output : Output) → asks_lease waited.question ≡ false → asks_sync waited.question ≡ false → AsksFor waited output
+asks-none : (waited : PendingQuestion) (output : Output) → asks_lease waited.question ≡ false
+    → asks_sync waited.question ≡ false → AsksFor waited output
 asks-none waited (outputs.Send to sequence body) lease write = λ _. record {
   lease = λ leasing. absurd (both (sym lease ∙ leasing));
   write = λ writing. absurd (both (sym write ∙ writing));
@@ -240,101 +289,161 @@ asks-none waited (outputs.Send to sequence body) lease write = λ _. record {
 asks-none waited _ lease write = tt
 
 -- they are asked under one number more, and their answers are waited for
-peers-reach : (now : Ticks) (known : Knowledge) (question : Question) (o : Outcome) (outs : List Output) → asks_lease question ≡ false → asks_sync question ≡ false
-    → (All (SendsBetween known.sequence (o.knows.sequence + 1)) o.outputs → All (SendsBetween known.sequence (o.knows.sequence + 1)) outs) → Reaches now known o
+peers-reach : (now : Ticks) (known : Knowledge) (question : Question) (o : Outcome) (outs : List Output)
+    → asks_lease question ≡ false → asks_sync question ≡ false
+    → (All (SendsBetween known.sequence (o.knows.sequence + 1)) o.outputs →
+    All (SendsBetween known.sequence (o.knows.sequence + 1)) outs)
+    → Reaches now known o
     → AsksAnew now known (waiting now question (answers_until now) (counted o.knows)) outs
 peers-reach now known question o outs lease write more r =
-    let waited : PendingQuestion = record { question = question; sequence = o.knows.sequence + 1; until = answers_until now; ttl = lease_span o.knows.settings; sent = now } in
+    let waited : PendingQuestion = record {
+      question = question;
+      sequence = o.knows.sequence + 1;
+      until = answers_until now;
+      ttl = lease_span o.knows.settings;
+      sent = now;
+    } in
     record {
       who = r.who;
       incarnation = r.incarnation;
       last = omega (arith, r.last);
-      sends = more (all-of (SendsBetween known.sequence o.knows.sequence) (SendsBetween known.sequence (o.knows.sequence + 1)) o.outputs (between-later known.sequence o.knows.sequence (o.knows.sequence + 1) (omega arith)) r.sends);
-      waits = New waited refl (omega (arith, r.last)) (omega arith) refl (is-lease o.knows.settings) (λ k d h. asks-none waited _ lease write);
+      sends = more
+          (all-of (SendsBetween known.sequence o.knows.sequence) (SendsBetween known.sequence (o.knows.sequence + 1))
+          o.outputs (between-later known.sequence o.knows.sequence (o.knows.sequence + 1) (omega arith)) r.sends);
+      waits = New waited refl (omega (arith, r.last)) (omega arith) refl (is-lease o.knows.settings)
+          (λ k d h. asks-none waited _ lease write);
     }
 
-others-reach : (now : Ticks) (known : Knowledge) (o : Outcome) → Reaches now known o → Reaches now known (asking_others now o)
+others-reach : (now : Ticks) (known : Knowledge) (o : Outcome) → Reaches now known o
+    → Reaches now known (asking_others now o)
 others-reach now known o r =
     peers-reach now known ComparingPositions o (asking_all o.knows.who (o.knows.sequence + 1) o.outputs) refl refl
-    (asks-send known.sequence (o.knows.sequence + 1) o.knows.who (o.knows.sequence + 1) MOST_MEMBERS o.outputs (omega (arith, r.last)) (omega arith)) r
+    (asks-send known.sequence (o.knows.sequence + 1) o.knows.who (o.knows.sequence + 1) MOST_MEMBERS o.outputs
+    (omega (arith, r.last)) (omega arith))
+    r
 
 -- the asks of a leader that is to hand over have numbers in this span: to the candidate alone, or to all others
-whom-send : (low high : ℕ) (who : Who) (candidate : Option MemberId) (sequence : ℕ) (outs : List Output) → low < sequence → sequence ≤ high → All (SendsBetween low high) outs → All (SendsBetween low high) (asking_whom who candidate sequence outs)
-whom-send low high who None sequence outs later less all = asks-send low high who sequence MOST_MEMBERS outs later less all
-whom-send low high who (Some candidate) sequence outs later less all = ask-sends low high who sequence (Some candidate) outs later less all
+whom-send : (low high : ℕ) (who : Who) (candidate : Option MemberId) (sequence : ℕ) (outs : List Output)
+    → low < sequence → sequence ≤ high → All (SendsBetween low high) outs
+    → All (SendsBetween low high) (asking_whom who candidate sequence outs)
+whom-send low high who None sequence outs later less all =
+    asks-send low high who sequence MOST_MEMBERS outs later less all
+whom-send low high who (Some candidate) sequence outs later less all =
+    ask-sends low high who sequence (Some candidate) outs later less all
 
-check-reaches : (now : Ticks) (known : Knowledge) (candidate : Option MemberId) (o : Outcome) → Reaches now known o → Reaches now known (checking now candidate o)
+check-reaches : (now : Ticks) (known : Knowledge) (candidate : Option MemberId) (o : Outcome)
+    → Reaches now known o → Reaches now known (checking now candidate o)
 check-reaches now known candidate o r =
-    peers-reach now known FindingCandidate o (asking_whom o.knows.who candidate (o.knows.sequence + 1) o.outputs) refl refl
-    (whom-send known.sequence (o.knows.sequence + 1) o.knows.who candidate (o.knows.sequence + 1) o.outputs (omega (arith, r.last)) (omega arith)) r
+    peers-reach now known FindingCandidate o
+    (asking_whom o.knows.who candidate (o.knows.sequence + 1) o.outputs) refl refl
+    (whom-send known.sequence (o.knows.sequence + 1) o.knows.who candidate (o.knows.sequence + 1) o.outputs
+    (omega (arith, r.last)) (omega arith))
+    r
 
 -- a failover key is to be removed
-drop-reaches : (now : Ticks) (known : Knowledge) (revision : ℕ) (o : Outcome) → Reaches now known o → Reaches now known (dropping revision o)
+drop-reaches : (now : Ticks) (known : Knowledge) (revision : ℕ) (o : Outcome) → Reaches now known o
+    → Reaches now known (dropping revision o)
 drop-reaches now known revision o r = send-reaches now known (bodies.Request (txns.DropFailover revision)) o tt r
 
 -- a handover is judged
-handover-reaches : (now : Ticks) (known : Knowledge) (revision : ℕ) (o : Outcome) → Reaches now known o → HandoverRows (Reaches now known) now revision o
+handover-reaches : (now : Ticks) (known : Knowledge) (revision : ℕ) (o : Outcome) → Reaches now known o
+    → HandoverRows (Reaches now known) now revision o
 handover-reaches now known revision o r =
     let quiet : Reaches now known (waiting_no_more o) = rests now known o.knows _ o.outputs refl refl refl refl r in
     record {
       kept = quiet;
       clears = λ compared. drop-reaches now known compared (waiting_no_more o) quiet;
-      hands = λ candidate. goes-on now known (waiting_no_more o).knows (hands_over now revision candidate (waiting_no_more o)).knows (with_output outputs.ShutDown (with_output (outputs.Note (agent_notes.HandsOver candidate)) o.outputs)) refl refl refl refl
-          (one-more now known (waiting_no_more o).knows (with_output (outputs.Note (agent_notes.HandsOver candidate)) o.outputs) outputs.ShutDown tt (one-more now known (waiting_no_more o).knows o.outputs (outputs.Note (agent_notes.HandsOver candidate)) tt quiet));
+      hands = λ candidate.
+          goes-on now known (waiting_no_more o).knows (hands_over now revision candidate (waiting_no_more o)).knows
+          (with_output outputs.ShutDown (with_output (outputs.Note (agent_notes.HandsOver candidate)) o.outputs))
+          refl refl refl refl
+          (one-more now known (waiting_no_more o).knows
+          (with_output (outputs.Note (agent_notes.HandsOver candidate)) o.outputs) outputs.ShutDown tt
+          (one-more now known (waiting_no_more o).knows o.outputs
+          (outputs.Note (agent_notes.HandsOver candidate)) tt quiet));
     }
 
 -- operators are answered
-answer-reaches : (now : Ticks) (known : Knowledge) (request : ℕ) (told : Told) (o : Outcome) → Reaches now known o → Reaches now known (answering request told o)
-answer-reaches now known request told o r = goes-on now known o.knows (answering request told o).knows _ refl refl refl refl (one-more now known o.knows o.outputs (outputs.Told request told) tt r)
+answer-reaches : (now : Ticks) (known : Knowledge) (request : ℕ) (told : Told) (o : Outcome)
+    → Reaches now known o → Reaches now known (answering request told o)
+answer-reaches now known request told o r = goes-on now known o.knows (answering request told o).knows _ refl
+    refl refl refl (one-more now known o.knows o.outputs (outputs.Told request told) tt r)
 
 reply-reaches : (now : Ticks) (known : Knowledge) (o : Outcome) → Reaches now known o → ReplyRows (Reaches now known) o
 reply-reaches now known o r = record { kept = r; answers = λ request told. answer-reaches now known request told o r }
 
 -- a promotion that is postponed
-postpone-reaches : (now : Ticks) (known : Knowledge) (held : ℕ) (o : Outcome) → Reaches now known o → Reaches now known (postpones held o)
-postpone-reaches now known held o r = one-more now known o.knows (disarmed o.machine.watchdog.deadline o.outputs) (outputs.Note agent_notes.PostponesPromotion) tt (disarm-reaches now known o r)
+postpone-reaches : (now : Ticks) (known : Knowledge) (held : ℕ) (o : Outcome) → Reaches now known o
+    → Reaches now known (postpones held o)
+postpone-reaches now known held o r = one-more now known o.knows (disarmed o.machine.watchdog.deadline o.outputs)
+    (outputs.Note agent_notes.PostponesPromotion) tt (disarm-reaches now known o r)
 
 -- requests to other members, all under one number
-request-sends : (low high : ℕ) (members : MemberSet) (sequence : ℕ) (ttl : Ticks) (member : Option MemberId) (outs : List Output) → low < sequence → sequence ≤ high → All (SendsBetween low high) outs → All (SendsBetween low high) (requesting_one members sequence ttl member outs)
+request-sends : (low high : ℕ) (members : MemberSet) (sequence : ℕ) (ttl : Ticks) (member : Option MemberId)
+    (outs : List Output) → low < sequence → sequence ≤ high → All (SendsBetween low high) outs
+    → All (SendsBetween low high) (requesting_one members sequence ttl member outs)
 request-sends low high members sequence ttl None outs later less all = all
 request-sends low high members sequence ttl (Some member) outs later less all =
-    if-cases (λ (l : List Output). All (SendsBetween low high) l) (has members member.number) (with_output (outputs.Send (targets.Member member) sequence (bodies.FailsafeRequest ttl)) outs) outs
-    (λ _. All-push (SendsBetween low high) outs (outputs.Send (targets.Member member) sequence (bodies.FailsafeRequest ttl)) all (later, less, tt)) (λ _. all)
+    if-cases (λ (l : List Output). All (SendsBetween low high) l) (has members member.number)
+    (with_output (outputs.Send (targets.Member member) sequence (bodies.FailsafeRequest ttl)) outs) outs
+    (λ _. All-push (SendsBetween low high) outs
+    (outputs.Send (targets.Member member) sequence (bodies.FailsafeRequest ttl)) all (later, less, tt))
+    (λ _. all)
 
-requests-send : (low high : ℕ) (members : MemberSet) (sequence : ℕ) (ttl : Ticks) (count : ℕ) (outs : List Output) → low < sequence → sequence ≤ high → All (SendsBetween low high) outs → All (SendsBetween low high) (requesting_first members sequence ttl count outs)
+requests-send : (low high : ℕ) (members : MemberSet) (sequence : ℕ) (ttl : Ticks) (count : ℕ) (outs : List Output)
+    → low < sequence → sequence ≤ high → All (SendsBetween low high) outs
+    → All (SendsBetween low high) (requesting_first members sequence ttl count outs)
 requests-send low high members sequence ttl zero outs later less all = all
 requests-send low high members sequence ttl (suc count) outs later less all =
-    request-sends low high members sequence ttl (member_of count) (requesting_first members sequence ttl count outs) later less (requests-send low high members sequence ttl count outs later less all)
+    request-sends low high members sequence ttl (member_of count) (requesting_first members sequence ttl count outs)
+    later less (requests-send low high members sequence ttl count outs later less all)
 
-seek-reaches : (now : Ticks) (known : Knowledge) (members : MemberSet) (o : Outcome) → Reaches now known o → Reaches now known (asking_to_stay now members o)
+seek-reaches : (now : Ticks) (known : Knowledge) (members : MemberSet) (o : Outcome) → Reaches now known o
+    → Reaches now known (asking_to_stay now members o)
 seek-reaches now known members o r =
     let outs : List Output = requesting_all members (o.knows.sequence + 1) (lease_span o.knows.settings) o.outputs in
-    goes-on now known (waiting now StayingPrimary (answers_until now) (counted o.knows)) (asking_to_stay now members o).knows outs refl refl refl refl
+    goes-on now known (waiting now StayingPrimary (answers_until now) (counted o.knows))
+    (asking_to_stay now members o).knows outs refl refl refl refl
     (peers-reach now known StayingPrimary o outs refl refl
-    (requests-send known.sequence (o.knows.sequence + 1) members (o.knows.sequence + 1) (lease_span o.knows.settings) MOST_MEMBERS o.outputs (omega (arith, r.last)) (omega arith)) r)
+    (requests-send known.sequence (o.knows.sequence + 1) members (o.knows.sequence + 1)
+    (lease_span o.knows.settings) MOST_MEMBERS o.outputs (omega (arith, r.last)) (omega arith))
+    r)
 
 -- a leader stays primary
-stay-fed : (now : Ticks) (known knows : Knowledge) (outs : List Output) (until : Option Ticks) (members : MemberSet) (sequence : ℕ) (since : Ticks) → AsksAnew now known knows outs → AsksAnew now known knows (fed_by_failsafe until members sequence since outs)
+stay-fed : (now : Ticks) (known knows : Knowledge) (outs : List Output) (until : Option Ticks)
+    (members : MemberSet) (sequence : ℕ) (since : Ticks) → AsksAnew now known knows outs
+    → AsksAnew now known knows (fed_by_failsafe until members sequence since outs)
 stay-fed now known knows outs None members sequence since r = r
-stay-fed now known knows outs (Some until) members sequence since r = one-more now known knows outs (outputs.FedByFailsafe until members sequence since) tt r
+stay-fed now known knows outs (Some until) members sequence since r =
+    one-more now known knows outs (outputs.FedByFailsafe until members sequence since) tt r
 
-stay-reaches : (now ttl : Ticks) (known : Knowledge) (sequence : ℕ) (since : Ticks) (o : Outcome) → Reaches now known o → Reaches now known (stays now ttl sequence since o)
+stay-reaches : (now ttl : Ticks) (known : Knowledge) (sequence : ℕ) (since : Ticks) (o : Outcome)
+    → Reaches now known o → Reaches now known (stays now ttl sequence since o)
 stay-reaches now ttl known sequence since o r =
     let until : Option Ticks = deadline_after now ttl o.machine.watchdog in
     let fed : List Output = fed_by_failsafe until o.knows.failsafe.members sequence since o.outputs in
-    rests now known o.knows (stays now ttl sequence since o).knows (with_output outputs.StaysByFailsafe fed) refl refl refl refl
-    (one-more now known o.knows fed outputs.StaysByFailsafe tt (stay-fed now known o.knows o.outputs until o.knows.failsafe.members sequence since r))
+    rests now known o.knows (stays now ttl sequence since o).knows
+    (with_output outputs.StaysByFailsafe fed) refl refl refl refl
+    (one-more now known o.knows fed outputs.StaysByFailsafe tt
+    (stay-fed now known o.knows o.outputs until o.knows.failsafe.members sequence since r))
 
-overdue-reaches : (now : Ticks) (known : Knowledge) (o : Outcome) → Reaches now known o → Reaches now known (overdue now o)
+overdue-reaches : (now : Ticks) (known : Knowledge) (o : Outcome) → Reaches now known o
+    → Reaches now known (overdue now o)
 overdue-reaches now known o r =
-    let quiet : AsksAnew now known (let none : Knowledge = record o.knows { waited = None } in none) o.outputs = rests now known o.knows _ o.outputs refl refl refl refl r in
+    let quiet : AsksAnew now known (let none : Knowledge = record o.knows { waited = None } in none) o.outputs =
+    rests now known o.knows _ o.outputs refl refl refl refl r in
     overdue-by (Reaches now known) now o (record {
       kept = r;
       quiet = quiet;
       leader = λ held _. one-more now known _ o.outputs _ tt quiet;
       seeks = λ held _. seek-reaches now known (others_known o.knows) (waiting_no_more o) quiet;
-      alone = λ held _. let begun : Outcome = record (waiting_no_more o) { knows = record (waiting_no_more o).knows { failsafe = asked_nobody (others_known o.knows) now } } in
-          stay-reaches now (lease_span o.knows.settings) known o.knows.sequence now begun (goes-on now known (waiting_no_more o).knows begun.knows o.outputs refl refl refl refl quiet);
+      alone = λ held _. let begun : Outcome =
+          record (waiting_no_more o) {
+            knows =
+                record (waiting_no_more o).knows { failsafe = asked_nobody (others_known o.knows) now };
+          } in
+          stay-reaches now (lease_span o.knows.settings) known o.knows.sequence now begun
+          (goes-on now known (waiting_no_more o).knows begun.knows o.outputs refl refl refl refl quiet);
       silent = λ held _. one-more now known _ o.outputs _ tt quiet;
       unleased = λ _. one-more now known _ o.outputs _ tt quiet;
       judges = λ _. judged-reaches now known o r;
@@ -346,18 +455,26 @@ turn-reaches : (now : Ticks) (known : Knowledge) (o : Outcome) → Reaches now k
 turn-reaches now known o r =
     let noted : Outcome = record o { knows = turn_noted now o.knows } in
     let begun : Reaches now known noted = goes-on now known o.knows noted.knows o.outputs refl refl refl refl r in
-    turn-by (Reaches now known) now o (record { kept = r; quiet = begun; reads = λ _. ask-reaches now known Reading (seconds_after now noted.knows.settings.retry_timeout) bodies.Read noted tt (λ e. absurd (both e)) (λ e. absurd (both e)) begun })
+    turn-by (Reaches now known) now o (record {
+      kept = r;
+      quiet = begun;
+      reads = λ _. ask-reaches now known Reading (seconds_after now noted.knows.settings.retry_timeout)
+          bodies.Read noted tt (λ e. absurd (both e)) (λ e. absurd (both e)) begun;
+    })
 
 wake-reaches : (now : Ticks) (known : Knowledge) (o : Outcome) → Reaches now known o → Reaches now known (woken now o)
 wake-reaches now known o r = let first = before-reaches now known o r in
     let told : Outcome = given_up now (reconciled now o) in
     wake-by (Reaches now known) now o first
-    (turn-reaches now known (overdue now told) (overdue-reaches now known told (given-up-by (Reaches now known) now (reconciled now o) (reply-reaches now known (reconciled now o) first))))
+    (turn-reaches now known (overdue now told)
+    (overdue-reaches now known told
+    (given-up-by (Reaches now known) now (reconciled now o) (reply-reaches now known (reconciled now o) first))))
 
 touch-reaches : (now : Ticks) (known : Knowledge) (o : Outcome) → Reaches now known o → Reaches now known (touching o)
 touch-reaches now known o r = send-reaches now known _ o tt r
 
-follow-reaches : (now : Ticks) (known : Knowledge) (leader : MemberId) (o : Outcome) → Reaches now known o → Reaches now known (follows now leader o)
+follow-reaches : (now : Ticks) (known : Knowledge) (leader : MemberId) (o : Outcome) → Reaches now known o
+    → Reaches now known (follows now leader o)
 follow-reaches now known leader o r = let x : Outcome = led_by_another o in
     let may : Bool = may_start_behind o.knows in
     let row : Outcome = follow_row may now leader o.machine.server.state x in
@@ -370,34 +487,45 @@ follow-reaches now known leader o r = let x : Outcome = led_by_another o in
     repaired-by (Reaches now known) leader (repair_of o.knows.settings leader o.machine.server) (touching row) told
     (λ repair. one-more now known (touching row).knows (touching row).outputs (outputs.Repair leader repair) tt told)
 
-free-reaches : (now : Ticks) (known : Knowledge) (o : Outcome) → Reaches now known o → Reaches now known (finds_free now o)
+free-reaches : (now : Ticks) (known : Knowledge) (o : Outcome) → Reaches now known o
+    → Reaches now known (finds_free now o)
 free-reaches now known o r = let x : Outcome = record o { role = Follower } in
-    let alone : Reaches now known (unheard x) = goes-on now known o.knows (unheard x).knows o.outputs refl refl refl refl r in
+    let alone : Reaches now known (unheard x) =
+    goes-on now known o.knows (unheard x).knows o.outputs refl refl refl refl r in
     free-by (Reaches now known) now x (record {
-      starts = touch-reaches now known (starting_replica now None x) (one-more now known o.knows o.outputs (outputs.StartReplica None) tt r);
+      starts = touch-reaches now known (starting_replica now None x)
+          (one-more now known o.knows o.outputs (outputs.StartReplica None) tt r);
       touches = touch-reaches now known x r;
-      bars = λ bar. touch-reaches now known (record x { outputs = with_output (outputs.Note (agent_notes.DoesNotRace bar)) x.outputs }) (one-more now known o.knows o.outputs (outputs.Note (agent_notes.DoesNotRace bar)) tt r);
+      bars = λ bar. touch-reaches now known (record x {
+        outputs = with_output (outputs.Note (agent_notes.DoesNotRace bar)) x.outputs;
+      }) (one-more now known o.knows o.outputs (outputs.Note (agent_notes.DoesNotRace bar)) tt r);
       judges = judged-reaches now known (unheard x) alone;
       asks = others-reach now known (unheard x) alone;
     })
 
 -- another member answers a failsafe request
-staying-reaches : (now : Ticks) (known : Knowledge) (from : MemberId) (sequence : ℕ) (accepted : Bool) (sent : Ticks) (o : Outcome) → Reaches now known o → Reaches now known (failsafe_answered now from sequence accepted sent o)
+staying-reaches : (now : Ticks) (known : Knowledge) (from : MemberId) (sequence : ℕ) (accepted : Bool) (sent : Ticks)
+    (o : Outcome) → Reaches now known o → Reaches now known (failsafe_answered now from sequence accepted sent o)
 staying-reaches now known from sequence accepted sent o r =
-    let quiet : AsksAnew now known (let none : Knowledge = record o.knows { waited = None } in none) o.outputs = rests now known o.knows _ o.outputs refl refl refl refl r in
-    let counts : Reaches now known (counting from sent o) = goes-on now known o.knows (counting from sent o).knows o.outputs refl refl refl refl r in
+    let quiet : AsksAnew now known (let none : Knowledge = record o.knows { waited = None } in none) o.outputs =
+    rests now known o.knows _ o.outputs refl refl refl refl r in
+    let counts : Reaches now known (counting from sent o) =
+    goes-on now known o.knows (counting from sent o).knows o.outputs refl refl refl refl r in
     failsafe-answered-by (Reaches now known) now from sequence accepted sent o (record {
       kept = r;
       quiet = quiet;
       counts = λ _ _. counts;
-      stays = λ _ _ waited _ _ since _ _. stay-reaches now waited.ttl known waited.sequence since (counting from sent o) counts;
+      stays = λ _ _ waited _ _ since _ _.
+          stay-reaches now waited.ttl known waited.sequence since (counting from sent o) counts;
       counts_late = λ _ _ _. rests now known (counting from sent o).knows _ o.outputs refl refl refl refl counts;
       fails = λ _ _ _. one-more now known _ o.outputs _ tt quiet;
     })
 
-answered-reaches : (now : Ticks) (known : Knowledge) (sequence : ℕ) (answer : PeerAnswer) (o : Outcome) → Reaches now known o → Reaches now known (answered now sequence answer o)
+answered-reaches : (now : Ticks) (known : Knowledge) (sequence : ℕ) (answer : PeerAnswer) (o : Outcome)
+    → Reaches now known o → Reaches now known (answered now sequence answer o)
 answered-reaches now known sequence answer o r =
-    let kept : Reaches now known (keeping answer o) = goes-on now known o.knows (keeping answer o).knows o.outputs refl refl refl refl r in
+    let kept : Reaches now known (keeping answer o) =
+    goes-on now known o.knows (keeping answer o).knows o.outputs refl refl refl refl r in
     answered-by (Reaches now known) now sequence answer o (record {
       kept = r;
       quiet = rests now known o.knows _ o.outputs refl refl refl refl r;
@@ -406,7 +534,8 @@ answered-reaches now known sequence answer o r =
       checks = λ held _. handover-reaches now known held (keeping answer o) kept;
     })
 
-got-reaches : (now : Ticks) (points : List HistoryPoint) (known : Knowledge) (sequence : ℕ) (snapshot : SnapshotFacts) (o : Outcome) → Reaches now known o → Reaches now known (read_answered now points sequence snapshot o)
+got-reaches : (now : Ticks) (points : List HistoryPoint) (known : Knowledge) (sequence : ℕ) (snapshot : SnapshotFacts)
+    (o : Outcome) → Reaches now known o → Reaches now known (read_answered now points sequence snapshot o)
 got-reaches now points known sequence snapshot o r =
     let read : Outcome = record o { knows = read_noted now snapshot o.knows } in
     let told : Reaches now known read = rests now known o.knows read.knows o.outputs refl refl refl refl r in
@@ -417,17 +546,22 @@ got-reaches now points known sequence snapshot o r =
       leader = λ held _. one-more now known read.knows o.outputs _ tt told;
       unleased = λ _. one-more now known read.knows o.outputs _ tt told;
       renews = λ _ leader _ _. let lists : Outcome = carrying (set_carried read) read in
-          ask-reaches now known Renewing _ _ lists tt (λ _. refl) (λ e. absurd (both e)) (goes-on now known read.knows lists.knows o.outputs refl refl refl refl told);
+          ask-reaches now known Renewing _ _ lists tt (λ _. refl) (λ e. absurd (both e))
+          (goes-on now known read.knows lists.knows o.outputs refl refl refl refl told);
       touches = touch-reaches now known read told;
       follows = λ leader _ _. follow-reaches now known leader.holder read told;
       free = λ _ _. free-reaches now known read told;
       runs_on = λ _. one-more now known read.knows o.outputs (outputs.Note agent_notes.RunsWithoutKey) tt told;
-      asks_on = λ _. ask-reaches now known Creating (seconds_after now read.knows.settings.retry_timeout) _ (running_without_key read) (is-spanned read.knows.settings) (λ _. refl) (λ e. absurd (both e)) (one-more now known read.knows o.outputs (outputs.Note agent_notes.RunsWithoutKey) tt told);
+      asks_on = λ _. ask-reaches now known Creating (seconds_after now read.knows.settings.retry_timeout) _
+          (running_without_key read) (is-spanned read.knows.settings) (λ _. refl) (λ e. absurd (both e))
+          (one-more now known read.knows o.outputs (outputs.Note agent_notes.RunsWithoutKey) tt told);
     })
 
-refused-reaches : (now : Ticks) (known : Knowledge) (sequence : ℕ) (o : Outcome) → Reaches now known o → Reaches now known (refused now sequence o)
+refused-reaches : (now : Ticks) (known : Knowledge) (sequence : ℕ) (o : Outcome) → Reaches now known o
+    → Reaches now known (refused now sequence o)
 refused-reaches now known sequence o r =
-    let quiet : AsksAnew now known (let none : Knowledge = record o.knows { waited = None } in none) o.outputs = rests now known o.knows _ o.outputs refl refl refl refl r in
+    let quiet : AsksAnew now known (let none : Knowledge = record o.knows { waited = None } in none) o.outputs =
+    rests now known o.knows _ o.outputs refl refl refl refl r in
     refused-by (Reaches now known) now sequence o (record {
       kept = r;
       quiet = quiet;
@@ -438,10 +572,12 @@ refused-reaches now known sequence o r =
       runs_on = λ _. one-more now known _ o.outputs (outputs.Note agent_notes.RunsWithoutKey) tt quiet;
     })
 
-feed-reaches : (now ttl : Ticks) (known : Knowledge) (o : Outcome) → Reaches now known o → Reaches now known (feeding now ttl o)
+feed-reaches : (now ttl : Ticks) (known : Knowledge) (o : Outcome) → Reaches now known o
+    → Reaches now known (feeding now ttl o)
 feed-reaches now ttl known o r = feeds now known o.knows o.outputs (deadline_after now ttl o.machine.watchdog) r
 
-arm-reaches : (now ttl : Ticks) (known : Knowledge) (o : Outcome) → Reaches now known o → Reaches now known (arming now ttl o)
+arm-reaches : (now ttl : Ticks) (known : Knowledge) (o : Outcome) → Reaches now known o
+    → Reaches now known (arming now ttl o)
 arm-reaches now ttl known o r = arms-it now known o.knows o.outputs (deadline_after now ttl o.machine.watchdog) r
 
 -- a write of the sync key, which says what it settles
@@ -451,34 +587,49 @@ writes-question (NamesStandbys set) (txns.SetSync revision sync standbys) puts =
 writes-question ClearsList (txns.DropSync revision sync) puts = tt
 writes-question _ _ puts = absurd puts
 
-write-reaches : (now : Ticks) (known : Knowledge) (settling : Settling) (txn : Txn) (o : Outcome) → IsPutBy (Syncing settling) txn → Reaches now known o → Reaches now known (writing_sync now settling txn o)
-write-reaches now known settling txn o puts r = ask-reaches now known (Syncing settling) _ (bodies.Request txn) o (writes-question settling txn puts) (λ e. absurd (both e)) (λ _. puts) r
+write-reaches : (now : Ticks) (known : Knowledge) (settling : Settling) (txn : Txn) (o : Outcome)
+    → IsPutBy (Syncing settling) txn → Reaches now known o → Reaches now known (writing_sync now settling txn o)
+write-reaches now known settling txn o puts r = ask-reaches now known (Syncing settling) _
+    (bodies.Request txn) o (writes-question settling txn puts) (λ e. absurd (both e)) (λ _. puts) r
 
-require-reaches : (now : Ticks) (known : Knowledge) (required : Required) (o : Outcome) → Reaches now known o → Reaches now known (requiring required o)
+require-reaches : (now : Ticks) (known : Knowledge) (required : Required) (o : Outcome) → Reaches now known o
+    → Reaches now known (requiring required o)
 require-reaches now known required o r = one-more now known o.knows o.outputs (outputs.Require required) tt r
 
 -- a leader's step with its standbys
-off-reaches : (now : Ticks) (known : Knowledge) (revision : ℕ) (read : Option SyncRead) (o : Outcome) → Reaches now known o → Reaches now known (switching_off now revision read o)
+off-reaches : (now : Ticks) (known : Knowledge) (revision : ℕ) (read : Option SyncRead) (o : Outcome)
+    → Reaches now known o → Reaches now known (switching_off now revision read o)
 off-reaches now known revision None o r = r
-off-reaches now known revision (Some read) o r = write-reaches now known ClearsList (txns.DropSync revision read.revision) o tt r
+off-reaches now known revision (Some read) o r =
+    write-reaches now known ClearsList (txns.DropSync revision read.revision) o tt r
 
-plan-reaches : (now : Ticks) (known : Knowledge) (revision : ℕ) (plan : Plan) (o : Outcome) → Reaches now known o → Reaches now known (planned_as now revision plan o)
+plan-reaches : (now : Ticks) (known : Knowledge) (revision : ℕ) (plan : Plan) (o : Outcome)
+    → Reaches now known o → Reaches now known (planned_as now revision plan o)
 plan-reaches now known revision plans.Keep o r = r
 plan-reaches now known revision plans.SwitchOff o r = off-reaches now known revision (sync_read_if o.knows.seen) o r
-plan-reaches now known revision plans.Mark o r = write-reaches now known (NamesStandbys nobody) (txns.SetSync revision (expected_of (sync_read_if o.knows.seen)) nobody) o refl r
-plan-reaches now known revision (plans.Withdraw standbys) o r = write-reaches now known (NamesStandbys standbys) (txns.SetSync revision (expected_of (sync_read_if o.knows.seen)) standbys) o refl r
-plan-reaches now known revision (plans.AddRequired members) o r = require-reaches now known (needs.All members) (noting o) (goes-on now known o.knows (noting o).knows o.outputs refl refl refl refl r)
-plan-reaches now known revision (plans.Publish standbys) o r = write-reaches now known KeepsList (txns.SetSync revision (expected_of (sync_read_if o.knows.seen)) standbys) o tt r
-plan-reaches now known revision (plans.DropRequired members) o r = require-reaches now known (waiting_for o.knows.settings members) o r
+plan-reaches now known revision plans.Mark o r = write-reaches now known (NamesStandbys nobody)
+    (txns.SetSync revision (expected_of (sync_read_if o.knows.seen)) nobody) o refl r
+plan-reaches now known revision (plans.Withdraw standbys) o r = write-reaches now known (NamesStandbys standbys)
+    (txns.SetSync revision (expected_of (sync_read_if o.knows.seen)) standbys) o refl r
+plan-reaches now known revision (plans.AddRequired members) o r = require-reaches now known (needs.All members)
+    (noting o) (goes-on now known o.knows (noting o).knows o.outputs refl refl refl refl r)
+plan-reaches now known revision (plans.Publish standbys) o r =
+    write-reaches now known KeepsList (txns.SetSync revision (expected_of (sync_read_if o.knows.seen)) standbys) o tt r
+plan-reaches now known revision (plans.DropRequired members) o r =
+    require-reaches now known (waiting_for o.knows.settings members) o r
 
-planned-reaches : (now : Ticks) (known : Knowledge) (revision : ℕ) (seen : Option SnapshotFacts) (o : Outcome) → Reaches now known o → Reaches now known (planned_on now revision seen o)
+planned-reaches : (now : Ticks) (known : Knowledge) (revision : ℕ) (seen : Option SnapshotFacts) (o : Outcome)
+    → Reaches now known o → Reaches now known (planned_on now revision seen o)
 planned-reaches now known revision None o r = r
-planned-reaches now known revision (Some snapshot) o r = plan-reaches now known revision (plan_of (leader_view now o.knows o.machine) snapshot) o r
+planned-reaches now known revision (Some snapshot) o r =
+    plan-reaches now known revision (plan_of (leader_view now o.knows o.machine) snapshot) o r
 
 -- what it owes its cluster with each renewal
-duties-reach : (now : Ticks) (known : Knowledge) (revision : ℕ) (o : Outcome) → Reaches now known o → Reaches now known (duties now revision o)
+duties-reach : (now : Ticks) (known : Knowledge) (revision : ℕ) (o : Outcome) → Reaches now known o
+    → Reaches now known (duties now revision o)
 duties-reach now known revision o r =
-    let alone : Reaches now known (unheard o) = goes-on now known o.knows (unheard o).knows o.outputs refl refl refl refl r in
+    let alone : Reaches now known (unheard o) =
+    goes-on now known o.knows (unheard o).knows o.outputs refl refl refl refl r in
     duties-by (Reaches now known) now revision o (planned-reaches now known revision o.knows.seen o r) (record {
       kept = r;
       clears = λ compared. drop-reaches now known compared o r;
@@ -487,57 +638,81 @@ duties-reach now known revision o r =
     })
 
 -- a leader under the lease of this revision, whatever became of its watchdog
-start-reaches : (now : Ticks) (known : Knowledge) (revision : ℕ) (led : Outcome) → Reaches now known led → Reaches now known (judges_start now revision led)
+start-reaches : (now : Ticks) (known : Knowledge) (revision : ℕ) (led : Outcome) → Reaches now known led
+    → Reaches now known (judges_start now revision led)
 start-reaches now known revision led r =
-    if-cases (Reaches now known) (is_start_too_long now led.knows led.machine.server.state) (record (ending_server now StartTooLong led) { role = Ending revision HandOver }) (duties now revision led)
+    if-cases (Reaches now known) (is_start_too_long now led.knows led.machine.server.state)
+    (record (ending_server now StartTooLong led) { role = Ending revision HandOver }) (duties now revision led)
     (λ _. one-more now known led.knows led.outputs _ tt r) (λ _. duties-reach now known revision led r)
 
-renewed-reaches : (now ttl : Ticks) (known : Knowledge) (revision : ℕ) (o : Outcome) → Reaches now known o → Reaches now known (leader_renewed now ttl revision o)
-renewed-reaches now ttl known revision o r = start-reaches now known revision (led_on now ttl revision o) (feed-reaches now ttl known o r)
+renewed-reaches : (now ttl : Ticks) (known : Knowledge) (revision : ℕ) (o : Outcome) → Reaches now known o
+    → Reaches now known (leader_renewed now ttl revision o)
+renewed-reaches now ttl known revision o r =
+    start-reaches now known revision (led_on now ttl revision o) (feed-reaches now ttl known o r)
 
-unleased-reaches : (now ttl : Ticks) (known : Knowledge) (revision : ℕ) (o : Outcome) → Reaches now known o → Reaches now known (unleased_renewed now ttl revision o)
+unleased-reaches : (now ttl : Ticks) (known : Knowledge) (revision : ℕ) (o : Outcome) → Reaches now known o
+    → Reaches now known (unleased_renewed now ttl revision o)
 unleased-reaches now ttl known revision o r = let armed-now : Outcome = arming now ttl o in
-    if-cases (Reaches now known) (is_refusing o.machine.watchdog.mode o.machine.watchdog.works) _ (takes_over now revision armed-now)
-    (λ _. one-more now known o.knows o.outputs _ tt r) (λ _. goes-on now known armed-now.knows _ armed-now.outputs refl refl refl refl (arm-reaches now ttl known o r))
+    if-cases (Reaches now known) (is_refusing o.machine.watchdog.mode o.machine.watchdog.works) _
+    (takes_over now revision armed-now)
+    (λ _. one-more now known o.knows o.outputs _ tt r)
+    (λ _. goes-on now known armed-now.knows _ armed-now.outputs refl refl refl refl (arm-reaches now ttl known o r))
 
-begin-reaches : (now : Ticks) (known : Knowledge) (revision : ℕ) (o : Outcome) → Reaches now known o → Reaches now known (begins now revision o)
-begin-reaches now known revision o r = goes-on now known o.knows _ _ refl refl refl refl (one-more now known o.knows _ outputs.Begin tt (require-reaches now known (unnamed o.knows.turn_settings) o r))
+begin-reaches : (now : Ticks) (known : Knowledge) (revision : ℕ) (o : Outcome) → Reaches now known o
+    → Reaches now known (begins now revision o)
+begin-reaches now known revision o r = goes-on now known o.knows _ _ refl refl refl refl
+    (one-more now known o.knows _ outputs.Begin tt (require-reaches now known (unnamed o.knows.turn_settings) o r))
 
 -- a claim, behind what is noted of the sync key
-claim-reaches : (now : Ticks) (known : Knowledge) (revision : ℕ) (o : Outcome) → Reaches now known o → Reaches now known (claims now revision (passing o))
+claim-reaches : (now : Ticks) (known : Knowledge) (revision : ℕ) (o : Outcome) → Reaches now known o
+    → Reaches now known (claims now revision (passing o))
 claim-reaches now known revision o r =
-    ask-reaches now known Claiming _ _ (passing o) tt (λ e. absurd (both e)) (λ _. tt) (passing-by (AsksAnew now known o.knows) o r (one-more now known o.knows o.outputs outputs.ClaimsOutsideSync tt r))
+    ask-reaches now known Claiming _ _ (passing o) tt (λ e. absurd (both e)) (λ _. tt)
+    (passing-by (AsksAnew now known o.knows) o r (one-more now known o.knows o.outputs outputs.ClaimsOutsideSync tt r))
 
-cannot-reaches : (now : Ticks) (known : Knowledge) (revision : ℕ) (o : Outcome) → Reaches now known o → Reaches now known (cannot_arm revision o)
+cannot-reaches : (now : Ticks) (known : Knowledge) (revision : ℕ) (o : Outcome) → Reaches now known o
+    → Reaches now known (cannot_arm revision o)
 cannot-reaches now known revision o r =
-    send-reaches now known (bodies.Request (txns.Release revision)) (record o { outputs = with_output (outputs.Note agent_notes.CannotArm) o.outputs }) tt (one-more now known o.knows o.outputs (outputs.Note agent_notes.CannotArm) tt r)
+    send-reaches now known (bodies.Request (txns.Release revision)) (record o {
+      outputs = with_output (outputs.Note agent_notes.CannotArm) o.outputs;
+    }) tt (one-more now known o.knows o.outputs (outputs.Note agent_notes.CannotArm) tt r)
 
-arms-reaches : (now ttl : Ticks) (known : Knowledge) (revision : ℕ) (o : Outcome) → Reaches now known o → Reaches now known (arms now ttl revision o)
+arms-reaches : (now ttl : Ticks) (known : Knowledge) (revision : ℕ) (o : Outcome) → Reaches now known o
+    → Reaches now known (arms now ttl revision o)
 arms-reaches now ttl known revision o r =
-    if-cases (Reaches now known) (is_refusing o.machine.watchdog.mode o.machine.watchdog.works) (cannot_arm revision o) (begins_or_claims now revision (arming now ttl o))
+    if-cases (Reaches now known) (is_refusing o.machine.watchdog.mode o.machine.watchdog.works)
+    (cannot_arm revision o) (begins_or_claims now revision (arming now ttl o))
     (λ _. cannot-reaches now known revision o r)
     (λ _. let arm : Outcome = arming now ttl o in let fed : Reaches now known arm = arm-reaches now ttl known o r in
-    begins-or-claims-by (Reaches now known) now revision arm (begin-reaches now known revision arm fed) (claim-reaches now known revision arm fed))
+    begins-or-claims-by (Reaches now known) now revision arm (begin-reaches now known revision arm fed)
+    (claim-reaches now known revision arm fed))
 
-takes-reaches : (now ttl : Ticks) (known : Knowledge) (revision : ℕ) (o : Outcome) → Reaches now known o → Reaches now known (takes_key now ttl revision o)
+takes-reaches : (now ttl : Ticks) (known : Knowledge) (revision : ℕ) (o : Outcome) → Reaches now known o
+    → Reaches now known (takes_key now ttl revision o)
 takes-reaches now ttl known revision o r =
     if-cases (Reaches now known) (may_take now o.knows o.machine) (arms now ttl revision o) (gives_back revision o)
-    (λ _. arms-reaches now ttl known revision o r) (λ _. send-reaches now known (bodies.Request (txns.Release revision)) o tt r)
+    (λ _. arms-reaches now ttl known revision o r)
+    (λ _. send-reaches now known (bodies.Request (txns.Release revision)) o tt r)
 
 -- a watchdog that rests
-rests-told : (now : Ticks) (known after : Knowledge) (renews : Bool) (deadline : Option Ticks) (outs : List Output) → AsksAnew now known after outs → AsksAnew now known after (disabling_told renews deadline outs)
+rests-told : (now : Ticks) (known after : Knowledge) (renews : Bool) (deadline : Option Ticks) (outs : List Output)
+    → AsksAnew now known after outs → AsksAnew now known after (disabling_told renews deadline outs)
 rests-told now known after renews None outs r = r
-rests-told now known after true (Some deadline) outs r = one-more now known after (with_output outputs.Disarmed outs) (outputs.Note agent_notes.DisablesWatchdog) tt (one-more now known after outs outputs.Disarmed tt r)
+rests-told now known after true (Some deadline) outs r = one-more now known after (with_output outputs.Disarmed outs)
+    (outputs.Note agent_notes.DisablesWatchdog) tt (one-more now known after outs outputs.Disarmed tt r)
 rests-told now known after false (Some deadline) outs r = one-more now known after outs outputs.Disarmed tt r
 
-disabled-reaches : (now : Ticks) (known : Knowledge) (renews : Bool) (o : Outcome) → Reaches now known o → Reaches now known (disabling_watchdog renews o)
+disabled-reaches : (now : Ticks) (known : Knowledge) (renews : Bool) (o : Outcome) → Reaches now known o
+    → Reaches now known (disabling_watchdog renews o)
 disabled-reaches now known renews o r = rests-told now known o.knows renews o.machine.watchdog.deadline o.outputs r
 
-granted-reaches : (now : Ticks) (known : Knowledge) (sequence : ℕ) (grant : Granted) (snapshot : SnapshotFacts) (o : Outcome) → Reaches now known o → Reaches now known (granted now sequence grant snapshot o)
+granted-reaches : (now : Ticks) (known : Knowledge) (sequence : ℕ) (grant : Granted) (snapshot : SnapshotFacts)
+    (o : Outcome) → Reaches now known o → Reaches now known (granted now sequence grant snapshot o)
 granted-reaches now known sequence grant snapshot o r =
     let told : Outcome = record o { knows = informed snapshot o.knows } in
     let next : Reaches now known told = rests now known o.knows told.knows o.outputs refl refl refl refl r in
-    granted-by (Reaches now known) now sequence grant snapshot o r (rests now known o.knows _ o.outputs refl refl refl refl r)
+    granted-by (Reaches now known) now sequence grant snapshot o r
+    (rests now known o.knows _ o.outputs refl refl refl refl r)
     (λ waited _ _. record {
       other = next;
       leader = λ held _. renewed-reaches now waited.ttl known grant.revision told next;
@@ -547,12 +722,18 @@ granted-reaches now known sequence grant snapshot o r =
       ends_late = λ _. one-more now known told.knows told.outputs _ tt next;
       refuses_late = λ _. cannot-reaches now known grant.revision told next;
       returns_late = λ _. send-reaches now known (bodies.Request (txns.Release grant.revision)) told tt next;
-      leads_in_pause = λ renews _ held _. duties-reach now known grant.revision (leading_in_pause renews grant.revision told) (disabled-reaches now known renews told next);
-      unleased_in_pause = λ renews _ _. goes-on now known told.knows _ (disabling_watchdog renews told).outputs refl refl refl refl (disabled-reaches now known renews told next);
-      takes_in_pause = λ renews _ _. let rest : Outcome = disabling_watchdog renews told in let rested : Reaches now known rest = disabled-reaches now known renews told next in
-          takes-in-pause-by (Reaches now known) now renews grant.revision told (send-reaches now known (bodies.Request (txns.Release grant.revision)) told tt next) (begin-reaches now known grant.revision rest rested) (claim-reaches now known grant.revision rest rested);
+      leads_in_pause = λ renews _ held _. duties-reach now known grant.revision
+          (leading_in_pause renews grant.revision told) (disabled-reaches now known renews told next);
+      unleased_in_pause = λ renews _ _. goes-on now known told.knows _
+          (disabling_watchdog renews told).outputs refl refl refl refl (disabled-reaches now known renews told next);
+      takes_in_pause = λ renews _ _. let rest : Outcome = disabling_watchdog renews told in
+          let rested : Reaches now known rest = disabled-reaches now known renews told next in
+          takes-in-pause-by (Reaches now known) now renews grant.revision told
+          (send-reaches now known (bodies.Request (txns.Release grant.revision)) told tt next)
+          (begin-reaches now known grant.revision rest rested) (claim-reaches now known grant.revision rest rested);
     })
-    (λ after reached. goes-on now known after.knows (confirming snapshot after).knows after.outputs refl refl refl refl reached)
+    (λ after reached.
+    goes-on now known after.knows (confirming snapshot after).knows after.outputs refl refl refl refl reached)
     (record {
       other = next;
       begins = λ revision _. begin-reaches now known revision told next;
@@ -561,13 +742,18 @@ granted-reaches now known sequence grant snapshot o r =
     })
 
 -- what an operator waits for was granted, or refused
-granted-any-reaches : (now : Ticks) (known : Knowledge) (sequence : ℕ) (grant : Granted) (snapshot : SnapshotFacts) (o : Outcome) → Reaches now known o → Reaches now known (granted_any now sequence grant snapshot o)
+granted-any-reaches : (now : Ticks) (known : Knowledge) (sequence : ℕ) (grant : Granted) (snapshot : SnapshotFacts)
+    (o : Outcome) → Reaches now known o → Reaches now known (granted_any now sequence grant snapshot o)
 granted-any-reaches now known sequence grant snapshot o r =
-    granted-any-by (Reaches now known) now sequence grant snapshot o r (reply-reaches now known (learned snapshot o) (goes-on now known o.knows (learned snapshot o).knows o.outputs refl refl refl refl r))
+    granted-any-by (Reaches now known) now sequence grant snapshot o r
+    (reply-reaches now known (learned snapshot o)
+    (goes-on now known o.knows (learned snapshot o).knows o.outputs refl refl refl refl r))
     (granted-reaches now known sequence grant snapshot o r)
 
-refused-any-reaches : (now : Ticks) (known : Knowledge) (sequence : ℕ) (o : Outcome) → Reaches now known o → Reaches now known (refused_any now sequence o)
-refused-any-reaches now known sequence o r = refused-any-by (Reaches now known) now sequence o (reply-reaches now known o r) (refused-reaches now known sequence o r)
+refused-any-reaches : (now : Ticks) (known : Knowledge) (sequence : ℕ) (o : Outcome) → Reaches now known o
+    → Reaches now known (refused_any now sequence o)
+refused-any-reaches now known sequence o r = refused-any-by (Reaches now known) now sequence o
+    (reply-reaches now known o r) (refused-reaches now known sequence o r)
 
 -- what an operator asks is done
 operator-question : (txn : Txn) → IsOperatorTxn txn → IsQuestion (bodies.Request txn)
@@ -575,36 +761,63 @@ operator-question (txns.SetFailover failover ttl) is = tt
 operator-question (txns.SetConfig revision config) is = tt
 operator-question _ is = absurd is
 
-operated-reaches : (now : Ticks) (known : Knowledge) (request : ℕ) (asked : OperatorRequest) (o : Outcome) → Reaches now known o → Reaches now known (operated now request asked o)
+operated-reaches : (now : Ticks) (known : Knowledge) (request : ℕ) (asked : OperatorRequest) (o : Outcome)
+    → Reaches now known o → Reaches now known (operated now request asked o)
 operated-reaches now known request asked o r = operated-by (Reaches now known) now request asked o (record {
   asks = λ operation txn is.
       let body : Body = bodies.Request txn in
-      goes-on now known (sending body o).knows (operating now request operation body o).knows _ refl refl refl refl (send-reaches now known body o (operator-question txn is) r);
+      goes-on now known (sending body o).knows (operating now request operation body o).knows _ refl refl refl refl
+      (send-reaches now known body o (operator-question txn is) r);
   restarts = λ told.
       let again : Outcome = restarting now o in
-      one-more now known again.knows again.outputs (outputs.Told request told) tt (goes-on now known o.knows again.knows again.outputs refl refl refl refl (one-more now known o.knows o.outputs _ tt r));
-  wipes = λ told. one-more now known o.knows (wiping o).outputs (outputs.Told request told) tt (one-more now known o.knows o.outputs outputs.Wipe tt r);
-  holds = λ ttl told _. one-more now known o.knows (holding_for now o.knows.who.me unnumbered ttl o).outputs (outputs.Told request told) tt (one-more now known o.knows o.outputs (outputs.HoldTaken (span_after now ttl) o.knows.who.me unnumbered) tt r);
+      one-more now known again.knows again.outputs (outputs.Told request told) tt
+      (goes-on now known o.knows again.knows again.outputs refl refl refl refl
+      (one-more now known o.knows o.outputs _ tt r));
+  wipes = λ told. one-more now known o.knows (wiping o).outputs (outputs.Told request told) tt
+      (one-more now known o.knows o.outputs outputs.Wipe tt r);
+  holds = λ ttl told _. one-more now known o.knows (holding_for now o.knows.who.me unnumbered ttl o).outputs
+      (outputs.Told request told) tt
+      (one-more now known o.knows o.outputs (outputs.HoldTaken (span_after now ttl) o.knows.who.me unnumbered) tt r);
   refuses = λ told. one-more now known o.knows o.outputs (outputs.Told request told) tt r;
 })
 
-step-reaches : (now : Ticks) (points : List HistoryPoint) (heard : Heard) (known : Knowledge) (o : Outcome) → Reaches now known o → Reaches now known (step now points heard o)
+step-reaches : (now : Ticks) (points : List HistoryPoint) (heard : Heard) (known : Knowledge) (o : Outcome)
+    → Reaches now known o → Reaches now known (step now points heard o)
 step-reaches now points Wake known o r = wake-reaches now known o r
 step-reaches now points (ReadAnswered sequence snapshot) known o r =
-    got-reaches now points known sequence snapshot (looked sequence snapshot (reconciled now o)) (looked-by (Reaches now known) sequence snapshot (reconciled now o) (reply-reaches now known (reconciled now o) (before-reaches now known o r)))
-step-reaches now points (HeardGranted sequence grant snapshot) known o r = granted-any-reaches now known sequence grant snapshot (reconciled now o) (before-reaches now known o r)
-step-reaches now points (Mismatch sequence key found) known o r = refused-any-reaches now known sequence (reconciled now o) (before-reaches now known o r)
-step-reaches now points (Asked from incarnation sequence) known o r = one-more now known (reconciled now o).knows (reconciled now o).outputs _ tt (before-reaches now known o r)
-step-reaches now points (Answered sequence answer) known o r = answered-reaches now known sequence answer (reconciled now o) (before-reaches now known o r)
-step-reaches now points (FailsafeAsked from incarnation sequence ttl) known o r = let first : Outcome = reconciled now o in
+    got-reaches now points known sequence snapshot (looked sequence snapshot (reconciled now o))
+    (looked-by (Reaches now known) sequence snapshot (reconciled now o)
+    (reply-reaches now known (reconciled now o) (before-reaches now known o r)))
+step-reaches now points (HeardGranted sequence grant snapshot) known o r =
+    granted-any-reaches now known sequence grant snapshot (reconciled now o) (before-reaches now known o r)
+step-reaches now points (Mismatch sequence key found) known o r =
+    refused-any-reaches now known sequence (reconciled now o) (before-reaches now known o r)
+step-reaches now points (Asked from incarnation sequence) known o r =
+    one-more now known (reconciled now o).knows (reconciled now o).outputs _ tt (before-reaches now known o r)
+step-reaches now points (Answered sequence answer) known o r =
+    answered-reaches now known sequence answer (reconciled now o) (before-reaches now known o r)
+step-reaches now points (FailsafeAsked from incarnation sequence ttl) known o r =
+    let first : Outcome = reconciled now o in
     let fresh : Reaches now known first = before-reaches now known o r in
     failsafe-asked-by (Reaches now known) now from incarnation sequence ttl first
-    (λ _. one-more now known first.knows (holding_for now from sequence ttl first).outputs (outputs.FailsafeAnswer from incarnation sequence true) tt (one-more now known first.knows first.outputs (outputs.HoldTaken (span_after now ttl) from sequence) tt fresh))
+    (λ _. one-more now known first.knows (holding_for now from sequence ttl first).outputs
+    (outputs.FailsafeAnswer from incarnation sequence true) tt
+    (one-more now known first.knows first.outputs (outputs.HoldTaken (span_after now ttl) from sequence) tt fresh))
     (one-more now known first.knows first.outputs (outputs.FailsafeAnswer from incarnation sequence false) tt fresh)
-step-reaches now points (FailsafeAnswered from sequence accepted sent) known o r = staying-reaches now known from sequence accepted sent (reconciled now o) (before-reaches now known o r)
-step-reaches now points (Operated action) known o r = operated-reaches now known action.request action.asked (reconciled now o) (before-reaches now known o r)
+step-reaches now points (FailsafeAnswered from sequence accepted sent) known o r =
+    staying-reaches now known from sequence accepted sent (reconciled now o) (before-reaches now known o r)
+step-reaches now points (Operated action) known o r =
+    operated-reaches now known action.request action.asked (reconciled now o) (before-reaches now known o r)
 
-pub step-asks-anew : (now : Ticks) (points : List HistoryPoint) (heard : Heard) (role : RoleFacts) (knows : Knowledge) (machine : Machine)
-    → let after = step now points heard (outcome_from role knows machine []) in AsksAnew now knows after.knows after.outputs
+pub step-asks-anew : (now : Ticks) (points : List HistoryPoint) (heard : Heard) (role : RoleFacts)
+    (knows : Knowledge) (machine : Machine)
+    → let after = step now points heard (outcome_from role knows machine []) in
+    AsksAnew now knows after.knows after.outputs
 step-asks-anew now points heard role knows machine =
-    step-reaches now points heard knows (outcome_from role knows machine []) (record { who = refl; incarnation = refl; last = omega arith; sends = All-nil (SendsBetween knows.sequence knows.sequence); waits = Same refl })
+    step-reaches now points heard knows (outcome_from role knows machine []) (record {
+      who = refl;
+      incarnation = refl;
+      last = omega arith;
+      sends = All-nil (SendsBetween knows.sequence knows.sequence);
+      waits = Same refl;
+    })

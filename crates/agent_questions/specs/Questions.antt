@@ -34,7 +34,8 @@ abbrev pub SendsBetween : ℕ → ℕ → Output → Type 0
 SendsBetween low high (outputs.Send to sequence body) = (low < sequence) × (sequence ≤ high) × IsAskedOf to body
 SendsBetween low high _ = Unit {0}
 
--- the question is put by this request: a claim, or a write of the sync key that names the standbys to which the required list settles
+-- the question is put by this request: a claim, or a write of the sync
+-- key that names the standbys to which the required list settles
 abbrev pub IsPutBy : Question → Txn → Type 0
 IsPutBy Claiming (txns.Claim revision sync) = Unit {0}
 IsPutBy (Syncing KeepsList) (txns.SetSync revision sync standbys) = Unit {0}
@@ -57,15 +58,17 @@ abbrev pub AsksFor : PendingQuestion → Output → Type 0
 AsksFor waited (outputs.Send to sequence body) = sequence ≡ waited.sequence → SaysWaited waited body
 AsksFor waited _ = Unit {0}
 
--- what an agent that knew the first waits for when it knows the second, behind these outputs of this moment: what it waited for, nothing,
--- or what one of the outputs asks
+-- what an agent that knew the first waits for when it knows the second, behind these
+-- outputs of this moment: what it waited for, nothing, or what one of the outputs asks
 pub data WaitsOn (now : Ticks) (known knows : Knowledge) (outs : List Output) : Type 0 where
   Same : (is : knows.waited ≡ known.waited) → WaitsOn now known knows outs
   Nothing : (is : knows.waited ≡ None) → WaitsOn now known knows outs
-  New : (waited : PendingQuestion) → (is : knows.waited ≡ Some waited) → (later : known.sequence < waited.sequence) → (counted : waited.sequence ≤ knows.sequence) → (sent : waited.sent ≡ now) → (span : IsLeaseSpan waited.ttl.0)
+  New : (waited : PendingQuestion) → (is : knows.waited ≡ Some waited) → (later : known.sequence < waited.sequence)
+      → (counted : waited.sequence ≤ knows.sequence) → (sent : waited.sent ≡ now) → (span : IsLeaseSpan waited.ttl.0)
       → (asks : All (AsksFor waited) outs) → WaitsOn now known knows outs
 
--- an input asks under new numbers: the agent goes on in its incarnation, and waits for the same, for nothing, or for what it asks now
+-- an input asks under new numbers: the agent goes on in its incarnation,
+-- and waits for the same, for nothing, or for what it asks now
 pub record AsksAnew (now : Ticks) (known knows : Knowledge) (outs : List Output) : Type 0 where
   pub who : knows.who ≡ known.who
   pub incarnation : knows.incarnation ≡ known.incarnation

@@ -55,7 +55,8 @@ same-role o after is lives = record {
 }
 
 -- the agent rests without a lease
-pub no-lease : (o after : Outcome) → lease_of after.role ≡ None → leads after.role ≡ false → Lives o after → BringsNothing o after
+pub no-lease : (o after : Outcome) → lease_of after.role ≡ None → leads after.role ≡ false → Lives o after
+    → BringsNothing o after
 no-lease o after none rests lives = record {
   live = lives;
   leads = λ e. absurd (no-way (sym rests ∙ e));
@@ -64,7 +65,8 @@ no-lease o after none rests lives = record {
 }
 
 -- who has a lease rests with it
-pub keeps-lease : (o after : Outcome) (held : ℕ) → lease_of o.role ≡ Some held → lease_of after.role ≡ Some held → leads after.role ≡ false → Lives o after → BringsNothing o after
+pub keeps-lease : (o after : Outcome) (held : ℕ) → lease_of o.role ≡ Some held
+    → lease_of after.role ≡ Some held → leads after.role ≡ false → Lives o after → BringsNothing o after
 keeps-lease o after held is same rests lives = record {
   live = lives;
   leads = λ e. absurd (no-way (sym rests ∙ e));
@@ -79,8 +81,10 @@ ready-lease : (o : Outcome) (held : ℕ) → o.role ≡ Ready held → lease_of 
 ready-lease o held is = rw is refl
 
 -- who postpones its promotion keeps the lease
-pub postpones-brings : (o : Outcome) (held : ℕ) (b : Outcome) → o.role ≡ Ready held → b.machine.server ≡ o.machine.server → BringsNothing o (postpones held b)
-postpones-brings o held b is server = keeps-lease o (postpones held b) held (ready-lease o held is) refl refl (λ e. subst (λ (s : ServerStatus). live s.state ≡ true) server e)
+pub postpones-brings : (o : Outcome) (held : ℕ) (b : Outcome) → o.role ≡ Ready held
+    → b.machine.server ≡ o.machine.server → BringsNothing o (postpones held b)
+postpones-brings o held b is server = keeps-lease o (postpones held b) held (ready-lease o held is) refl refl
+    (λ e. subst (λ (s : ServerStatus). live s.state ≡ true) server e)
 
 pub brings-then : (a b c : Outcome) → BringsNothing a b → BringsNothing b c → BringsNothing a c
 brings-then a b c first second = record {
@@ -106,20 +110,28 @@ before-brings now o = before-by (BringsNothing o) now o (record {
 })
 
 judged-brings : (now : Ticks) (o : Outcome) → BringsNothing o (judged now o)
-judged-brings now o = judged-by (BringsNothing o) now o (same-role o (creating now (waiting_no_more o)) refl (λ e. e)) (λ bar. same-role o (barred bar (waiting_no_more o)) refl (λ e. e))
+judged-brings now o = judged-by (BringsNothing o) now o (same-role o (creating now (waiting_no_more o)) refl (λ e. e))
+    (λ bar. same-role o (barred bar (waiting_no_more o)) refl (λ e. e))
 
 -- a handover is judged: who hands over keeps the lease until its server has ended
-handover-brings : (now : Ticks) (held : ℕ) (o b : Outcome) → o.role ≡ Leader held → BringsNothing o b → b.role ≡ o.role → HandoverRows (BringsNothing o) now held b
+handover-brings : (now : Ticks) (held : ℕ) (o b : Outcome) → o.role ≡ Leader held → BringsNothing o b
+    → b.role ≡ o.role → HandoverRows (BringsNothing o) now held b
 handover-brings now held o b is brings role = record {
   kept = brings-then o b (waiting_no_more b) brings (same-role b (waiting_no_more b) refl (λ e. e));
-  clears = λ compared. brings-then o b (dropping compared (waiting_no_more b)) brings (same-role b (dropping compared (waiting_no_more b)) refl (λ e. e));
+  clears = λ compared. brings-then o b (dropping compared (waiting_no_more b)) brings
+      (same-role b (dropping compared (waiting_no_more b)) refl (λ e. e));
   hands = λ candidate. brings-then o b (hands_over now held candidate (waiting_no_more b)) brings
-      (keeps-lease b (hands_over now held candidate (waiting_no_more b)) held (leader-lease b held (role ∙ is)) refl refl (stop-live now b.machine.server));
+      (keeps-lease b (hands_over now held candidate (waiting_no_more b)) held
+      (leader-lease b held (role ∙ is)) refl refl (stop-live now b.machine.server));
 }
 
 -- who answers an operator
 pub told-brings : (o b : Outcome) → BringsNothing o b → ReplyRows (BringsNothing o) b
-told-brings o b brings = record { kept = brings; answers = λ request told. brings-then o b (answering request told b) brings (same-role b (answering request told b) refl (λ e. e)) }
+told-brings o b brings = record {
+  kept = brings;
+  answers = λ request told.
+      brings-then o b (answering request told b) brings (same-role b (answering request told b) refl (λ e. e));
+}
 
 -- who does what one asks: a server that starts again was live before, if it is
 acts-bring : (now : Ticks) (request : ℕ) (o : Outcome) → ActRows (BringsNothing o) now request o
@@ -127,19 +139,23 @@ acts-bring now request o = record {
   asks = λ operation txn _. same-role o (operating now request operation (bodies.Request txn) o) refl (λ e. e);
   restarts = λ told. same-role o (telling request told (restarting now o)) refl (restart-live now o.machine.server);
   wipes = λ told. same-role o (telling request told (wiping o)) refl (wipe-live o.machine.server);
-  holds = λ ttl told _. same-role o (telling request told (holding_for now o.knows.who.me unnumbered ttl o)) refl (λ e. e);
+  holds =
+      λ ttl told _. same-role o (telling request told (holding_for now o.knows.who.me unnumbered ttl o)) refl (λ e. e);
   refuses = λ told. same-role o (telling request told o) refl (λ e. e);
 }
 
 -- a leader that isn't acknowledged ends its server
-unacknowledged-brings : (now : Ticks) (held : ℕ) (o : Outcome) → o.role ≡ Leader held → BringsNothing o (leader_unacknowledged now held (waiting_no_more o))
-unacknowledged-brings now held o is = keeps-lease o (leader_unacknowledged now held (waiting_no_more o)) held (leader-lease o held is) refl refl (stop-live now o.machine.server)
+unacknowledged-brings : (now : Ticks) (held : ℕ) (o : Outcome) → o.role ≡ Leader held
+    → BringsNothing o (leader_unacknowledged now held (waiting_no_more o))
+unacknowledged-brings now held o is = keeps-lease o (leader_unacknowledged now held (waiting_no_more o)) held
+    (leader-lease o held is) refl refl (stop-live now o.machine.server)
 
 pub overdue-brings : (now : Ticks) (o : Outcome) → BringsNothing o (overdue now o)
 overdue-brings now o = overdue-by (BringsNothing o) now o (record {
   kept = same-role o o refl (λ e. e);
   quiet = same-role o (waiting_no_more o) refl (λ e. e);
-  leader = λ held is. keeps-lease o (leader_out_of_reach now held (waiting_no_more o)) held (leader-lease o held is) refl refl (stop-live now o.machine.server);
+  leader = λ held is. keeps-lease o (leader_out_of_reach now held (waiting_no_more o)) held
+      (leader-lease o held is) refl refl (stop-live now o.machine.server);
   seeks = λ held _. same-role o (asking_to_stay now (others_known o.knows) (waiting_no_more o)) refl (λ e. e);
   alone = λ held _. same-role o (stays_alone now (others_known o.knows) (waiting_no_more o)) refl (λ e. e);
   silent = λ held is. unacknowledged-brings now held o is;
@@ -158,12 +174,14 @@ turn-brings now o = turn-by (BringsNothing o) now o (record {
 
 -- an operator whose time is over is answered
 pub given-up-brings : (now : Ticks) (o : Outcome) → BringsNothing o (given_up now (reconciled now o))
-given-up-brings now o = given-up-by (BringsNothing o) now (reconciled now o) (told-brings o (reconciled now o) (before-brings now o))
+given-up-brings now o =
+    given-up-by (BringsNothing o) now (reconciled now o) (told-brings o (reconciled now o) (before-brings now o))
 
 pub wake-brings : (now : Ticks) (o : Outcome) → BringsNothing o (woken now o)
 wake-brings now o = let b : Outcome = given_up now (reconciled now o) in
     wake-by (BringsNothing o) now o (before-brings now o)
-    (brings-then o (overdue now b) (turned now (overdue now b)) (brings-then o b (overdue now b) (given-up-brings now o) (overdue-brings now b)) (turn-brings now (overdue now b)))
+    (brings-then o (overdue now b) (turned now (overdue now b))
+    (brings-then o b (overdue now b) (given-up-brings now o) (overdue-brings now b)) (turn-brings now (overdue now b)))
 
 -- a follower tells of itself, after what its server does
 follow-brings : (now : Ticks) (leader : MemberId) (o : Outcome) → BringsNothing o (follows now leader o)
@@ -171,11 +189,14 @@ follow-brings now leader o = let x : Outcome = led_by_another o in
     let may : Bool = may_start_behind o.knows in
     let row = follow-by (λ (y : Outcome). BringsNothing o y) may now leader o.machine.server.state x
     (no-lease o x refl refl (λ e. e))
-    (no-lease o (starting_replica now (Some leader) x) refl refl (start-live now (upstream_of (Some leader)) o.machine.server))
+    (no-lease o (starting_replica now (Some leader) x) refl refl
+    (start-live now (upstream_of (Some leader)) o.machine.server))
     (no-lease o (following_server leader x) refl refl (follow-live (server_id_of leader) o.machine.server))
     (no-lease o (shutting_down now x) refl refl (stop-live now o.machine.server)) in
-    let told : BringsNothing o (touching (follow_row may now leader o.machine.server.state x)) = record { live = row.live; leads = row.leads; ready = row.ready; lease = row.lease } in
-    repaired-by (BringsNothing o) leader (repair_of o.knows.settings leader o.machine.server) (touching (follow_row may now leader o.machine.server.state x)) told
+    let told : BringsNothing o (touching (follow_row may now leader o.machine.server.state x)) =
+    record { live = row.live; leads = row.leads; ready = row.ready; lease = row.lease } in
+    repaired-by (BringsNothing o) leader (repair_of o.knows.settings leader o.machine.server)
+    (touching (follow_row may now leader o.machine.server.state x)) told
     (λ r. record { live = told.live; leads = told.leads; ready = told.ready; lease = told.lease })
 
 free-brings : (now : Ticks) (o : Outcome) → BringsNothing o (finds_free now o)
@@ -183,24 +204,30 @@ free-brings now o = let x : Outcome = record o { role = Follower } in free-by (B
   starts = no-lease o (touching (starting_replica now None x)) refl refl (start-live now None o.machine.server);
   touches = no-lease o (touching x) refl refl (λ e. e);
   bars = λ bar. no-lease o (barred bar x) refl refl (λ e. e);
-  judges = brings-then o (unheard x) (judged now (unheard x)) (no-lease o (unheard x) refl refl (λ e. e)) (judged-brings now (unheard x));
+  judges = brings-then o (unheard x) (judged now (unheard x)) (no-lease o (unheard x) refl refl (λ e. e))
+      (judged-brings now (unheard x));
   asks = no-lease o (asking_others now (unheard x)) refl refl (λ e. e);
 })
 
-read-then : (now : Ticks) (snapshot : SnapshotFacts) (o after : Outcome) → BringsNothing (record o { knows = read_noted now snapshot o.knows }) after → BringsNothing o after
-read-then now snapshot o after brings = record { live = brings.live; leads = brings.leads; ready = brings.ready; lease = brings.lease }
+read-then : (now : Ticks) (snapshot : SnapshotFacts) (o after : Outcome)
+    → BringsNothing (record o { knows = read_noted now snapshot o.knows }) after → BringsNothing o after
+read-then now snapshot o after brings =
+    record { live = brings.live; leads = brings.leads; ready = brings.ready; lease = brings.lease }
 
-pub got-brings : (now : Ticks) (points : List HistoryPoint) (sequence : ℕ) (snapshot : SnapshotFacts) (o : Outcome) → BringsNothing o (read_answered now points sequence snapshot o)
+pub got-brings : (now : Ticks) (points : List HistoryPoint) (sequence : ℕ) (snapshot : SnapshotFacts) (o : Outcome)
+    → BringsNothing o (read_answered now points sequence snapshot o)
 got-brings now points sequence snapshot o = let read : Outcome = record o { knows = read_noted now snapshot o.knows } in
     got-by (BringsNothing o) now points sequence snapshot o (record {
       kept = same-role o o refl (λ e. e);
       quiet = same-role o (waiting_no_more o) refl (λ e. e);
       other = same-role o read refl (λ e. e);
-      leader = λ held is. keeps-lease o (leader_loses_key now held read) held (leader-lease o held is) refl refl (stop-live now o.machine.server);
+      leader = λ held is. keeps-lease o (leader_loses_key now held read) held
+          (leader-lease o held is) refl refl (stop-live now o.machine.server);
       unleased = λ _. same-role o (unleased_loses_key now read) refl (stop-live now o.machine.server);
       renews = λ _ leader _ _. same-role o (renewing now points leader.revision read) refl (λ e. e);
       touches = same-role o (touching read) refl (λ e. e);
-      follows = λ leader _ _. read-then now snapshot o (follows now leader.holder read) (follow-brings now leader.holder read);
+      follows = λ leader _ _.
+          read-then now snapshot o (follows now leader.holder read) (follow-brings now leader.holder read);
       free = λ _ _. read-then now snapshot o (finds_free now read) (free-brings now read);
       runs_on = λ _. no-lease o (running_without_key read) refl refl (λ e. e);
       asks_on = λ _. no-lease o (asks_as_unleased now read) refl refl (λ e. e);
@@ -210,7 +237,8 @@ pub refused-brings : (now : Ticks) (sequence : ℕ) (o : Outcome) → BringsNoth
 refused-brings now sequence o = refused-by (BringsNothing o) now sequence o (record {
   kept = same-role o o refl (λ e. e);
   quiet = same-role o (waiting_no_more o) refl (λ e. e);
-  leader = λ held is. keeps-lease o (leader_loses_key now held (waiting_no_more o)) held (leader-lease o held is) refl refl (stop-live now o.machine.server);
+  leader = λ held is. keeps-lease o (leader_loses_key now held (waiting_no_more o)) held
+      (leader-lease o held is) refl refl (stop-live now o.machine.server);
   unleased = λ _. same-role o (unleased_loses_key now (waiting_no_more o)) refl (stop-live now o.machine.server);
   follower = λ held _. no-lease o (record (waiting_no_more o) { role = Follower }) refl refl (λ e. e);
   ready = λ held is. postpones-brings o held (waiting_no_more o) is refl;
@@ -218,59 +246,91 @@ refused-brings now sequence o = refused-by (BringsNothing o) now sequence o (rec
 })
 
 -- what the key store held when it answered a read
-pub read-brings : (now : Ticks) (points : List HistoryPoint) (sequence : ℕ) (snapshot : SnapshotFacts) (o : Outcome) → BringsNothing o (read_answered now points sequence snapshot (looked sequence snapshot (reconciled now o)))
+pub read-brings : (now : Ticks) (points : List HistoryPoint) (sequence : ℕ) (snapshot : SnapshotFacts) (o : Outcome)
+    → BringsNothing o (read_answered now points sequence snapshot (looked sequence snapshot (reconciled now o)))
 read-brings now points sequence snapshot o = let p : Outcome = looked sequence snapshot (reconciled now o) in
-    brings-then o p (read_answered now points sequence snapshot p) (looked-by (BringsNothing o) sequence snapshot (reconciled now o) (told-brings o (reconciled now o) (before-brings now o))) (got-brings now points sequence snapshot p)
+    brings-then o p (read_answered now points sequence snapshot p)
+    (looked-by (BringsNothing o) sequence snapshot (reconciled now o)
+    (told-brings o (reconciled now o) (before-brings now o)))
+    (got-brings now points sequence snapshot p)
 
 -- a refusal
 pub any-refused-brings : (now : Ticks) (sequence : ℕ) (o : Outcome) → BringsNothing o (refused_any now sequence o)
-any-refused-brings now sequence o = refused-any-by (BringsNothing o) now sequence o (told-brings o o (same-role o o refl (λ e. e))) (refused-brings now sequence o)
+any-refused-brings now sequence o = refused-any-by (BringsNothing o) now sequence o
+    (told-brings o o (same-role o o refl (λ e. e))) (refused-brings now sequence o)
 
-pub refusal-brings : (now : Ticks) (sequence : ℕ) (o : Outcome) → BringsNothing o (refused_any now sequence (reconciled now o))
-refusal-brings now sequence o = brings-then o (reconciled now o) (refused_any now sequence (reconciled now o)) (before-brings now o) (any-refused-brings now sequence (reconciled now o))
+pub refusal-brings : (now : Ticks) (sequence : ℕ) (o : Outcome)
+    → BringsNothing o (refused_any now sequence (reconciled now o))
+refusal-brings now sequence o = brings-then o (reconciled now o) (refused_any now sequence (reconciled now o))
+    (before-brings now o) (any-refused-brings now sequence (reconciled now o))
 
-pub answer-brings : (now : Ticks) (sequence : ℕ) (answer : PeerAnswer) (o : Outcome) → BringsNothing o (answered now sequence answer o)
+pub answer-brings : (now : Ticks) (sequence : ℕ) (answer : PeerAnswer) (o : Outcome)
+    → BringsNothing o (answered now sequence answer o)
 answer-brings now sequence answer o = answered-by (BringsNothing o) now sequence answer o (record {
   kept = same-role o o refl (λ e. e);
   quiet = same-role o (waiting_no_more o) refl (λ e. e);
   keeps = same-role o (keeping answer o) refl (λ e. e);
-  judges = λ _. brings-then o (keeping answer o) (judged now (keeping answer o)) (same-role o (keeping answer o) refl (λ e. e)) (judged-brings now (keeping answer o));
-  checks = λ held is. handover-brings now held o (keeping answer o) is (same-role o (keeping answer o) refl (λ e. e)) refl;
+  judges = λ _. brings-then o (keeping answer o) (judged now (keeping answer o))
+      (same-role o (keeping answer o) refl (λ e. e)) (judged-brings now (keeping answer o));
+  checks =
+      λ held is. handover-brings now held o (keeping answer o) is (same-role o (keeping answer o) refl (λ e. e)) refl;
 })
 
 -- the answer of another member
-pub answered-brings : (now : Ticks) (sequence : ℕ) (answer : PeerAnswer) (o : Outcome) → BringsNothing o (answered now sequence answer (reconciled now o))
-answered-brings now sequence answer o = brings-then o (reconciled now o) (answered now sequence answer (reconciled now o)) (before-brings now o) (answer-brings now sequence answer (reconciled now o))
+pub answered-brings : (now : Ticks) (sequence : ℕ) (answer : PeerAnswer) (o : Outcome)
+    → BringsNothing o (answered now sequence answer (reconciled now o))
+answered-brings now sequence answer o =
+    brings-then o (reconciled now o) (answered now sequence answer (reconciled now o)) (before-brings now o)
+    (answer-brings now sequence answer (reconciled now o))
 
 -- the question of another member
-pub asked-brings : (now : Ticks) (from : MemberId) (incarnation sequence : ℕ) (o : Outcome) → BringsNothing o (asked from incarnation sequence (reconciled now o))
-asked-brings now from incarnation sequence o = brings-then o (reconciled now o) (asked from incarnation sequence (reconciled now o)) (before-brings now o) (same-role (reconciled now o) (asked from incarnation sequence (reconciled now o)) refl (λ e. e))
+pub asked-brings : (now : Ticks) (from : MemberId) (incarnation sequence : ℕ) (o : Outcome)
+    → BringsNothing o (asked from incarnation sequence (reconciled now o))
+asked-brings now from incarnation sequence o =
+    brings-then o (reconciled now o) (asked from incarnation sequence (reconciled now o)) (before-brings now o)
+    (same-role (reconciled now o) (asked from incarnation sequence (reconciled now o)) refl (λ e. e))
 
 -- another member asks to stay primary, or answers such a request
-pub holding-brings : (now : Ticks) (from : MemberId) (incarnation sequence : ℕ) (ttl : Ticks) (o : Outcome) → BringsNothing o (failsafe_asked now from incarnation sequence ttl o)
-holding-brings now from incarnation sequence ttl o = failsafe-asked-by (BringsNothing o) now from incarnation sequence ttl o
-    (λ _. same-role o (answering_failsafe from incarnation sequence true (holding_for now from sequence ttl o)) refl (λ e. e))
+pub holding-brings : (now : Ticks) (from : MemberId) (incarnation sequence : ℕ) (ttl : Ticks) (o : Outcome)
+    → BringsNothing o (failsafe_asked now from incarnation sequence ttl o)
+holding-brings now from incarnation sequence ttl o =
+    failsafe-asked-by (BringsNothing o) now from incarnation sequence ttl o
+    (λ _.
+    same-role o (answering_failsafe from incarnation sequence true (holding_for now from sequence ttl o)) refl (λ e. e))
     (same-role o (answering_failsafe from incarnation sequence false o) refl (λ e. e))
 
-pub staying-brings : (now : Ticks) (from : MemberId) (sequence : ℕ) (accepted : Bool) (sent : Ticks) (o : Outcome) → BringsNothing o (failsafe_answered now from sequence accepted sent o)
-staying-brings now from sequence accepted sent o = failsafe-answered-by (BringsNothing o) now from sequence accepted sent o (record {
-  kept = same-role o o refl (λ e. e);
-  quiet = same-role o (waiting_no_more o) refl (λ e. e);
-  counts = λ held _. same-role o (counting from sent o) refl (λ e. e);
-  stays = λ held _ waited _ _ since _ _. same-role o (stays now waited.ttl waited.sequence since (counting from sent o)) refl (λ e. e);
-  counts_late = λ held _ _. same-role o (waiting_no_more (counting from sent o)) refl (λ e. e);
-  fails = λ held is _. unacknowledged-brings now held o is;
-})
+pub staying-brings : (now : Ticks) (from : MemberId) (sequence : ℕ) (accepted : Bool) (sent : Ticks) (o : Outcome)
+    → BringsNothing o (failsafe_answered now from sequence accepted sent o)
+staying-brings now from sequence accepted sent o =
+    failsafe-answered-by (BringsNothing o) now from sequence accepted sent o (record {
+      kept = same-role o o refl (λ e. e);
+      quiet = same-role o (waiting_no_more o) refl (λ e. e);
+      counts = λ held _. same-role o (counting from sent o) refl (λ e. e);
+      stays = λ held _ waited _ _ since _ _.
+          same-role o (stays now waited.ttl waited.sequence since (counting from sent o)) refl (λ e. e);
+      counts_late = λ held _ _. same-role o (waiting_no_more (counting from sent o)) refl (λ e. e);
+      fails = λ held is _. unacknowledged-brings now held o is;
+    })
 
-pub failsafe-asked-brings : (now : Ticks) (from : MemberId) (incarnation sequence : ℕ) (ttl : Ticks) (o : Outcome) → BringsNothing o (failsafe_asked now from incarnation sequence ttl (reconciled now o))
-failsafe-asked-brings now from incarnation sequence ttl o = let b : Outcome = reconciled now o in brings-then o b (failsafe_asked now from incarnation sequence ttl b) (before-brings now o) (holding-brings now from incarnation sequence ttl b)
+pub failsafe-asked-brings : (now : Ticks) (from : MemberId) (incarnation sequence : ℕ) (ttl : Ticks) (o : Outcome)
+    → BringsNothing o (failsafe_asked now from incarnation sequence ttl (reconciled now o))
+failsafe-asked-brings now from incarnation sequence ttl o =
+    let b : Outcome = reconciled now o in brings-then o b (failsafe_asked now from incarnation sequence ttl b)
+    (before-brings now o) (holding-brings now from incarnation sequence ttl b)
 
-pub failsafe-answered-brings : (now : Ticks) (from : MemberId) (sequence : ℕ) (accepted : Bool) (sent : Ticks) (o : Outcome) → BringsNothing o (failsafe_answered now from sequence accepted sent (reconciled now o))
-failsafe-answered-brings now from sequence accepted sent o = let b : Outcome = reconciled now o in brings-then o b (failsafe_answered now from sequence accepted sent b) (before-brings now o) (staying-brings now from sequence accepted sent b)
+pub failsafe-answered-brings : (now : Ticks) (from : MemberId) (sequence : ℕ) (accepted : Bool) (sent : Ticks)
+    (o : Outcome) → BringsNothing o (failsafe_answered now from sequence accepted sent (reconciled now o))
+failsafe-answered-brings now from sequence accepted sent o =
+    let b : Outcome = reconciled now o in brings-then o b (failsafe_answered now from sequence accepted sent b)
+    (before-brings now o) (staying-brings now from sequence accepted sent b)
 
 -- what an operator asks
-pub acting-brings : (now : Ticks) (action : OperatorAction) (o : Outcome) → BringsNothing o (operated now action.request action.asked o)
-acting-brings now action o = operated-by (BringsNothing o) now action.request action.asked o (acts-bring now action.request o)
+pub acting-brings : (now : Ticks) (action : OperatorAction) (o : Outcome)
+    → BringsNothing o (operated now action.request action.asked o)
+acting-brings now action o =
+    operated-by (BringsNothing o) now action.request action.asked o (acts-bring now action.request o)
 
-pub operated-brings : (now : Ticks) (action : OperatorAction) (o : Outcome) → BringsNothing o (operated now action.request action.asked (reconciled now o))
-operated-brings now action o = let b : Outcome = reconciled now o in brings-then o b (operated now action.request action.asked b) (before-brings now o) (acting-brings now action b)
+pub operated-brings : (now : Ticks) (action : OperatorAction) (o : Outcome)
+    → BringsNothing o (operated now action.request action.asked (reconciled now o))
+operated-brings now action o = let b : Outcome = reconciled now o in
+    brings-then o b (operated now action.request action.asked b) (before-brings now o) (acting-brings now action b)

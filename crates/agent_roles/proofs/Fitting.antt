@@ -14,7 +14,8 @@ use Rattle.agent_cases.proofs.Rows.{before-by}
 abbrev FitsIn : Outcome → Type 0
 FitsIn o = Fits o.role (live o.machine.server.state)
 
-ended-fits : (why : Why) (revision : ℕ) (o : Outcome) → live o.machine.server.state ≡ false → FitsIn (has_ended why revision o)
+ended-fits : (why : Why) (revision : ℕ) (o : Outcome) → live o.machine.server.state ≡ false
+    → FitsIn (has_ended why revision o)
 ended-fits HandOver revision o ended = ended
 ended-fits Lost revision o ended = ended
 
@@ -52,13 +53,15 @@ ended-unready : (why : Why) (held : ℕ) (o : Outcome) → is_ready (has_ended w
 ended-unready HandOver held o = refl
 ended-unready Lost held o = refl
 
-pub ready-same : (now : Ticks) (o : Outcome) → is_ready (reconciled now o).role ≡ true → (reconciled now o).machine.watchdog ≡ o.machine.watchdog
-ready-same now o = before-by (λ (x : Outcome). is_ready x.role ≡ true → x.machine.watchdog ≡ o.machine.watchdog) now o (record {
-  kept = λ _ _. refl;
-  leader = λ held _ _ e. absurd (no-way e);
-  ending = λ held why _ _ e. absurd (no-way (sym (ended-unready why held o) ∙ e));
-  follower = λ _ _ e. absurd (no-way e);
-  holder = λ held _ _ e. absurd (no-way e);
-  ready = λ held _ _ e. absurd (no-way e);
-  unleased = λ _ _ e. absurd (no-way e);
-})
+pub ready-same : (now : Ticks) (o : Outcome) → is_ready (reconciled now o).role ≡ true
+    → (reconciled now o).machine.watchdog ≡ o.machine.watchdog
+ready-same now o =
+    before-by (λ (x : Outcome). is_ready x.role ≡ true → x.machine.watchdog ≡ o.machine.watchdog) now o (record {
+      kept = λ _ _. refl;
+      leader = λ held _ _ e. absurd (no-way e);
+      ending = λ held why _ _ e. absurd (no-way (sym (ended-unready why held o) ∙ e));
+      follower = λ _ _ e. absurd (no-way e);
+      holder = λ held _ _ e. absurd (no-way e);
+      ready = λ held _ _ e. absurd (no-way e);
+      unleased = λ _ _ e. absurd (no-way e);
+    })

@@ -45,20 +45,28 @@ pub before-waits : (now : Ticks) (o : Outcome) → (reconciled now o).knows.wait
 before-waits now o = (before-leaves now o).waited
 
 -- an agent that reads of no pause behind what precedes an input isn't paused after it
-pub stays-unpaused : (now : Ticks) (snapshot : SnapshotFacts) (o : Outcome) → is_paused o.knows ≡ false → (config_in snapshot).pause ≡ false → is_paused (informed snapshot (reconciled now o).knows) ≡ false
+pub stays-unpaused : (now : Ticks) (snapshot : SnapshotFacts) (o : Outcome) → is_paused o.knows ≡ false
+    → (config_in snapshot).pause ≡ false → is_paused (informed snapshot (reconciled now o).knows) ≡ false
 stays-unpaused now snapshot o was told = let settings : Config = (reconciled now o).knows.settings in
-    false_from_ne_true (settings_in settings snapshot).pause (λ e. elim (told-pause settings (entry_in keys.Config snapshot) e) [
+    false_from_ne_true (settings_in settings snapshot).pause
+    (λ e. elim (told-pause settings (entry_in keys.Config snapshot) e) [
       | inl before-it ↦ no-way (sym (ap (λ (c : Config). c.pause) (before-read now o).0 ∙ was) ∙ before-it)
       | inr new ↦ no-way (sym told ∙ new)
     ])
 
 -- what is waited for goes on to be counted
-pub input-counts : (now : Ticks) (points : List HistoryPoint) (heard : Heard) (o after : Outcome) → after ≡ step now points heard o → HasCounted o.knows → HasCounted after.knows
-input-counts now points heard o after is counted = subst (λ (x : Outcome). HasCounted x.knows) (sym is) ((step-onward now points heard o).counts counted)
+pub input-counts : (now : Ticks) (points : List HistoryPoint) (heard : Heard) (o after : Outcome)
+    → after ≡ step now points heard o → HasCounted o.knows → HasCounted after.knows
+input-counts now points heard o after is counted =
+    subst (λ (x : Outcome). HasCounted x.knows) (sym is) ((step-onward now points heard o).counts counted)
 
 -- who ends its server goes on waiting for no answer
-pub input-ends : (now : Ticks) (points : List HistoryPoint) (heard : Heard) (o : Outcome) → EndsAlone o.role o.knows.waited → EndsAlone (step now points heard o).role (step now points heard o).knows.waited
-input-ends now points heard o ends = ends-of (step now points heard o) ((step-onward now points heard o).ends (alone-of o ends))
+pub input-ends : (now : Ticks) (points : List HistoryPoint) (heard : Heard) (o : Outcome)
+    → EndsAlone o.role o.knows.waited → EndsAlone (step now points heard o).role (step now points heard o).knows.waited
+input-ends now points heard o ends =
+    ends-of (step now points heard o) ((step-onward now points heard o).ends (alone-of o ends))
 
-pub input-ends-as : (now : Ticks) (points : List HistoryPoint) (heard : Heard) (o after : Outcome) → after ≡ step now points heard o → EndsAlone o.role o.knows.waited → EndsAlone after.role after.knows.waited
-input-ends-as now points heard o after is ends = subst (λ (x : Outcome). EndsAlone x.role x.knows.waited) (sym is) (input-ends now points heard o ends)
+pub input-ends-as : (now : Ticks) (points : List HistoryPoint) (heard : Heard) (o after : Outcome)
+    → after ≡ step now points heard o → EndsAlone o.role o.knows.waited → EndsAlone after.role after.knows.waited
+input-ends-as now points heard o after is ends =
+    subst (λ (x : Outcome). EndsAlone x.role x.knows.waited) (sym is) (input-ends now points heard o ends)

@@ -38,20 +38,22 @@ leads _ = false
 abbrev pub Acts : Outcome → Type 0
 Acts o = (live o.machine.server.state ≡ true) ⊎ (is_ready o.role ≡ true)
 
--- what comes of an input brings nothing: a server that is live after it was live before, who leads or is about to after it did
--- before, and a lease after it is the one before
+-- what comes of an input brings nothing: a server that is live after it was live before,
+-- who leads or is about to after it did before, and a lease after it is the one before
 pub record BringsNothing (o after : Outcome) : Type 0 where
   pub live : live after.machine.server.state ≡ true → live o.machine.server.state ≡ true
   pub leads : leads after.role ≡ true → leads o.role ≡ true
   pub ready : is_ready after.role ≡ true → is_ready o.role ≡ true
   pub lease : (revision : ℕ) → lease_of after.role ≡ Some revision → lease_of o.role ≡ Some revision
 
--- what an input without a grant may do to its watchdog: nothing; or its deadline is removed, where nobody acts after it; or where
--- an agent that was about to begin found its server live, which only an operator's promotion brings
+-- what an input without a grant may do to its watchdog: nothing; or its deadline is removed, where nobody acts after
+-- it; or where an agent that was about to begin found its server live, which only an operator's promotion brings
 pub data DeadlineMay (o after : Outcome) : Type 0 where
   Kept : (same : after.machine.watchdog ≡ o.machine.watchdog) → DeadlineMay o after
-  Removed : (is : after.machine.watchdog ≡ record o.machine.watchdog { deadline = None }) → (rests : Acts after → ⊥) → DeadlineMay o after
-  Undone : (is : after.machine.watchdog ≡ record o.machine.watchdog { deadline = None }) → (ready : is_ready o.role ≡ true) → (live : live o.machine.server.state ≡ true) → DeadlineMay o after
+  Removed : (is : after.machine.watchdog ≡ record o.machine.watchdog { deadline = None })
+      → (rests : Acts after → ⊥) → DeadlineMay o after
+  Undone : (is : after.machine.watchdog ≡ record o.machine.watchdog { deadline = None })
+      → (ready : is_ready o.role ≡ true) → (live : live o.machine.server.state ≡ true) → DeadlineMay o after
 
 -- what an input without a grant may do to its machine beside its server
 pub record LeavesMachine (o after : Outcome) : Type 0 where
@@ -59,16 +61,19 @@ pub record LeavesMachine (o after : Outcome) : Type 0 where
   pub basis : after.machine.by_failsafe ≡ o.machine.by_failsafe
   pub hold : after.machine.hold ≡ o.machine.hold
 
--- acknowledgements of these members feed the watchdog, over leases of this span: a leader's, which leads on, and knows what it knew of failsafe keys
+-- acknowledgements of these members feed the watchdog, over leases of this
+-- span: a leader's, which leads on, and knows what it knew of failsafe keys
 pub record IsFedByFailsafe (now ttl : Ticks) (o after : Outcome) : Type 0 where
   pub leader : is_leader o.role ≡ true
   pub leads : is_leader after.role ≡ true
   pub fed : after.machine.watchdog ≡ fed now.0 ttl.0 o.machine.watchdog
-  pub basis : after.machine.by_failsafe ≡ (is_armable o.machine.watchdog.mode o.machine.watchdog.works || o.machine.by_failsafe)
+  pub basis : after.machine.by_failsafe
+      ≡ (is_armable o.machine.watchdog.mode o.machine.watchdog.works || o.machine.by_failsafe)
   pub hold : after.machine.hold ≡ o.machine.hold
   pub known : after.knows.known ≡ o.knows.known
   pub informed : after.knows.informed ≡ o.knows.informed
-  pub told : is_armable o.machine.watchdog.mode o.machine.watchdog.works ≡ true → has_one is_feeding after.outputs ≡ true
+  pub told : is_armable o.machine.watchdog.mode o.machine.watchdog.works ≡ true
+      → has_one is_feeding after.outputs ≡ true
 
 -- a leader that is out of the key store's reach has nobody to ask, and stays primary
 pub record StaysAlone (now : Ticks) (o after : Outcome) : Type 0 where
@@ -107,21 +112,42 @@ pub record IsAwaitedLease (sequence : ℕ) (grant : Granted) (knows : Knowledge)
   pub decision : is_decision waited sequence ≡ true
   pub mine : is_lease_of knows.who.me grant ≡ true
 
--- what a granted request may bring an agent: nothing; or the lease of its revision, where it is waited for: if it is heard in time, the watchdog is
--- fed on it for the span that was asked for and an output tells that, if this member needs one then with a device that works, and the
--- members of the snapshot's failsafe key are known. Who comes to act has no active hold. Heard too late it comes to a leader alone, whose watchdog
--- keeps its deadline. In a pause the lease comes with no deadline. Or an agent that was about to begin does so
-pub data GrantMay (now : Ticks) (sequence : ℕ) (grant : Granted) (snapshot : SnapshotFacts) (o after : Outcome) : Type 0 where
-  Nothing : (brings : BringsNothing o after) → (deadline : DeadlineMay o after) → (basis : after.machine.by_failsafe ≡ o.machine.by_failsafe) → GrantMay now sequence grant snapshot o after
-  Leads : (awaited : IsAwaitedLease sequence grant o.knows) → (in_time : comes_late now awaited.waited o.machine ≡ false) → (fed : after.machine.watchdog ≡ fed now.0 awaited.waited.ttl.0 o.machine.watchdog) → (basis : after.machine.by_failsafe ≡ (not (is_armable o.machine.watchdog.mode o.machine.watchdog.works) && o.machine.by_failsafe)) → (lease : lease_of after.role ≡ Some grant.revision) → (parted : is_ready after.role ≡ true → live after.machine.server.state ≡ false)
+-- what a granted request may bring an agent: nothing; or the lease of its revision, where it is waited for:
+-- if it is heard in time, the watchdog is fed on it for the span that was asked for and an output tells that,
+-- if this member needs one then with a device that works, and the members of the snapshot's failsafe key are
+-- known. Who comes to act has no active hold. Heard too late it comes to a leader alone, whose watchdog keeps
+-- its deadline. In a pause the lease comes with no deadline. Or an agent that was about to begin does so
+pub data GrantMay (now : Ticks) (sequence : ℕ) (grant : Granted) (snapshot : SnapshotFacts) (o after : Outcome) : Type
+    0 where
+  Nothing : (brings : BringsNothing o after) → (deadline : DeadlineMay o after)
+      → (basis : after.machine.by_failsafe ≡ o.machine.by_failsafe) → GrantMay now sequence grant snapshot o after
+  Leads : (awaited : IsAwaitedLease sequence grant o.knows)
+      → (in_time : comes_late now awaited.waited o.machine ≡ false)
+      → (fed : after.machine.watchdog ≡ fed now.0 awaited.waited.ttl.0 o.machine.watchdog)
+      → (basis : after.machine.by_failsafe
+      ≡ (not (is_armable o.machine.watchdog.mode o.machine.watchdog.works) && o.machine.by_failsafe))
+      → (lease : lease_of after.role ≡ Some grant.revision)
+      → (parted : is_ready after.role ≡ true → live after.machine.server.state ≡ false)
       → (known : after.knows.known ≡ known_with o.knows.known (failsafe_in snapshot))
-      → (told : is_armable o.machine.watchdog.mode o.machine.watchdog.works ≡ true → has_one is_feeding after.outputs ≡ true)
+      → (told : is_armable o.machine.watchdog.mode o.machine.watchdog.works ≡ true →
+      has_one is_feeding after.outputs ≡ true)
       → (free : Acts after → (live o.machine.server.state ≡ true) ⊎ (is_hold_active now o.machine.hold ≡ false))
-      → (armed : Acts after → (live o.machine.server.state ≡ true) ⊎ (is_refusing o.machine.watchdog.mode o.machine.watchdog.works ≡ false))
+      → (armed : Acts after →
+      (live o.machine.server.state ≡ true) ⊎ (is_refusing o.machine.watchdog.mode o.machine.watchdog.works ≡ false))
       → GrantMay now sequence grant snapshot o after
-  Keeps : (awaited : IsAwaitedLease sequence grant o.knows) → (late : comes_late now awaited.waited o.machine ≡ true) → (led : is_leader o.role ≡ true) → (same : after.machine.watchdog ≡ o.machine.watchdog) → (basis : after.machine.by_failsafe ≡ o.machine.by_failsafe)
-      → (lease : lease_of after.role ≡ Some grant.revision) → (ready : is_ready after.role ≡ false) → (known : after.knows.known ≡ known_with o.knows.known (failsafe_in snapshot)) → (lives : live after.machine.server.state ≡ true → live o.machine.server.state ≡ true)
+  Keeps : (awaited : IsAwaitedLease sequence grant o.knows) → (late : comes_late now awaited.waited o.machine ≡ true)
+      → (led : is_leader o.role ≡ true) → (same : after.machine.watchdog ≡ o.machine.watchdog)
+      → (basis : after.machine.by_failsafe ≡ o.machine.by_failsafe)
+      → (lease : lease_of after.role ≡ Some grant.revision) → (ready : is_ready after.role ≡ false)
+      → (known : after.knows.known ≡ known_with o.knows.known (failsafe_in snapshot))
+      → (lives : live after.machine.server.state ≡ true → live o.machine.server.state ≡ true)
       → GrantMay now sequence grant snapshot o after
-  Rests : (paused : is_paused (informed snapshot o.knows) ≡ true) → (awaited : IsAwaitedLease sequence grant o.knows) → (rested : after.machine.watchdog ≡ record o.machine.watchdog { deadline = None }) → (lease : lease_of after.role ≡ Some grant.revision)
-      → (free : Acts after → (live o.machine.server.state ≡ true) ⊎ (is_hold_active now o.machine.hold ≡ false)) → GrantMay now sequence grant snapshot o after
-  Begins : (was_ready : is_ready o.role ≡ true) → (ready : is_ready after.role ≡ false) → (same : after.machine.watchdog ≡ o.machine.watchdog) → (basis : after.machine.by_failsafe ≡ o.machine.by_failsafe) → (lease : lease_of after.role ≡ lease_of o.role) → GrantMay now sequence grant snapshot o after
+  Rests : (paused : is_paused (informed snapshot o.knows) ≡ true) → (awaited : IsAwaitedLease sequence grant o.knows)
+      → (rested : after.machine.watchdog ≡ record o.machine.watchdog { deadline = None })
+      → (lease : lease_of after.role ≡ Some grant.revision)
+      → (free : Acts after → (live o.machine.server.state ≡ true) ⊎ (is_hold_active now o.machine.hold ≡ false))
+      → GrantMay now sequence grant snapshot o after
+  Begins : (was_ready : is_ready o.role ≡ true) → (ready : is_ready after.role ≡ false)
+      → (same : after.machine.watchdog ≡ o.machine.watchdog)
+      → (basis : after.machine.by_failsafe ≡ o.machine.by_failsafe)
+      → (lease : lease_of after.role ≡ lease_of o.role) → GrantMay now sequence grant snapshot o after

@@ -66,7 +66,14 @@ failsafe_read_seen (Some read) = Some (record { revision = read.revision; member
 -- what the law sees of the acknowledgements that an agent waits for, if it does
 abbrev pub check_seen : Ask → Option PendingQuestion → Option FailsafeCheck
 check_seen ask None = None
-check_seen ask (Some waited) = if is_staying waited.question then Some (record { sequence = waited.sequence; ttl = waited.ttl.0; sent = waited.sent.0; members = set_members ask.members; yes = set_members ask.acknowledged }) else None
+check_seen ask (Some waited) = if is_staying waited.question then Some (record {
+  sequence = waited.sequence;
+  ttl = waited.ttl.0;
+  sent = waited.sent.0;
+  members = set_members ask.members;
+  yes = set_members ask.acknowledged;
+})
+    else None
 
 -- what the law sees of an agent in this role
 abbrev pub agent_seen : RoleFacts → Knowledge → AgentSeen

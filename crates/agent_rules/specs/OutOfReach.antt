@@ -31,7 +31,8 @@ pub record HasNoAnswer (asks : Question → Bool) (now : Ticks) (revision : ℕ)
   pub over : waited.until.0 ≤ now.0
   pub unpaused : is_paused o.knows ≡ false
 
--- that is its read or its renewal, and it may not stay primary by the word of the others: failsafe mode is off, or no grant confirmed a failsafe key
+-- that is its read or its renewal, and it may not stay primary by the word
+-- of the others: failsafe mode is off, or no grant confirmed a failsafe key
 abbrev pub IsOutOfReach : Ticks → ℕ → Outcome → Type 0
 IsOutOfReach now revision o = HasNoAnswer asks_to_lead now revision o × (may_stay o.knows ≡ false)
 
@@ -60,8 +61,10 @@ abbrev pub turn_of : Ticks → Option Ticks → Question → Ticks
 turn_of now last_turn Reading = now
 turn_of now last_turn question = turn_start now last_turn
 
--- a read or a renewal that is waited for after an input was waited for before it; or its time is over `retry_timeout` seconds after its turn began, by the
--- newest settings
+-- a read or a renewal that is waited for after an input was waited for before it; or
+-- its time is over `retry_timeout` seconds after its turn began, by the newest settings
 abbrev pub WaitsForTurn : Ticks → Outcome → Outcome → Type 0
-WaitsForTurn now o after = (waited : PendingQuestion) → after.knows.waited ≡ Some waited → asks_to_lead waited.question ≡ true
-    → (o.knows.waited ≡ Some waited) ⊎ (waited.until ≡ seconds_after (turn_of now o.knows.last_turn waited.question) after.knows.settings.retry_timeout)
+WaitsForTurn now o after =
+    (waited : PendingQuestion) → after.knows.waited ≡ Some waited → asks_to_lead waited.question ≡ true
+    → (o.knows.waited ≡ Some waited)
+    ⊎ (waited.until ≡ seconds_after (turn_of now o.knows.last_turn waited.question) after.knows.settings.retry_timeout)

@@ -26,12 +26,13 @@ IsRestart _ = ⊥
 
 -- an operator wants this member to lead, by the failover key of the turn or of the snapshot that comes with a grant
 abbrev pub NamesAsCandidate : Heard → Outcome → Type 0
-NamesAsCandidate (heards.Granted sequence grant snapshot) o = (is_candidate o.knows.who.me o.knows.turn_failover ≡ true) ⊎ (is_candidate o.knows.who.me (failover_in snapshot) ≡ true)
+NamesAsCandidate (heards.Granted sequence grant snapshot) o = (is_candidate o.knows.who.me o.knows.turn_failover ≡ true)
+    ⊎ (is_candidate o.knows.who.me (failover_in snapshot) ≡ true)
 NamesAsCandidate _ o = ⊥
 
--- an output that an agent makes in a pause in an input that hears this, in this role behind it. It ends its server only to hand over, starts it as a replica
--- only after a handover of its own, begins only with a replica that an operator wants to lead, and rewinds nothing; what else comes to its server an
--- operator asks for
+-- an output that an agent makes in a pause in an input that hears this, in this role behind it. It ends its
+-- server only to hand over, starts it as a replica only after a handover of its own, begins only with a replica
+-- that an operator wants to lead, and rewinds nothing; what else comes to its server an operator asks for
 abbrev pub IsRestrained : Heard → Outcome → RoleFacts → Output → Type 0
 IsRestrained heard o role (outputs.Stop reason) = ⊥
 IsRestrained heard o role outputs.ShutDown = HandsOver role

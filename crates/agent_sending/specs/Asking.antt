@@ -26,33 +26,39 @@ IsNumbered above most _ = Unit {0}
 pub record IsAskedNow (now : Ticks) (o after : Outcome) (waited : PendingQuestion) : Type 0 where
   pub later : o.knows.sequence < waited.sequence
   pub sent : waited.sent ≡ now
-  pub ttl : (txn : Txn) → Contains after.outputs (outputs.Send targets.Store waited.sequence (bodies.Request txn)) → span_asked (query_of txn) ≡ waited.ttl.0
+  pub ttl : (txn : Txn) → Contains after.outputs (outputs.Send targets.Store waited.sequence (bodies.Request txn))
+      → span_asked (query_of txn) ≡ waited.ttl.0
 
 -- the acknowledgements of a failsafe request are waited for
 abbrev pub awaits_stay : Option PendingQuestion → Bool
 awaits_stay None = false
 awaits_stay (Some waited) = is_staying waited.question
 
--- a watchdog is fed on the acknowledgements of those that were asked by the request whose answers are waited for, or of nobody where none are
+-- a watchdog is fed on the acknowledgements of those that were asked by
+-- the request whose answers are waited for, or of nobody where none are
 pub record FeedsAsAsked (knows : Knowledge) (members : MemberSet) (sequence : ℕ) : Type 0 where
-  pub asked : (waited : PendingQuestion) → knows.waited ≡ Some waited → is_staying waited.question ≡ true → (members ≡ knows.failsafe.members) × (sequence ≡ waited.sequence)
+  pub asked : (waited : PendingQuestion) → knows.waited ≡ Some waited → is_staying waited.question ≡ true
+      → (members ≡ knows.failsafe.members) × (sequence ≡ waited.sequence)
   pub nobody : awaits_stay knows.waited ≡ false → members.bits == 0 ≡ true
 
 -- this request of that member is heard
 abbrev pub HearsFailsafe : Heard → MemberId → ℕ → ℕ → Type 0
 HearsFailsafe heard from run sequence = (ttl : Ticks) × (heard ≡ FailsafeAsked from run sequence ttl)
 
--- an output holds and acknowledges only on a request that is heard, but for holds under number 0, which a member takes for itself; and it feeds
--- the watchdog so
+-- an output holds and acknowledges only on a request that is heard, but for holds
+-- under number 0, which a member takes for itself; and it feeds the watchdog so
 abbrev pub StandsOn : Heard → Knowledge → Output → Type 0
-StandsOn heard knows (outputs.HoldTaken until from sequence) = ((sequence ≡ 0) × (from ≡ knows.who.me)) ⊎ ((run : ℕ) × HearsFailsafe heard from run sequence)
-StandsOn heard knows (outputs.FailsafeAnswer to run sequence accepted) = accepted ≡ true → HearsFailsafe heard to run sequence
+StandsOn heard knows (outputs.HoldTaken until from sequence) =
+    ((sequence ≡ 0) × (from ≡ knows.who.me)) ⊎ ((run : ℕ) × HearsFailsafe heard from run sequence)
+StandsOn heard knows (outputs.FailsafeAnswer to run sequence accepted) =
+    accepted ≡ true → HearsFailsafe heard to run sequence
 StandsOn heard knows (outputs.FedByFailsafe until members sequence since) = FeedsAsAsked knows members sequence
 StandsOn heard knows _ = Unit {0}
 
--- an input asks under new numbers that are counted, and the create or the renewal that its agent waits for after it was waited for
--- before, or is asked in it; and its outputs stand on what is heard and waited for
+-- an input asks under new numbers that are counted, and the create or the renewal that its agent waits for
+-- after it was waited for before, or is asked in it; and its outputs stand on what is heard and waited for
 pub record AsksAsWaited (now : Ticks) (heard : Heard) (o after : Outcome) : Type 0 where
   pub stands : All (StandsOn heard o.knows) after.outputs
   pub numbered : All (IsNumbered o.knows.sequence after.knows.sequence) after.outputs
-  pub waits : (waited : PendingQuestion) → after.knows.waited ≡ Some waited → asks_lease waited.question ≡ true → (o.knows.waited ≡ Some waited) ⊎ IsAskedNow now o after waited
+  pub waits : (waited : PendingQuestion) → after.knows.waited ≡ Some waited
+      → asks_lease waited.question ≡ true → (o.knows.waited ≡ Some waited) ⊎ IsAskedNow now o after waited

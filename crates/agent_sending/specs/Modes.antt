@@ -19,13 +19,15 @@ use Rattle.agent_model.specs.Peers.{awaits_others}
 abbrev pub TellsMode : Bool → SnapshotFacts → Type 0
 TellsMode mode snapshot = (settings : Config) → (settings_in settings snapshot).failsafe_mode ≡ mode
 
--- an agent may ask for the free leader key: its turn read the mode so, and with the mode on a failsafe key that the turn read lists its member
+-- an agent may ask for the free leader key: its turn read the mode so,
+-- and with the mode on a failsafe key that the turn read lists its member
 pub record MayTakeKey (mode : Bool) (knows : Knowledge) : Type 0 where
   pub turn : knows.turn_settings.failsafe_mode ≡ mode
-  pub listed : mode ≡ true → (read : FailsafeRead) → knows.turn_failsafe ≡ Some read → set_members read.members knows.who.me.number ≡ true
+  pub listed : mode ≡ true → (read : FailsafeRead) → knows.turn_failsafe ≡ Some read
+      → set_members read.members knows.who.me.number ≡ true
 
--- an agent takes the mode to be on only where it is, knows of a failsafe key where its set is confirmed, and compares positions only where it may
--- ask for the leader key then
+-- an agent takes the mode to be on only where it is, knows of a failsafe key where its
+-- set is confirmed, and compares positions only where it may ask for the leader key then
 pub record KeepsMode (mode : Bool) (knows : Knowledge) : Type 0 where
   pub settings : knows.settings.failsafe_mode ≡ true → mode ≡ true
   pub confirmed : knows.confirmed ≡ true → knows.informed ≡ true

@@ -39,7 +39,8 @@ first-true true b e = refl
 first-true false b e = absurd (no-way e)
 
 -- who may create the key may use either lease of it
-may-use : (question : Question) (role : RoleFacts) → asks_lease question ≡ true → may_create role ≡ true → belongs question role ≡ true
+may-use : (question : Question) (role : RoleFacts) → asks_lease question ≡ true → may_create role ≡ true
+    → belongs question role ≡ true
 may-use Reading role asks may = absurd (no-way asks)
 may-use ComparingPositions role asks may = may
 may-use Creating role asks may = may
@@ -58,7 +59,8 @@ either-true : (a b : Bool) → a ≡ true → a || b ≡ true
 either-true true b e = refl
 either-true false b e = absurd (no-way e)
 
-takes-it : (now ttl : Ticks) (revision : ℕ) (role : RoleFacts) (o : Outcome) → may_create role ≡ true → lease_granted now ttl revision role o ≡ takes_key now ttl revision o
+takes-it : (now ttl : Ticks) (revision : ℕ) (role : RoleFacts) (o : Outcome) → may_create role ≡ true
+    → lease_granted now ttl revision role o ≡ takes_key now ttl revision o
 takes-it now ttl revision Follower o may = refl
 takes-it now ttl revision (Holder held) o may = refl
 takes-it now ttl revision (Ready held) o may = absurd (no-way may)
@@ -69,57 +71,109 @@ takes-it now ttl revision Unleased o may = absurd (no-way may)
 abbrev Told : SnapshotFacts → Outcome → Outcome
 Told snapshot o = record o { knows = informed snapshot o.knows }
 
-takes-then : (now : Ticks) (sequence : ℕ) (grant : Granted) (snapshot : SnapshotFacts) (o : Outcome) → is_paused (informed snapshot o.knows) ≡ false → (awaited : IsAwaitedLease sequence grant o.knows) → comes_late now awaited.waited o.machine ≡ false → may_create o.role ≡ true → may_take now (informed snapshot o.knows) o.machine ≡ true
-    → is_refusing o.machine.watchdog.mode o.machine.watchdog.works ≡ false → granted now sequence grant snapshot o ≡ confirming snapshot (begins_or_claims now grant.revision (arming now awaited.waited.ttl (Told snapshot o)))
+takes-then : (now : Ticks) (sequence : ℕ) (grant : Granted) (snapshot : SnapshotFacts) (o : Outcome)
+    → is_paused (informed snapshot o.knows) ≡ false → (awaited : IsAwaitedLease sequence grant o.knows)
+    → comes_late now awaited.waited o.machine ≡ false → may_create o.role ≡ true
+    → may_take now (informed snapshot o.knows) o.machine ≡ true
+    → is_refusing o.machine.watchdog.mode o.machine.watchdog.works ≡ false
+    → granted now sequence grant snapshot o
+    ≡ confirming snapshot (begins_or_claims now grant.revision (arming now awaited.waited.ttl (Told snapshot o)))
 takes-then now sequence grant snapshot o unpaused awaited in_time may take armed =
     let waited = awaited.waited in
     let told : Outcome = Told snapshot o in
     ap (λ (w : Option PendingQuestion). granted_for now sequence grant snapshot w o) awaited.is
-    ∙ ap (λ (b : Bool). cond b (accepted_grant now waited grant.revision snapshot o) (granted_write now sequence grant snapshot waited o)) (both-true (is_decision waited sequence) (is_lease_of o.knows.who.me grant) awaited.decision awaited.mine)
-    ∙ ap (λ (b : Bool). cond b (confirming snapshot (lease_used now waited grant.revision told)) (waiting_no_more o)) (either-true (belongs waited.question o.role) (is_paused told.knows && asks_in_pause waited.question o.role) (may-use waited.question o.role (first-true (asks_lease waited.question) _ awaited.decision) may))
-    ∙ ap (confirming snapshot) (ap (λ (b : Bool). cond b (granted_in_pause now (asks_renewal waited.question) grant.revision o.role told) (lease_heard now waited grant.revision told)) unpaused
-    ∙ ap (λ (b : Bool). cond b (granted_late now grant.revision o.role told) (lease_granted now waited.ttl grant.revision o.role told)) in_time
+    ∙ ap (λ (b : Bool).
+    cond b (accepted_grant now waited grant.revision snapshot o) (granted_write now sequence grant snapshot waited o))
+    (both-true (is_decision waited sequence) (is_lease_of o.knows.who.me grant) awaited.decision awaited.mine)
+    ∙ ap (λ (b : Bool). cond b (confirming snapshot (lease_used now waited grant.revision told)) (waiting_no_more o))
+    (either-true (belongs waited.question o.role) (is_paused told.knows && asks_in_pause waited.question o.role)
+    (may-use waited.question o.role (first-true (asks_lease waited.question) _ awaited.decision) may))
+    ∙ ap (confirming snapshot)
+    (ap (λ (b : Bool). cond b (granted_in_pause now (asks_renewal waited.question) grant.revision o.role told)
+    (lease_heard now waited grant.revision told))
+    unpaused
+    ∙ ap (λ (b : Bool).
+    cond b (granted_late now grant.revision o.role told) (lease_granted now waited.ttl grant.revision o.role told))
+    in_time
     ∙ takes-it now waited.ttl grant.revision o.role told may
     ∙ ap (λ (b : Bool). cond b (arms now waited.ttl grant.revision told) (gives_back grant.revision told)) take
-    ∙ ap (λ (b : Bool). cond b (cannot_arm grant.revision told) (begins_or_claims now grant.revision (arming now waited.ttl told))) armed)
+    ∙ ap (λ (b : Bool).
+    cond b (cannot_arm grant.revision told) (begins_or_claims now grant.revision (arming now waited.ttl told)))
+    armed)
 
-lease-begins : (now : Ticks) (sequence : ℕ) (grant : Granted) (snapshot : SnapshotFacts) (o : Outcome) → (awaited : IsAwaitedLease sequence grant o.knows) → granted now sequence grant snapshot o ≡ confirming snapshot (begins_or_claims now grant.revision (arming now awaited.waited.ttl (Told snapshot o)))
-    → (o.knows.turn_settings.synchronous_mode ≡ false → BeginsOn now grant.revision o (granted now sequence grant snapshot o)) × (o.knows.turn_settings.synchronous_mode ≡ true → ClaimsOn grant.revision o (granted now sequence grant snapshot o))
-lease-begins now sequence grant snapshot o awaited is = let arm : Outcome = arming now awaited.waited.ttl (Told snapshot o) in
-    let by : (mode : Bool) → o.knows.turn_settings.synchronous_mode ≡ mode → granted now sequence grant snapshot o ≡ confirming snapshot (cond mode (claims now grant.revision (passing arm)) (begins now grant.revision arm)) = λ mode e. is ∙ ap (λ (b : Bool). confirming snapshot (cond b (claims now grant.revision (passing arm)) (begins now grant.revision arm))) e in (
-      (λ off. subst (BeginsOn now grant.revision o) (sym (by false off)) (record { role = refl; server = refl; begins = Contains-push _ outputs.Begin })),
-      (λ on. subst (ClaimsOn grant.revision o) (sym (by true on)) (record { role = refl; server = refl; waited = _; waits = refl; asks = refl; claims = Contains-push (passing arm).outputs _ })),
+lease-begins : (now : Ticks) (sequence : ℕ) (grant : Granted) (snapshot : SnapshotFacts) (o : Outcome)
+    → (awaited : IsAwaitedLease sequence grant o.knows)
+    → granted now sequence grant snapshot o
+    ≡ confirming snapshot (begins_or_claims now grant.revision (arming now awaited.waited.ttl (Told snapshot o)))
+    → (o.knows.turn_settings.synchronous_mode ≡ false →
+    BeginsOn now grant.revision o (granted now sequence grant snapshot o))
+    × (o.knows.turn_settings.synchronous_mode ≡ true →
+    ClaimsOn grant.revision o (granted now sequence grant snapshot o))
+lease-begins now sequence grant snapshot o awaited is =
+    let arm : Outcome = arming now awaited.waited.ttl (Told snapshot o) in
+    let by : (mode : Bool) → o.knows.turn_settings.synchronous_mode ≡ mode → granted now sequence grant snapshot o
+    ≡ confirming snapshot (cond mode (claims now grant.revision (passing arm)) (begins now grant.revision arm)) =
+    λ mode e. is
+    ∙ ap (λ (b : Bool).
+    confirming snapshot (cond b (claims now grant.revision (passing arm)) (begins now grant.revision arm)))
+    e in (
+      (λ off. subst (BeginsOn now grant.revision o) (sym (by false off))
+          (record { role = refl; server = refl; begins = Contains-push _ outputs.Begin })),
+      (λ on. subst (ClaimsOn grant.revision o) (sym (by true on)) (record {
+        role = refl;
+        server = refl;
+        waited = _;
+        waits = refl;
+        asks = refl;
+        claims = Contains-push (passing arm).outputs _;
+      })),
     )
 
 first-false : (a b : Bool) → a ≡ false → a && b ≡ false
 first-false true b e = absurd (no-way (sym e))
 first-false false b e = refl
 
-claim-then : (now : Ticks) (sequence : ℕ) (grant : Granted) (snapshot : SnapshotFacts) (o : Outcome) (revision : ℕ) → is_paused (informed snapshot o.knows) ≡ false → IsAwaitedClaim sequence grant o.knows → o.role ≡ Ready revision → can_begin_on_claim o.machine.server.was_primary o.machine.server.state ≡ true
+claim-then : (now : Ticks) (sequence : ℕ) (grant : Granted) (snapshot : SnapshotFacts) (o : Outcome) (revision : ℕ)
+    → is_paused (informed snapshot o.knows) ≡ false → IsAwaitedClaim sequence grant o.knows
+    → o.role ≡ Ready revision → can_begin_on_claim o.machine.server.was_primary o.machine.server.state ≡ true
     → granted now sequence grant snapshot o ≡ begins now revision (Told snapshot o)
 claim-then now sequence grant snapshot o revision unpaused awaited role can =
     let waited = awaited.waited in
     let told : Outcome = Told snapshot o in
-    let unleased : is_decision waited sequence ≡ false = first-false (asks_lease waited.question) _ (ap asks_lease awaited.asks) in
+    let unleased : is_decision waited sequence ≡ false =
+    first-false (asks_lease waited.question) _ (ap asks_lease awaited.asks) in
     ap (λ (w : Option PendingQuestion). granted_for now sequence grant snapshot w o) awaited.is
-    ∙ ap (λ (b : Bool). cond b (accepted_grant now waited grant.revision snapshot o) (granted_write now sequence grant snapshot waited o)) (first-false (is_decision waited sequence) (is_lease_of o.knows.who.me grant) unleased)
-    ∙ ap (λ (b : Bool). cond b (accepted_sync now waited snapshot o) o) (both-true (is_sync_decision waited sequence) (is_write_of o.knows.who.me grant) (both-true (asks_sync waited.question) _ (ap asks_sync awaited.asks) awaited.number) awaited.mine)
-    ∙ ap (λ (b : Bool). cond b (sync_granted now waited.question o.role told) (waiting_no_more o)) (ap (λ (q : Question). belongs q o.role) awaited.asks ∙ ap is_ready role)
+    ∙ ap (λ (b : Bool).
+    cond b (accepted_grant now waited grant.revision snapshot o) (granted_write now sequence grant snapshot waited o))
+    (first-false (is_decision waited sequence) (is_lease_of o.knows.who.me grant) unleased)
+    ∙ ap (λ (b : Bool). cond b (accepted_sync now waited snapshot o) o)
+    (both-true (is_sync_decision waited sequence) (is_write_of o.knows.who.me grant)
+    (both-true (asks_sync waited.question) _ (ap asks_sync awaited.asks) awaited.number) awaited.mine)
+    ∙ ap (λ (b : Bool). cond b (sync_granted now waited.question o.role told) (waiting_no_more o))
+    (ap (λ (q : Question). belongs q o.role) awaited.asks ∙ ap is_ready role)
     ∙ ap (λ (q : Question). sync_granted now q o.role told) awaited.asks
     ∙ ap (λ (r : RoleFacts). sync_granted now Claiming r told) role
     ∙ ap (λ (b : Bool). cond b (begins now revision told) (postpones revision told))
-    (ap (λ (b : Bool). cond b (is_wanted_by o.knows.who.me (Some snapshot) o.machine.server.state) (can_begin_on_claim o.machine.server.was_primary o.machine.server.state)) unpaused ∙ can)
+    (ap (λ (b : Bool). cond b (is_wanted_by o.knows.who.me (Some snapshot) o.machine.server.state)
+    (can_begin_on_claim o.machine.server.was_primary o.machine.server.state))
+    unpaused ∙ can)
 
-granted-begins : (now : Ticks) (sequence : ℕ) (grant : Granted) (snapshot : SnapshotFacts) (o : Outcome) → BeginsWhereGranted now (HeardGranted sequence grant snapshot) o (granted now sequence grant snapshot o)
+granted-begins : (now : Ticks) (sequence : ℕ) (grant : Granted) (snapshot : SnapshotFacts) (o : Outcome)
+    → BeginsWhereGranted now (HeardGranted sequence grant snapshot) o (granted now sequence grant snapshot o)
 granted-begins now sequence grant snapshot o = (
-  (λ unpaused awaited in_time may take armed. lease-begins now sequence grant snapshot o awaited (takes-then now sequence grant snapshot o unpaused awaited in_time may take armed)),
-  (λ revision unpaused awaited role can. subst (BeginsOn now revision o) (sym (claim-then now sequence grant snapshot o revision unpaused awaited role can)) (record { role = refl; server = refl; begins = Contains-push _ outputs.Begin })),
+  (λ unpaused awaited in_time may take armed. lease-begins now sequence grant snapshot o awaited
+      (takes-then now sequence grant snapshot o unpaused awaited in_time may take armed)),
+  (λ revision unpaused awaited role can. subst (BeginsOn now revision o)
+      (sym (claim-then now sequence grant snapshot o revision unpaused awaited role can))
+      (record { role = refl; server = refl; begins = Contains-push _ outputs.Begin })),
 )
 
 -- ---- a grant is the agent's own
-awaits-own : (waited : Option PendingQuestion) (asked : PendingQuestion) (sequence : ℕ) → waited ≡ Some asked → asked.sequence == sequence ≡ true → awaits_number waited sequence ≡ true
+awaits-own : (waited : Option PendingQuestion) (asked : PendingQuestion) (sequence : ℕ) → waited ≡ Some asked
+    → asked.sequence == sequence ≡ true → awaits_number waited sequence ≡ true
 awaits-own None asked sequence is same = absurd (none-some asked is)
-awaits-own (Some waited) asked sequence is same = subst (λ (w : PendingQuestion). w.sequence == sequence ≡ true) (sym (some-is waited asked is)) same
+awaits-own (Some waited) asked sequence is same =
+    subst (λ (w : PendingQuestion). w.sequence == sequence ≡ true) (sym (some-is waited asked is)) same
 
 not-own : (asked own write : Bool) → own ≡ true → (asked && not own) && write ≡ false
 not-own true true write e = refl
@@ -127,31 +181,45 @@ not-own false own write e = refl
 not-own true false write e = absurd (no-way e)
 
 -- the answer that the agent waits for is its own
-own-grant : (sequence : ℕ) (grant : Granted) (knows : Knowledge) (asked : PendingQuestion) → knows.waited ≡ Some asked → asked.sequence == sequence ≡ true → grants_operator sequence grant knows ≡ false
-own-grant sequence grant knows asked is same = not-own (is_asked_for knows.operating sequence) (awaits_number knows.waited sequence) (is_write_of knows.who.me grant) (awaits-own knows.waited asked sequence is same)
+own-grant : (sequence : ℕ) (grant : Granted) (knows : Knowledge) (asked : PendingQuestion)
+    → knows.waited ≡ Some asked → asked.sequence == sequence ≡ true → grants_operator sequence grant knows ≡ false
+own-grant sequence grant knows asked is same =
+    not-own (is_asked_for knows.operating sequence) (awaits_number knows.waited sequence)
+    (is_write_of knows.who.me grant) (awaits-own knows.waited asked sequence is same)
 
 second-true : (a b : Bool) → a && b ≡ true → b ≡ true
 second-true true b e = e
 second-true false b e = absurd (no-way e)
 
-granted-own : (now : Ticks) (sequence : ℕ) (grant : Granted) (snapshot : SnapshotFacts) (o : Outcome) → grants_operator sequence grant o.knows ≡ false → granted_any now sequence grant snapshot o ≡ granted now sequence grant snapshot o
-granted-own now sequence grant snapshot o own = if-false (grants_operator sequence grant o.knows) (operator_granted snapshot o.knows.operating o) (granted now sequence grant snapshot o) own
+granted-own : (now : Ticks) (sequence : ℕ) (grant : Granted) (snapshot : SnapshotFacts) (o : Outcome)
+    → grants_operator sequence grant o.knows ≡ false
+    → granted_any now sequence grant snapshot o ≡ granted now sequence grant snapshot o
+granted-own now sequence grant snapshot o own = if-false (grants_operator sequence grant o.knows)
+    (operator_granted snapshot o.knows.operating o) (granted now sequence grant snapshot o) own
 
-any-begins : (now : Ticks) (sequence : ℕ) (grant : Granted) (snapshot : SnapshotFacts) (o : Outcome) → BeginsWhereGranted now (HeardGranted sequence grant snapshot) o (granted_any now sequence grant snapshot o)
+any-begins : (now : Ticks) (sequence : ℕ) (grant : Granted) (snapshot : SnapshotFacts) (o : Outcome)
+    → BeginsWhereGranted now (HeardGranted sequence grant snapshot) o (granted_any now sequence grant snapshot o)
 any-begins now sequence grant snapshot o = let begin = granted-begins now sequence grant snapshot o in (
   (λ unpaused awaited in_time may take armed.
-      let own = granted-own now sequence grant snapshot o (own-grant sequence grant o.knows awaited.waited awaited.is (second-true (asks_lease awaited.waited.question) _ awaited.decision)) in (
-        (λ off. subst (BeginsOn now grant.revision o) (sym own) ((begin.0 unpaused awaited in_time may take armed).0 off)),
+      let own = granted-own now sequence grant snapshot o
+      (own-grant sequence grant o.knows awaited.waited awaited.is
+      (second-true (asks_lease awaited.waited.question) _ awaited.decision)) in (
+        (λ off.
+            subst (BeginsOn now grant.revision o) (sym own) ((begin.0 unpaused awaited in_time may take armed).0 off)),
         (λ on. subst (ClaimsOn grant.revision o) (sym own) ((begin.0 unpaused awaited in_time may take armed).1 on)),
       )),
   (λ revision unpaused awaited role can.
-      let own = granted-own now sequence grant snapshot o (own-grant sequence grant o.knows awaited.waited awaited.is awaited.number) in
+      let own = granted-own now sequence grant snapshot o
+      (own-grant sequence grant o.knows awaited.waited awaited.is awaited.number) in
       subst (BeginsOn now revision o) (sym own) (begin.1 revision unpaused awaited role can)),
 )
 
 -- ---- of every input
-pub step-asks : (now : Ticks) (points : List HistoryPoint) (heard : Heard) (o : Outcome) → AsksWhereFree now heard (prepared now heard o) (step now points heard o)
-step-asks now points (ReadAnswered sequence snapshot) o = let p : Outcome = looked sequence snapshot (reconciled now o) in λ hears is. (free-asks now points sequence snapshot p hears is, free-alone now points sequence snapshot p hears is)
+pub step-asks : (now : Ticks) (points : List HistoryPoint) (heard : Heard) (o : Outcome)
+    → AsksWhereFree now heard (prepared now heard o) (step now points heard o)
+step-asks now points (ReadAnswered sequence snapshot) o =
+    let p : Outcome = looked sequence snapshot (reconciled now o) in
+    λ hears is. (free-asks now points sequence snapshot p hears is, free-alone now points sequence snapshot p hears is)
 step-asks now points Wake o = tt
 step-asks now points (HeardGranted sequence grant snapshot) o = tt
 step-asks now points (Mismatch sequence key found) o = tt
@@ -161,8 +229,10 @@ step-asks now points (FailsafeAsked from incarnation sequence ttl) o = tt
 step-asks now points (FailsafeAnswered from sequence accepted sent) o = tt
 step-asks now points (HearsOperator action) o = tt
 
-pub step-wins : (now : Ticks) (points : List HistoryPoint) (heard : Heard) (o : Outcome) → AsksWhereWon now heard (prepared now heard o) (step now points heard o)
-step-wins now points (Answered sequence answer) o = λ waited snapshot hears is. last-won now waited sequence answer snapshot (reconciled now o) hears is
+pub step-wins : (now : Ticks) (points : List HistoryPoint) (heard : Heard) (o : Outcome)
+    → AsksWhereWon now heard (prepared now heard o) (step now points heard o)
+step-wins now points (Answered sequence answer) o =
+    λ waited snapshot hears is. last-won now waited sequence answer snapshot (reconciled now o) hears is
 step-wins now points Wake o = λ waited snapshot runs is. late-won now waited snapshot o runs is
 step-wins now points (ReadAnswered sequence snapshot) o = tt
 step-wins now points (HeardGranted sequence grant snapshot) o = tt
@@ -172,8 +242,10 @@ step-wins now points (FailsafeAsked from incarnation sequence ttl) o = tt
 step-wins now points (FailsafeAnswered from sequence accepted sent) o = tt
 step-wins now points (HearsOperator action) o = tt
 
-pub step-begins : (now : Ticks) (points : List HistoryPoint) (heard : Heard) (o : Outcome) → BeginsWhereGranted now heard (prepared now heard o) (step now points heard o)
-step-begins now points (HeardGranted sequence grant snapshot) o = any-begins now sequence grant snapshot (reconciled now o)
+pub step-begins : (now : Ticks) (points : List HistoryPoint) (heard : Heard) (o : Outcome)
+    → BeginsWhereGranted now heard (prepared now heard o) (step now points heard o)
+step-begins now points (HeardGranted sequence grant snapshot) o =
+    any-begins now sequence grant snapshot (reconciled now o)
 step-begins now points Wake o = tt
 step-begins now points (ReadAnswered sequence snapshot) o = tt
 step-begins now points (Mismatch sequence key found) o = tt

@@ -51,7 +51,8 @@ use Rattle.agent_roles.proofs.Staying.{before-waits}
 use Rattle.agent_roles.proofs.Living.{no-way}
 use Rattle.agent_cases.proofs.Rows.{if-cases, given-up-by}
 
-no-key-free : (now : Ticks) (role : RoleFacts) (o : Outcome) → may_create role ≡ true → no_key now role o ≡ finds_free now o
+no-key-free : (now : Ticks) (role : RoleFacts) (o : Outcome) → may_create role ≡ true
+    → no_key now role o ≡ finds_free now o
 no-key-free now Follower o may = refl
 no-key-free now (Holder held) o may = refl
 no-key-free now (Ready held) o may = absurd (no-way may)
@@ -60,28 +61,41 @@ no-key-free now (Ending held why) o may = absurd (no-way may)
 no-key-free now Unleased o may = absurd (no-way may)
 
 -- the agent finds that nobody leads
-got-free : (now : Ticks) (points : List HistoryPoint) (sequence : ℕ) (snapshot : SnapshotFacts) (o : Outcome) → HearsFree sequence snapshot o → read_answered now points sequence snapshot o ≡ finds_free now (record o { knows = read_noted now snapshot o.knows })
-got-free now points sequence snapshot o hears = let read : Outcome = record o { knows = read_noted now snapshot o.knows } in
+got-free : (now : Ticks) (points : List HistoryPoint) (sequence : ℕ) (snapshot : SnapshotFacts) (o : Outcome)
+    → HearsFree sequence snapshot o
+    → read_answered now points sequence snapshot o
+    ≡ finds_free now (record o { knows = read_noted now snapshot o.knows })
+got-free now points sequence snapshot o hears =
+    let read : Outcome = record o { knows = read_noted now snapshot o.knows } in
     if-true (awaits_read o.knows.waited sequence) (accepted now points snapshot o) o hears.awaited
-    ∙ if-true (is_active o.role) (led now points (leader_in snapshot) read) (waiting_no_more o) (creates-active o.role hears.role)
+    ∙ if-true (is_active o.role) (led now points (leader_in snapshot) read) (waiting_no_more o)
+    (creates-active o.role hears.role)
     ∙ ap (λ (leader : Option LeaderEntry). led now points leader read) hears.free
     ∙ no-key-free now o.role read hears.role
 
 -- a server that can't start is left to the race
-free-raced : (now : Ticks) (snapshot : SnapshotFacts) (o : Outcome) (bar : Option Ineligibility) → can_start o.machine.server ≡ false → eligibility_of (shown now o) snapshot ≡ bar
-    → finds_free now (record o { knows = read_noted now snapshot o.knows }) ≡ races_unless now bar (record o { role = Follower; knows = read_noted now snapshot o.knows })
-free-raced now snapshot o bar down is = let x : Outcome = record o { role = Follower; knows = read_noted now snapshot o.knows } in
-    if-false (can_start o.machine.server) (touching (starts_alone now x)) (races_unless now (bar_of now x.knows x.machine) x) down
+free-raced : (now : Ticks) (snapshot : SnapshotFacts) (o : Outcome) (bar : Option Ineligibility)
+    → can_start o.machine.server ≡ false → eligibility_of (shown now o) snapshot ≡ bar
+    → finds_free now (record o { knows = read_noted now snapshot o.knows })
+    ≡ races_unless now bar (record o { role = Follower; knows = read_noted now snapshot o.knows })
+free-raced now snapshot o bar down is =
+    let x : Outcome = record o { role = Follower; knows = read_noted now snapshot o.knows } in
+    if-false (can_start o.machine.server) (touching (starts_alone now x))
+    (races_unless now (bar_of now x.knows x.machine) x) down
     ∙ ap (λ (by : Option Ineligibility). races_unless now by x) is
 
 -- a running replica can't start
 replica-runs : (state : State) (diverged : Bool) → state ≡ states.Replica → is_down state && not diverged ≡ false
 replica-runs state diverged is = rw is refl
 
-pub barred-out : (now : Ticks) (points : List HistoryPoint) (sequence : ℕ) (snapshot : SnapshotFacts) (bar : Ineligibility) (o : Outcome) → HearsFree sequence snapshot o → can_start o.machine.server ≡ false → eligibility_of (shown now o) snapshot ≡ Some bar
+pub barred-out : (now : Ticks) (points : List HistoryPoint) (sequence : ℕ) (snapshot : SnapshotFacts)
+    (bar : Ineligibility) (o : Outcome) → HearsFree sequence snapshot o → can_start o.machine.server ≡ false
+    → eligibility_of (shown now o) snapshot ≡ Some bar
     → StaysOut snapshot bar o (read_answered now points sequence snapshot o)
-barred-out now points sequence snapshot bar o hears down is = let x : Outcome = record o { role = Follower; knows = read_noted now snapshot o.knows } in
-    subst (λ (after : Outcome). StaysOut snapshot bar o after) (sym (got-free now points sequence snapshot o hears ∙ free-raced now snapshot o (Some bar) down is))
+barred-out now points sequence snapshot bar o hears down is =
+    let x : Outcome = record o { role = Follower; knows = read_noted now snapshot o.knows } in
+    subst (λ (after : Outcome). StaysOut snapshot bar o after)
+    (sym (got-free now points sequence snapshot o hears ∙ free-raced now snapshot o (Some bar) down is))
     (record { role = refl; machine = refl; waits = refl; outputs_are = refl })
 
 -- nobody bars who has no answers
@@ -93,50 +107,79 @@ alone-wins : (view : AgentView) (snapshot : SnapshotFacts) → outcome_of view s
 alone-wins view snapshot = nobody-bars (is_candidate view.me (failover_in snapshot))
 
 -- what the answers bring
-judged-is : (now : Ticks) (snapshot : SnapshotFacts) (bar : Option Ineligibility) (o : Outcome) → o.knows.seen ≡ Some snapshot → outcome_of (shown now o) snapshot o.knows.answers ≡ bar → judged now o ≡ judged_as now bar (waiting_no_more o)
+judged-is : (now : Ticks) (snapshot : SnapshotFacts) (bar : Option Ineligibility) (o : Outcome)
+    → o.knows.seen ≡ Some snapshot → outcome_of (shown now o) snapshot o.knows.answers ≡ bar
+    → judged now o ≡ judged_as now bar (waiting_no_more o)
 judged-is now snapshot bar o seen is =
-    ap (λ (b : Option Ineligibility). judged_as now b (waiting_no_more o)) (ap (λ (s : Option SnapshotFacts). outcome_by (shown now o) s o.knows.answers) seen ∙ is)
+    ap (λ (b : Option Ineligibility). judged_as now b (waiting_no_more o))
+    (ap (λ (s : Option SnapshotFacts). outcome_by (shown now o) s o.knows.answers) seen ∙ is)
 
 -- an agent that nothing bars races
-free-races : (now : Ticks) (points : List HistoryPoint) (sequence : ℕ) (snapshot : SnapshotFacts) (o : Outcome) → HearsFree sequence snapshot o → eligibility_of (shown now o) snapshot ≡ None
-    → read_answered now points sequence snapshot o ≡ races now (record o { role = Follower; knows = read_noted now snapshot o.knows })
+free-races : (now : Ticks) (points : List HistoryPoint) (sequence : ℕ) (snapshot : SnapshotFacts) (o : Outcome)
+    → HearsFree sequence snapshot o → eligibility_of (shown now o) snapshot ≡ None
+    → read_answered now points sequence snapshot o
+    ≡ races now (record o { role = Follower; knows = read_noted now snapshot o.knows })
 free-races now points sequence snapshot o hears is =
-    got-free now points sequence snapshot o hears ∙ free-raced now snapshot o None (replica-runs o.machine.server.state o.machine.server.diverged (race-replica (shown now o) snapshot is)) is
+    got-free now points sequence snapshot o hears
+    ∙ free-raced now snapshot o None
+    (replica-runs o.machine.server.state o.machine.server.diverged (race-replica (shown now o) snapshot is)) is
 
-pub free-alone : (now : Ticks) (points : List HistoryPoint) (sequence : ℕ) (snapshot : SnapshotFacts) (o : Outcome) → HearsFree sequence snapshot o → eligibility_of (shown now o) snapshot ≡ None → all_answered o.knows.who [] ≡ true
+pub free-alone : (now : Ticks) (points : List HistoryPoint) (sequence : ℕ) (snapshot : SnapshotFacts) (o : Outcome)
+    → HearsFree sequence snapshot o → eligibility_of (shown now o) snapshot ≡ None → all_answered o.knows.who [] ≡ true
     → AsksForKey o (read_answered now points sequence snapshot o)
-free-alone now points sequence snapshot o hears is alone = let x : Outcome = unheard (record o { role = Follower; knows = read_noted now snapshot o.knows }) in
+free-alone now points sequence snapshot o hears is alone =
+    let x : Outcome = unheard (record o { role = Follower; knows = read_noted now snapshot o.knows }) in
     subst (λ (after : Outcome). AsksForKey o after)
-    (sym (free-races now points sequence snapshot o hears is ∙ if-true (all_answered o.knows.who []) (judged now x) (asking_others now x) alone ∙ judged-is now snapshot None x refl (alone-wins (shown now x) snapshot)))
+    (sym (free-races now points sequence snapshot o hears is
+    ∙ if-true (all_answered o.knows.who []) (judged now x) (asking_others now x) alone
+    ∙ judged-is now snapshot None x refl (alone-wins (shown now x) snapshot)))
     (record { waited = _; waits = refl; asks = refl; outputs_are = refl })
 
 -- one more ask keeps those before it
-ask-keeps : (who : Who) (sequence : ℕ) (member : Option MemberId) (outs : List Output) (output : Output) → Contains outs output → Contains (asking_one who sequence member outs) output
+ask-keeps : (who : Who) (sequence : ℕ) (member : Option MemberId) (outs : List Output) (output : Output)
+    → Contains outs output → Contains (asking_one who sequence member outs) output
 ask-keeps who sequence None outs output among = among
 ask-keeps who sequence (Some member) outs output among =
-    if-cases (λ (l : List Output). Contains l output) (is_other who member) (with_output (outputs.Send (targets.Member member) sequence bodies.Ask) outs) outs (λ _. Contains-append_left outs (outputs.Send (targets.Member member) sequence bodies.Ask ∷ []) output among) (λ _. among)
+    if-cases (λ (l : List Output). Contains l output) (is_other who member)
+    (with_output (outputs.Send (targets.Member member) sequence bodies.Ask) outs) outs
+    (λ _. Contains-append_left outs (outputs.Send (targets.Member member) sequence bodies.Ask ∷ []) output among)
+    (λ _. among)
 
-ask-sent : (who : Who) (sequence : ℕ) (member : MemberId) (outs : List Output) → is_other who member ≡ true → Contains (asking_one who sequence (Some member) outs) (outputs.Send (targets.Member member) sequence bodies.Ask)
-ask-sent who sequence member outs other = subst (λ (l : List Output). Contains l (outputs.Send (targets.Member member) sequence bodies.Ask))
-    (sym (if-true (is_other who member) (with_output (outputs.Send (targets.Member member) sequence bodies.Ask) outs) outs other)) (Contains-push outs (outputs.Send (targets.Member member) sequence bodies.Ask))
+ask-sent : (who : Who) (sequence : ℕ) (member : MemberId) (outs : List Output) → is_other who member ≡ true
+    → Contains (asking_one who sequence (Some member) outs) (outputs.Send (targets.Member member) sequence bodies.Ask)
+ask-sent who sequence member outs other =
+    subst (λ (l : List Output). Contains l (outputs.Send (targets.Member member) sequence bodies.Ask))
+    (sym (if-true (is_other who member)
+    (with_output (outputs.Send (targets.Member member) sequence bodies.Ask) outs) outs other))
+    (Contains-push outs (outputs.Send (targets.Member member) sequence bodies.Ask))
 
 below-or : (a n : ℕ) → a < suc n → (a < n) ⊎ (a ≡ n)
 below-or a n less = grind (arith, less)
 
 -- each other member is asked
-each-asked : (who : Who) (sequence count : ℕ) (member : MemberId) (outs : List Output) → is_other who member ≡ true → member.number < count → Contains (asking_first who sequence count outs) (outputs.Send (targets.Member member) sequence bodies.Ask)
+each-asked : (who : Who) (sequence count : ℕ) (member : MemberId) (outs : List Output)
+    → is_other who member ≡ true → member.number < count
+    → Contains (asking_first who sequence count outs) (outputs.Send (targets.Member member) sequence bodies.Ask)
 each-asked who sequence zero member outs other less = absurd (omega (arith, less))
 each-asked who sequence (suc count) member outs other less = elim (below-or member.number count less) [
-  | inl before-it ↦ ask-keeps who sequence (member_of count) (asking_first who sequence count outs) (outputs.Send (targets.Member member) sequence bodies.Ask) (each-asked who sequence count member outs other before-it)
-  | inr here ↦ subst (λ (m : Option MemberId). Contains (asking_one who sequence m (asking_first who sequence count outs)) (outputs.Send (targets.Member member) sequence bodies.Ask))
-      (sym (member_of-number member) ∙ ap (λ (n : ℕ). member_of n) here) (ask-sent who sequence member (asking_first who sequence count outs) other)
+  | inl before-it ↦ ask-keeps who sequence (member_of count) (asking_first who sequence count outs)
+      (outputs.Send (targets.Member member) sequence bodies.Ask)
+      (each-asked who sequence count member outs other before-it)
+  | inr here ↦
+      subst (λ (m : Option MemberId). Contains (asking_one who sequence m (asking_first who sequence count outs))
+      (outputs.Send (targets.Member member) sequence bodies.Ask))
+      (sym (member_of-number member) ∙ ap (λ (n : ℕ). member_of n) here)
+      (ask-sent who sequence member (asking_first who sequence count outs) other)
 ]
 
-pub free-asks : (now : Ticks) (points : List HistoryPoint) (sequence : ℕ) (snapshot : SnapshotFacts) (o : Outcome) → HearsFree sequence snapshot o → eligibility_of (shown now o) snapshot ≡ None → all_answered o.knows.who [] ≡ false
+pub free-asks : (now : Ticks) (points : List HistoryPoint) (sequence : ℕ) (snapshot : SnapshotFacts) (o : Outcome)
+    → HearsFree sequence snapshot o → eligibility_of (shown now o) snapshot ≡ None → all_answered o.knows.who [] ≡ false
     → AsksOthers now o (read_answered now points sequence snapshot o)
-free-asks now points sequence snapshot o hears is others = let x : Outcome = unheard (record o { role = Follower; knows = read_noted now snapshot o.knows }) in
+free-asks now points sequence snapshot o hears is others =
+    let x : Outcome = unheard (record o { role = Follower; knows = read_noted now snapshot o.knows }) in
     subst (λ (after : Outcome). AsksOthers now o after)
-    (sym (free-races now points sequence snapshot o hears is ∙ if-false (all_answered o.knows.who []) (judged now x) (asking_others now x) others))
+    (sym (free-races now points sequence snapshot o hears is
+    ∙ if-false (all_answered o.knows.who []) (judged now x) (asking_others now x) others))
     (record {
       waited = _;
       waits = refl;
@@ -144,30 +187,43 @@ free-asks now points sequence snapshot o hears is others = let x : Outcome = unh
       later = omega arith;
       until = refl;
       unheard = refl;
-      each = λ member other. each-asked o.knows.who (o.knows.sequence + 1) MOST_MEMBERS member o.outputs other member.below;
+      each = λ member other.
+          each-asked o.knows.who (o.knows.sequence + 1) MOST_MEMBERS member o.outputs other member.below;
       outputs_are = refl;
     })
 
 -- the last answer
-last-judged : (now : Ticks) (waited : PendingQuestion) (sequence : ℕ) (answer : PeerAnswer) (snapshot : SnapshotFacts) (bar : Option Ineligibility) (o : Outcome) → HearsLast waited sequence answer snapshot o → outcome_of (shown now o) snapshot (with_answer answer o.knows.answers) ≡ bar
+last-judged : (now : Ticks) (waited : PendingQuestion) (sequence : ℕ) (answer : PeerAnswer) (snapshot : SnapshotFacts)
+    (bar : Option Ineligibility) (o : Outcome) → HearsLast waited sequence answer snapshot o
+    → outcome_of (shown now o) snapshot (with_answer answer o.knows.answers) ≡ bar
     → answered now sequence answer o ≡ judged_as now bar (waiting_no_more (keeping answer o))
 last-judged now waited sequence answer snapshot bar o hears is = let x : Outcome = keeping answer o in
     ap (λ (w : Option PendingQuestion). answered_for now sequence answer w o) hears.awaits.waits
-    ∙ if-true (awaits_answer waited sequence) (accepted_answer now answer o) (if awaits_check waited sequence then check_answered now answer o.role o else o) hears.number
+    ∙ if-true (awaits_answer waited sequence) (accepted_answer now answer o)
+    (if awaits_check waited sequence then check_answered now answer o.role o else o) hears.number
     ∙ if-true (may_create o.role) (judged_if_all now x) (waiting_no_more o) hears.awaits.role
     ∙ if-true (all_answered o.knows.who (with_answer answer o.knows.answers)) (judged now x) x hears.all
     ∙ judged-is now snapshot bar x hears.awaits.seen is
 
-pub last-won : (now : Ticks) (waited : PendingQuestion) (sequence : ℕ) (answer : PeerAnswer) (snapshot : SnapshotFacts) (o : Outcome) → HearsLast waited sequence answer snapshot o → outcome_of (shown now o) snapshot (with_answer answer o.knows.answers) ≡ None
+pub last-won : (now : Ticks) (waited : PendingQuestion) (sequence : ℕ) (answer : PeerAnswer)
+    (snapshot : SnapshotFacts) (o : Outcome) → HearsLast waited sequence answer snapshot o
+    → outcome_of (shown now o) snapshot (with_answer answer o.knows.answers) ≡ None
     → AsksForKey o (answered now sequence answer o)
-last-won now waited sequence answer snapshot o hears is = subst (λ (after : Outcome). AsksForKey o after) (sym (last-judged now waited sequence answer snapshot None o hears is)) (record { waited = _; waits = refl; asks = refl; outputs_are = refl })
+last-won now waited sequence answer snapshot o hears is = subst (λ (after : Outcome). AsksForKey o after)
+    (sym (last-judged now waited sequence answer snapshot None o hears is))
+    (record { waited = _; waits = refl; asks = refl; outputs_are = refl })
 
-pub last-lost : (now : Ticks) (waited : PendingQuestion) (sequence : ℕ) (answer : PeerAnswer) (snapshot : SnapshotFacts) (bar : Ineligibility) (o : Outcome) → HearsLast waited sequence answer snapshot o → outcome_of (shown now o) snapshot (with_answer answer o.knows.answers) ≡ Some bar
+pub last-lost : (now : Ticks) (waited : PendingQuestion) (sequence : ℕ) (answer : PeerAnswer)
+    (snapshot : SnapshotFacts) (bar : Ineligibility) (o : Outcome) → HearsLast waited sequence answer snapshot o
+    → outcome_of (shown now o) snapshot (with_answer answer o.knows.answers) ≡ Some bar
     → LosesRace bar o (answered now sequence answer o)
-last-lost now waited sequence answer snapshot bar o hears is = subst (λ (after : Outcome). LosesRace bar o after) (sym (last-judged now waited sequence answer snapshot (Some bar) o hears is)) (record { role = refl; machine = refl; waits = refl; outputs_are = refl })
+last-lost now waited sequence answer snapshot bar o hears is = subst (λ (after : Outcome). LosesRace bar o after)
+    (sym (last-judged now waited sequence answer snapshot (Some bar) o hears is))
+    (record { role = refl; machine = refl; waits = refl; outputs_are = refl })
 
 -- the time for answers is over
-asking-late : (now : Ticks) (question : Question) (o : Outcome) → is_asking question ≡ true → may_create o.role ≡ true → unanswered now question o ≡ judged now o
+asking-late : (now : Ticks) (question : Question) (o : Outcome) → is_asking question ≡ true
+    → may_create o.role ≡ true → unanswered now question o ≡ judged now o
 asking-late now ComparingPositions o asking may = if-true (may_create o.role) (judged now o) (waiting_no_more o) may
 asking-late now Reading o asking may = absurd (no-way asking)
 asking-late now Creating o asking may = absurd (no-way asking)
@@ -182,39 +238,55 @@ either-late true b c e = refl
 either-late false true c e = refl
 either-late false false c e = absurd (no-way e)
 
-late-due : (now : Ticks) (waited : PendingQuestion) (o : Outcome) → o.knows.waited ≡ Some waited → nat_le waited.until.0 now.0 ≡ true → is_due now o.role o.knows o.machine ≡ true
-late-due now waited o waits late = either-late (finds_ended o.role o.machine.server.state) (is_overdue now o.knows.waited) (has_turn now o.knows) (ap (λ (w : Option PendingQuestion). is_overdue now w) waits ∙ late)
+late-due : (now : Ticks) (waited : PendingQuestion) (o : Outcome) → o.knows.waited ≡ Some waited
+    → nat_le waited.until.0 now.0 ≡ true → is_due now o.role o.knows o.machine ≡ true
+late-due now waited o waits late =
+    either-late (finds_ended o.role o.machine.server.state) (is_overdue now o.knows.waited)
+    (has_turn now o.knows) (ap (λ (w : Option PendingQuestion). is_overdue now w) waits ∙ late)
 
 -- what precedes a wake leaves what is waited for
 given-waits : (now : Ticks) (o : Outcome) → (given_up now o).knows.waited ≡ o.knows.waited
-given-waits now o = given-up-by (λ (x : Outcome). x.knows.waited ≡ o.knows.waited) now o (record { kept = refl; answers = λ request told. refl })
+given-waits now o = given-up-by (λ (x : Outcome). x.knows.waited ≡ o.knows.waited) now o
+    (record { kept = refl; answers = λ request told. refl })
 
 roused-waits : (now : Ticks) (o : Outcome) → (prepared now Wake o).knows.waited ≡ o.knows.waited
-roused-waits now o = if-cases (λ (x : Outcome). x.knows.waited ≡ o.knows.waited) (is_due now o.role o.knows o.machine) (given_up now (reconciled now o)) (reconciled now o)
+roused-waits now o = if-cases (λ (x : Outcome). x.knows.waited ≡ o.knows.waited)
+    (is_due now o.role o.knows o.machine) (given_up now (reconciled now o)) (reconciled now o)
     (λ _. given-waits now (reconciled now o) ∙ before-waits now o) (λ _. before-waits now o)
 
 -- an agent whose time for answers is over has something to do
-late-prepared : (now : Ticks) (waited : PendingQuestion) (snapshot : SnapshotFacts) (o : Outcome) → RunsLate now waited snapshot (prepared now Wake o) → is_due now o.role o.knows o.machine ≡ true
-late-prepared now waited snapshot o runs = late-due now waited o (sym (roused-waits now o) ∙ runs.awaits.waits) runs.late
+late-prepared : (now : Ticks) (waited : PendingQuestion) (snapshot : SnapshotFacts) (o : Outcome)
+    → RunsLate now waited snapshot (prepared now Wake o) → is_due now o.role o.knows o.machine ≡ true
+late-prepared now waited snapshot o runs =
+    late-due now waited o (sym (roused-waits now o) ∙ runs.awaits.waits) runs.late
 
-late-judged : (now : Ticks) (waited : PendingQuestion) (snapshot : SnapshotFacts) (bar : Option Ineligibility) (o : Outcome) → RunsLate now waited snapshot (prepared now Wake o) → outcome_of (shown now (prepared now Wake o)) snapshot (prepared now Wake o).knows.answers ≡ bar
+late-judged : (now : Ticks) (waited : PendingQuestion) (snapshot : SnapshotFacts) (bar : Option Ineligibility)
+    (o : Outcome) → RunsLate now waited snapshot (prepared now Wake o)
+    → outcome_of (shown now (prepared now Wake o)) snapshot (prepared now Wake o).knows.answers ≡ bar
     → woken now o ≡ turned now (judged_as now bar (waiting_no_more (prepared now Wake o)))
 late-judged now waited snapshot bar o runs is =
     let due : is_due now o.role o.knows o.machine ≡ true = late-prepared now waited snapshot o runs in
     let p : Outcome = prepared now Wake o in
     if-true (is_due now o.role o.knows o.machine) (roused now o) (reconciled now o) due
-    ∙ ap (λ (x : Outcome). turned now (overdue now x)) (sym (if-true (is_due now o.role o.knows o.machine) (given_up now (reconciled now o)) (reconciled now o) due))
+    ∙ ap (λ (x : Outcome). turned now (overdue now x))
+    (sym (if-true (is_due now o.role o.knows o.machine) (given_up now (reconciled now o)) (reconciled now o) due))
     ∙ ap (λ (x : Outcome). turned now x)
     (ap (λ (w : Option PendingQuestion). overdue_for now w p) runs.awaits.waits
     ∙ if-true (nat_le waited.until.0 now.0) (unanswered now waited.question p) p runs.late
     ∙ asking-late now waited.question p runs.awaits.asking runs.awaits.role
     ∙ judged-is now snapshot bar p runs.awaits.seen is)
 
-pub late-won : (now : Ticks) (waited : PendingQuestion) (snapshot : SnapshotFacts) (o : Outcome) → RunsLate now waited snapshot (prepared now Wake o) → outcome_of (shown now (prepared now Wake o)) snapshot (prepared now Wake o).knows.answers ≡ None
+pub late-won : (now : Ticks) (waited : PendingQuestion) (snapshot : SnapshotFacts) (o : Outcome)
+    → RunsLate now waited snapshot (prepared now Wake o)
+    → outcome_of (shown now (prepared now Wake o)) snapshot (prepared now Wake o).knows.answers ≡ None
     → AsksForKey (prepared now Wake o) (woken now o)
-late-won now waited snapshot o runs is = subst (λ (after : Outcome). AsksForKey (prepared now Wake o) after) (sym (late-judged now waited snapshot None o runs is)) (record { waited = _; waits = refl; asks = refl; outputs_are = refl })
+late-won now waited snapshot o runs is = subst (λ (after : Outcome). AsksForKey (prepared now Wake o) after)
+    (sym (late-judged now waited snapshot None o runs is))
+    (record { waited = _; waits = refl; asks = refl; outputs_are = refl })
 
-pub late-lost : (now : Ticks) (waited : PendingQuestion) (snapshot : SnapshotFacts) (bar : Ineligibility) (o : Outcome) → RunsLate now waited snapshot (prepared now Wake o) → outcome_of (shown now (prepared now Wake o)) snapshot (prepared now Wake o).knows.answers ≡ Some bar
+pub late-lost : (now : Ticks) (waited : PendingQuestion) (snapshot : SnapshotFacts) (bar : Ineligibility) (o : Outcome)
+    → RunsLate now waited snapshot (prepared now Wake o)
+    → outcome_of (shown now (prepared now Wake o)) snapshot (prepared now Wake o).knows.answers ≡ Some bar
     → LosesAndTurns now bar (prepared now Wake o) (woken now o)
 late-lost now waited snapshot bar o runs is = record {
   lost = judged_as now (Some bar) (waiting_no_more (prepared now Wake o));

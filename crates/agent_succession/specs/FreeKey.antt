@@ -41,22 +41,32 @@ pub record HearsFree (sequence : ℕ) (snapshot : SnapshotFacts) (o : Outcome) :
   pub free : leader_in snapshot ≡ None
   pub role : may_create o.role ≡ true
 
--- the agent tells what bars it, and tells of itself. That is all: it has no lease, leaves its machine alone, and waits for nothing
+-- the agent tells what bars it, and tells of itself. That is all: it
+-- has no lease, leaves its machine alone, and waits for nothing
 pub record StaysOut (snapshot : SnapshotFacts) (bar : Ineligibility) (o after : Outcome) : Type 0 where
   pub role : after.role ≡ Follower
   pub machine : after.machine ≡ o.machine
   pub waits : after.knows.waited ≡ None
-  pub outputs_are : after.outputs ≡ with_output (outputs.Send targets.Store (o.knows.sequence + 1) (bodies.Request (txns.Touch (info_of o.knows.who o.machine.server) (lease_span (settings_in o.knows.settings snapshot))))) (with_output (outputs.Note (agent_notes.DoesNotRace bar)) o.outputs)
+  pub outputs_are : after.outputs
+      ≡ with_output (outputs.Send targets.Store (o.knows.sequence + 1)
+      (bodies.Request (txns.Touch (info_of o.knows.who o.machine.server)
+      (lease_span (settings_in o.knows.settings snapshot)))))
+      (with_output (outputs.Note (agent_notes.DoesNotRace bar)) o.outputs)
 
--- the agent asks for the leader key, with failsafe mode under the failsafe key that its turn read, and waits for the answer
+-- the agent asks for the leader key, with failsafe mode under the
+-- failsafe key that its turn read, and waits for the answer
 pub record AsksForKey (o after : Outcome) : Type 0 where
   pub waited : PendingQuestion
   pub waits : after.knows.waited ≡ Some waited
   pub asks : waited.question ≡ Creating
-  pub outputs_are : after.outputs ≡ with_output (outputs.Send targets.Store waited.sequence (bodies.Request (txns.Create (info_of o.knows.who o.machine.server) waited.ttl (failsafe_compared after.knows) None))) o.outputs
+  pub outputs_are : after.outputs
+      ≡ with_output (outputs.Send targets.Store waited.sequence
+      (bodies.Request (txns.Create (info_of o.knows.who o.machine.server) waited.ttl
+      (failsafe_compared after.knows) None)))
+      o.outputs
 
--- the agent asks each other member how far its server is, and nobody else, all under one new number. It waits for the answers, of
--- which it has none yet
+-- the agent asks each other member how far its server is, and nobody else, all
+-- under one new number. It waits for the answers, of which it has none yet
 pub record AsksOthers (now : Ticks) (o after : Outcome) : Type 0 where
   pub waited : PendingQuestion
   pub waits : after.knows.waited ≡ Some waited
@@ -64,7 +74,8 @@ pub record AsksOthers (now : Ticks) (o after : Outcome) : Type 0 where
   pub later : o.knows.sequence < waited.sequence
   pub until : waited.until ≡ answers_until now
   pub unheard : after.knows.answers ≡ []
-  pub each : (member : MemberId) → is_other o.knows.who member ≡ true → Contains after.outputs (outputs.Send (targets.Member member) waited.sequence bodies.Ask)
+  pub each : (member : MemberId) → is_other o.knows.who member ≡ true
+      → Contains after.outputs (outputs.Send (targets.Member member) waited.sequence bodies.Ask)
   pub outputs_are : after.outputs ≡ asking_all o.knows.who waited.sequence o.outputs
 
 -- the agent waits for the answers of the others, and its newest snapshot is this one
@@ -75,7 +86,8 @@ pub record AwaitsAnswers (waited : PendingQuestion) (snapshot : SnapshotFacts) (
   pub seen : o.knows.seen ≡ Some snapshot
 
 -- this is the last answer that it waits for
-pub record HearsLast (waited : PendingQuestion) (sequence : ℕ) (answer : PeerAnswer) (snapshot : SnapshotFacts) (o : Outcome) : Type 0 where
+pub record HearsLast (waited : PendingQuestion) (sequence : ℕ) (answer : PeerAnswer)
+    (snapshot : SnapshotFacts) (o : Outcome) : Type 0 where
   pub awaits : AwaitsAnswers waited snapshot o
   pub number : awaits_answer waited sequence ≡ true
   pub all : all_answered o.knows.who (with_answer answer o.knows.answers) ≡ true
@@ -85,12 +97,16 @@ pub record RunsLate (now : Ticks) (waited : PendingQuestion) (snapshot : Snapsho
   pub awaits : AwaitsAnswers waited snapshot o
   pub late : nat_le waited.until.0 now.0 ≡ true
 
--- the agent tells what bars it, and tells of itself. That is all: its role stays, it leaves its machine alone, and waits for nothing
+-- the agent tells what bars it, and tells of itself. That is all: its
+-- role stays, it leaves its machine alone, and waits for nothing
 pub record LosesRace (bar : Ineligibility) (o after : Outcome) : Type 0 where
   pub role : after.role ≡ o.role
   pub machine : after.machine ≡ o.machine
   pub waits : after.knows.waited ≡ None
-  pub outputs_are : after.outputs ≡ with_output (outputs.Send targets.Store (o.knows.sequence + 1) (bodies.Request (txns.Touch (info_of o.knows.who o.machine.server) (lease_span o.knows.settings)))) (with_output (outputs.Note (agent_notes.DoesNotRace bar)) o.outputs)
+  pub outputs_are : after.outputs
+      ≡ with_output (outputs.Send targets.Store (o.knows.sequence + 1)
+      (bodies.Request (txns.Touch (info_of o.knows.who o.machine.server) (lease_span o.knows.settings))))
+      (with_output (outputs.Note (agent_notes.DoesNotRace bar)) o.outputs)
 
 -- it loses the race, and then a turn begins that is due
 pub record LosesAndTurns (now : Ticks) (bar : Ineligibility) (o after : Outcome) : Type 0 where
@@ -98,32 +114,42 @@ pub record LosesAndTurns (now : Ticks) (bar : Ineligibility) (o after : Outcome)
   pub loses : LosesRace bar o lost
   pub turns : after ≡ turned now lost
 
--- an input that finds the leader key free, behind what precedes it: a member that nothing bars asks each other one how far its server is,
--- and where there is no other asks for the key
+-- an input that finds the leader key free, behind what precedes it: a member that nothing bars
+-- asks each other one how far its server is, and where there is no other asks for the key
 abbrev pub AsksWhereFree : Ticks → Heard → Outcome → Outcome → Type 0
-AsksWhereFree now (ReadAnswered sequence snapshot) o after = HearsFree sequence snapshot o → eligibility_of (shown now o) snapshot ≡ None → (all_answered o.knows.who [] ≡ false → AsksOthers now o after) × (all_answered o.knows.who [] ≡ true → AsksForKey o after)
+AsksWhereFree now (ReadAnswered sequence snapshot) o after =
+    HearsFree sequence snapshot o → eligibility_of (shown now o) snapshot ≡ None
+    → (all_answered o.knows.who [] ≡ false → AsksOthers now o after)
+    × (all_answered o.knows.who [] ≡ true → AsksForKey o after)
 AsksWhereFree now _ o after = Unit {0}
 
 -- an input that judges a race, since the last answer came or the time for them is over: who wins asks for the key
 abbrev pub AsksWhereWon : Ticks → Heard → Outcome → Outcome → Type 0
-AsksWhereWon now (Answered sequence answer) o after = (waited : PendingQuestion) (snapshot : SnapshotFacts) → HearsLast waited sequence answer snapshot o → outcome_of (shown now o) snapshot (with_answer answer o.knows.answers) ≡ None → AsksForKey o after
-AsksWhereWon now Wake o after = (waited : PendingQuestion) (snapshot : SnapshotFacts) → RunsLate now waited snapshot o → outcome_of (shown now o) snapshot o.knows.answers ≡ None → AsksForKey o after
+AsksWhereWon now (Answered sequence answer) o after =
+    (waited : PendingQuestion) (snapshot : SnapshotFacts) → HearsLast waited sequence answer snapshot o
+    → outcome_of (shown now o) snapshot (with_answer answer o.knows.answers) ≡ None → AsksForKey o after
+AsksWhereWon now Wake o after = (waited : PendingQuestion) (snapshot : SnapshotFacts)
+    → RunsLate now waited snapshot o → outcome_of (shown now o) snapshot o.knows.answers ≡ None → AsksForKey o after
 AsksWhereWon now _ o after = Unit {0}
 
--- the agent leads by the lease of this revision, and its server begins to accept writes, at once or when its start is complete
+-- the agent leads by the lease of this revision, and its server begins
+-- to accept writes, at once or when its start is complete
 pub record BeginsOn (now : Ticks) (revision : ℕ) (o after : Outcome) : Type 0 where
   pub role : after.role ≡ Leader revision
   pub server : after.machine.server ≡ status_begun now o.machine.server
   pub begins : Contains after.outputs outputs.Begin
 
--- the agent is about to begin, over its server as it was: it claims the sync key as its turn read it, and waits for the answer
+-- the agent is about to begin, over its server as it was: it claims
+-- the sync key as its turn read it, and waits for the answer
 pub record ClaimsOn (revision : ℕ) (o after : Outcome) : Type 0 where
   pub role : after.role ≡ Ready revision
   pub server : after.machine.server ≡ o.machine.server
   pub waited : PendingQuestion
   pub waits : after.knows.waited ≡ Some waited
   pub asks : waited.question ≡ Claiming
-  pub claims : Contains after.outputs (outputs.Send targets.Store waited.sequence (bodies.Request (txns.Claim revision (expected_of o.knows.turn_sync))))
+  pub claims : Contains after.outputs
+      (outputs.Send targets.Store waited.sequence
+      (bodies.Request (txns.Claim revision (expected_of o.knows.turn_sync))))
 
 -- the answer of this number grants this member the claim that it waits for
 pub record IsAwaitedClaim (sequence : ℕ) (grant : Granted) (knows : Knowledge) : Type 0 where
@@ -133,12 +159,18 @@ pub record IsAwaitedClaim (sequence : ℕ) (grant : Granted) (knows : Knowledge)
   pub number : waited.sequence == sequence ≡ true
   pub mine : is_write_of knows.who.me grant ≡ true
 
--- an input that hears, outside a pause, the grant of the leader key that it waits for: who may take it, hears of it in time for its watchdog, and whose
--- watchdog can be armed or isn't needed, begins, or in synchronous mode claims the sync key. One that hears the grant of that claim: who is about to
--- begin begins, where its server still can
+-- an input that hears, outside a pause, the grant of the leader key that it waits for: who may take it, hears of it
+-- in time for its watchdog, and whose watchdog can be armed or isn't needed, begins, or in synchronous mode claims
+-- the sync key. One that hears the grant of that claim: who is about to begin begins, where its server still can
 abbrev pub BeginsWhereGranted : Ticks → Heard → Outcome → Outcome → Type 0
 BeginsWhereGranted now (HeardGranted sequence grant snapshot) o after =
-    (is_paused (informed snapshot o.knows) ≡ false → (awaited : IsAwaitedLease sequence grant o.knows) → comes_late now awaited.waited o.machine ≡ false → may_create o.role ≡ true → may_take now (informed snapshot o.knows) o.machine ≡ true → is_refusing o.machine.watchdog.mode o.machine.watchdog.works ≡ false
-    → (o.knows.turn_settings.synchronous_mode ≡ false → BeginsOn now grant.revision o after) × (o.knows.turn_settings.synchronous_mode ≡ true → ClaimsOn grant.revision o after))
-    × ((revision : ℕ) → is_paused (informed snapshot o.knows) ≡ false → IsAwaitedClaim sequence grant o.knows → o.role ≡ Ready revision → can_begin_on_claim o.machine.server.was_primary o.machine.server.state ≡ true → BeginsOn now revision o after)
+    (is_paused (informed snapshot o.knows) ≡ false → (awaited : IsAwaitedLease sequence grant o.knows) →
+    comes_late now awaited.waited o.machine ≡ false → may_create o.role ≡ true →
+    may_take now (informed snapshot o.knows) o.machine ≡ true →
+    is_refusing o.machine.watchdog.mode o.machine.watchdog.works ≡ false
+    → (o.knows.turn_settings.synchronous_mode ≡ false → BeginsOn now grant.revision o after) ×
+    (o.knows.turn_settings.synchronous_mode ≡ true → ClaimsOn grant.revision o after))
+    × ((revision : ℕ) → is_paused (informed snapshot o.knows) ≡ false → IsAwaitedClaim sequence grant o.knows →
+    o.role ≡ Ready revision → can_begin_on_claim o.machine.server.was_primary o.machine.server.state ≡ true →
+    BeginsOn now revision o after)
 BeginsWhereGranted now _ o after = Unit {0}

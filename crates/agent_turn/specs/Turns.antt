@@ -8,14 +8,16 @@ use Rattle.agent_turn.specs.declared.turn.Turn.{Turn}
 abbrev pub reached : RoleFacts → Turn → Outcome
 reached role turn = outcome_from role turn.knows.now turn.machine.now turn.out.now.outputs
 
--- room for so many outputs, and numbers for so many messages; the moment is one that is reckoned with, and what the agent knows is sound
+-- room for so many outputs, and numbers for so many messages; the moment
+-- is one that is reckoned with, and what the agent knows is sound
 pub record HasLeft (most numbers : ℕ) (turn : Turn) : Type 0 where
   pub moment : turn.moment.0 ≤ latest
   pub sound : IsSound turn.knows.now
   pub room : most ≤ turn.out.now.spare
   pub counted : turn.knows.now.sequence + numbers ≤ most_messages
 
--- at most so many outputs and numbers more are used; the moment and what is lent are the same, and what the agent knows is sound
+-- at most so many outputs and numbers more are used; the moment and
+-- what is lent are the same, and what the agent knows is sound
 pub record Spent (most numbers : ℕ) (before after : Turn) : Type 0 where
   pub knows : after.knows.ghost_name ≡ before.knows.ghost_name
   pub machine : after.machine.ghost_name ≡ before.machine.ghost_name

@@ -8,11 +8,15 @@ use Rattle.cluster_view.specs.Snapshots.{SnapshotFacts, has_row}
 use Rattle.agent_model.specs.Snapshots.{missing_point}
 
 -- its row is missing
-pub missing-here : (snapshot : SnapshotFacts) (points : List HistoryPoint) (i : ℕ) (point : HistoryPoint) → slice_get points i ≡ Some point → has_row point.timeline snapshot ≡ false → missing_point snapshot (drop i points) ≡ Some point
+pub missing-here : (snapshot : SnapshotFacts) (points : List HistoryPoint) (i : ℕ) (point : HistoryPoint)
+    → slice_get points i ≡ Some point → has_row point.timeline snapshot ≡ false
+    → missing_point snapshot (drop i points) ≡ Some point
 missing-here snapshot points i point is lacks = rw (drop-get HistoryPoint points i point is, lacks) refl
 
 -- its row is there
-pub missing-later : (snapshot : SnapshotFacts) (points : List HistoryPoint) (i : ℕ) (point : HistoryPoint) → slice_get points i ≡ Some point → has_row point.timeline snapshot ≡ true → missing_point snapshot (drop i points) ≡ missing_point snapshot (drop (i + 1) points)
+pub missing-later : (snapshot : SnapshotFacts) (points : List HistoryPoint) (i : ℕ) (point : HistoryPoint)
+    → slice_get points i ≡ Some point → has_row point.timeline snapshot ≡ true
+    → missing_point snapshot (drop i points) ≡ missing_point snapshot (drop (i + 1) points)
 missing-later snapshot points i point is has = rw (drop-get HistoryPoint points i point is, has) refl
 
 none-some : {point : HistoryPoint} → ◌≡◌ {A = Option HistoryPoint} None (Some point) → ⊥

@@ -41,9 +41,11 @@ kept-times d config none =
     (none_after (option_map faults.BadValue (find (is_bad d) settings_in_order)) low none)))
 
 -- a configuration that is read keeps the rule on times
-pub read-keeps_times : (bytes : List ℕ) (s : Settings) → config_read bytes ≡ Ok s → s.config.loop_wait + 2 * s.config.retry_timeout ≤ s.config.ttl
+pub read-keeps_times : (bytes : List ℕ) (s : Settings) → config_read bytes ≡ Ok s
+    → s.config.loop_wait + 2 * s.config.retry_timeout ≤ s.config.ttl
 read-keeps_times bytes s e =
     let was : (d : Data) × (judged d ≡ Ok s) = was-judged (object_of bytes) s e in
     let parts = had-no-fault (fault_of was.0 (config_in was.0)) _ s was.1 in
     let config : config_in was.0 ≡ s.config = ap (λ (x : Settings). x.config) parts.1 in
-    subst (λ (c : Config). c.loop_wait + 2 * c.retry_timeout ≤ c.ttl) config (leb-true _ _ (kept-times was.0 (config_in was.0) parts.0))
+    subst (λ (c : Config). c.loop_wait + 2 * c.retry_timeout ≤ c.ttl) config
+    (leb-true _ _ (kept-times was.0 (config_in was.0) parts.0))

@@ -18,7 +18,8 @@ use Rattle.cluster_config.specs.SettingTable.{settings_in_order}
 use Rattle.cluster_config.proofs.ConfigFacts.{err-not-ok}
 
 -- what is read as a configuration is an object
-was-object : (o : Option Data) (s : Settings) → on_ok (object_if_json o) judged ≡ Ok s → (ms : Members) × (o ≡ Some (object ms)) × (judged (object ms) ≡ Ok s)
+was-object : (o : Option Data) (s : Settings) → on_ok (object_if_json o) judged ≡ Ok s
+    → (ms : Members) × (o ≡ Some (object ms)) × (judged (object ms) ≡ Ok s)
 was-object None s e = absurd (err-not-ok faults.NotJson s e)
 was-object (Some null) s e = absurd (err-not-ok faults.NotObject s e)
 was-object (Some (boolean b)) s e = absurd (err-not-ok faults.NotObject s e)
@@ -44,16 +45,20 @@ unchanged c settings.SynchronousModeStrict = refl
 unchanged c settings.SynchronousNodeCount = refl
 unchanged c settings.Ttl = refl
 
-none-passes : (p : Setting → Bool) → ((setting : Setting) → p setting ≡ false) → (all : List Setting) → find p all ≡ None
+none-passes : (p : Setting → Bool) → ((setting : Setting) → p setting ≡ false) → (all : List Setting)
+    → find p all ≡ None
 none-passes p fails [] = refl
-none-passes p fails (setting ∷ all) = ap (λ (b : Bool). cond b (Some setting) (find p all)) (fails setting) ∙ none-passes p fails all
+none-passes p fails (setting ∷ all) =
+    ap (λ (b : Bool). cond b (Some setting) (find p all)) (fails setting) ∙ none-passes p fails all
 
 -- a configuration may stand in its own place
 in-its-place : (s : Settings) → in_place_of s.config s ≡ Ok s
-in-its-place s = ap (λ (o : Option Setting). unless_fault (option_map faults.NotBuilt o) s) (none-passes (is_changed s.config s.config) (unchanged s.config) settings_in_order)
+in-its-place s = ap (λ (o : Option Setting). unless_fault (option_map faults.NotBuilt o) s)
+    (none-passes (is_changed s.config s.config) (unchanged s.config) settings_in_order)
 
 empty-utf8 : is_utf8 (codes "{}") ≡ true
-empty-utf8 = is_utf8-from_IsUtf8 (codes "{}") (IsUtf8-from_ascii (codes "{}") (IsAscii-cons 123 (125 ∷ []) (lit< tt) (IsAscii-cons 125 [] (lit< tt) IsAscii-nil)))
+empty-utf8 = is_utf8-from_IsUtf8 (codes "{}")
+    (IsUtf8-from_ascii (codes "{}") (IsAscii-cons 123 (125 ∷ []) (lit< tt) (IsAscii-cons 125 [] (lit< tt) IsAscii-nil)))
 
 empty-read : read (codes "{}") ≡ Some (object no_members)
 unfolding serde_json_on_literals
@@ -66,8 +71,11 @@ empty-object =
 
 pub config_patched-empty : (s : Settings) → IsConfiguration s → config_patched s (codes "{}") ≡ Ok s
 config_patched-empty s is =
-    let was : (ms : Members) × (json_of s.text ≡ Some (object ms)) × (judged (object ms) ≡ Ok s) = was-object (json_of s.text) s is.reads_back in
-    ap (λ (r : Result Data ConfigFault). on_ok (on_ok r (λ patch. judged (with_patch (json_of s.text) patch))) (in_place_of s.config)) empty-object
+    let was : (ms : Members) × (json_of s.text ≡ Some (object ms)) × (judged (object ms) ≡ Ok s) =
+    was-object (json_of s.text) s is.reads_back in
+    ap (λ (r : Result Data ConfigFault).
+    on_ok (on_ok r (λ patch. judged (with_patch (json_of s.text) patch))) (in_place_of s.config))
+    empty-object
     ∙ ap (λ (o : Option Data). on_ok (judged (with_patch o (object no_members))) (in_place_of s.config)) was.1
     ∙ ap (λ (r : Result Settings ConfigFault). on_ok r (in_place_of s.config)) was.2
     ∙ in-its-place s

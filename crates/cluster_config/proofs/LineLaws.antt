@@ -27,26 +27,31 @@ use Rattle.cluster_config.proofs.EmptyPatch.{empty-object}
 abbrev pub is_no_feed : ℕ → Bool
 is_no_feed b = not (b == 10)
 
-both : (xs ys : List ℕ) → list_all is_no_feed xs ≡ true → list_all is_no_feed ys ≡ true → list_all is_no_feed (xs ++ ys) ≡ true
+both : (xs ys : List ℕ) → list_all is_no_feed xs ≡ true → list_all is_no_feed ys ≡ true
+    → list_all is_no_feed (xs ++ ys) ≡ true
 both xs ys h k = list_all-append is_no_feed xs ys ∙ and_from (list_all is_no_feed xs) (list_all is_no_feed ys) h k
 
-front : (b : ℕ) (bs : List ℕ) → is_no_feed b ≡ true → list_all is_no_feed bs ≡ true → list_all is_no_feed (b ∷ bs) ≡ true
+front : (b : ℕ) (bs : List ℕ) → is_no_feed b ≡ true → list_all is_no_feed bs ≡ true
+    → list_all is_no_feed (b ∷ bs) ≡ true
 front b bs h k = and_from (is_no_feed b) (list_all is_no_feed bs) h k
 
 -- numbers
 digit : (n : ℕ) → is_no_feed (digit_glyph false n) ≡ true
 digit n = grind (arith, nat_tests)
 
-chosen : (t : Bool) (xs ys : List ℕ) → list_all is_no_feed xs ≡ true → list_all is_no_feed ys ≡ true → list_all is_no_feed (cond t xs ys) ≡ true
+chosen : (t : Bool) (xs ys : List ℕ) → list_all is_no_feed xs ≡ true → list_all is_no_feed ys ≡ true
+    → list_all is_no_feed (cond t xs ys) ≡ true
 chosen true xs ys h k = h
 chosen false xs ys h k = k
 
-some-digits : (k n : ℕ) (acc : List ℕ) → list_all is_no_feed acc ≡ true → list_all is_no_feed (digits_onto k 10 false n acc) ≡ true
+some-digits : (k n : ℕ) (acc : List ℕ) → list_all is_no_feed acc ≡ true
+    → list_all is_no_feed (digits_onto k 10 false n acc) ≡ true
 some-digits zero n acc h = h
 some-digits (suc k) n acc h =
     let d = digit_glyph false (n % 10) in
     let more : list_all is_no_feed (d ∷ acc) ≡ true = front d acc (digit (n % 10)) h in
-    chosen (n / 10 == 0) (d ∷ acc) (digits_onto k 10 false (n / 10) (d ∷ acc)) more (some-digits k (n / 10) (d ∷ acc) more)
+    chosen (n / 10 == 0) (d ∷ acc) (digits_onto k 10 false (n / 10) (d ∷ acc)) more
+    (some-digits k (n / 10) (d ∷ acc) more)
 
 whole : (n : ℕ) → list_all is_no_feed (decimal n) ≡ true
 unfolding digits
@@ -60,10 +65,12 @@ number-line (float x) = refl
 
 -- strings: what stands there for a byte, of which a line feed is an escape
 abbrev letter : ℕ → ℕ
-letter b = cond ((b == 34) || (b == 92)) b (cond (b == 8) 98 (cond (b == 12) 102 (cond (b == 10) 110 (cond (b == 13) 114 (cond (b == 9) 116 0)))))
+letter b = cond ((b == 34) || (b == 92)) b
+    (cond (b == 8) 98 (cond (b == 12) 102 (cond (b == 10) 110 (cond (b == 13) 114 (cond (b == 9) 116 0)))))
 
 abbrev escaped : ℕ → List ℕ
-escaped b = cond (nat_lt 0 (letter b)) (92 ∷ letter b ∷ []) (cond (nat_lt b 32) (92 ∷ 117 ∷ 48 ∷ 48 ∷ digit_char (b / 16) ∷ digit_char (b % 16) ∷ []) (b ∷ []))
+escaped b = cond (nat_lt 0 (letter b)) (92 ∷ letter b ∷ [])
+    (cond (nat_lt b 32) (92 ∷ 117 ∷ 48 ∷ 48 ∷ digit_char (b / 16) ∷ digit_char (b % 16) ∷ []) (b ∷ []))
 
 letter-line : (b : ℕ) → is_no_feed (letter b) ≡ true
 letter-line b = grind (arith, nat_tests)
@@ -74,12 +81,15 @@ hex-line n = grind (arith, nat_tests)
 own-line : (b : ℕ) → nat_lt b 32 ≡ false → is_no_feed b ≡ true
 own-line b h = grind (arith, nat_tests)
 
-short-line : (b : ℕ) (t : Bool) → nat_lt b 32 ≡ t → list_all is_no_feed (cond t (92 ∷ 117 ∷ 48 ∷ 48 ∷ digit_char (b / 16) ∷ digit_char (b % 16) ∷ []) (b ∷ [])) ≡ true
-short-line b true is = front (digit_char (b / 16)) (digit_char (b % 16) ∷ []) (hex-line (b / 16)) (front (digit_char (b % 16)) [] (hex-line (b % 16)) refl)
+short-line : (b : ℕ) (t : Bool) → nat_lt b 32 ≡ t
+    → list_all is_no_feed (cond t (92 ∷ 117 ∷ 48 ∷ 48 ∷ digit_char (b / 16) ∷ digit_char (b % 16) ∷ []) (b ∷ [])) ≡ true
+short-line b true is = front (digit_char (b / 16)) (digit_char (b % 16) ∷ []) (hex-line (b / 16))
+    (front (digit_char (b % 16)) [] (hex-line (b % 16)) refl)
 short-line b false is = front b [] (own-line b is) refl
 
 escaped-line : (b : ℕ) → list_all is_no_feed (escaped b) ≡ true
-escaped-line b = chosen (nat_lt 0 (letter b)) (92 ∷ letter b ∷ []) _ (front (letter b) [] (letter-line b) refl) (short-line b (nat_lt b 32) refl)
+escaped-line b = chosen (nat_lt 0 (letter b)) (92 ∷ letter b ∷ []) _
+    (front (letter b) [] (letter-line b) refl) (short-line b (nat_lt b 32) refl)
 
 all-escaped-line : (bs : List ℕ) → list_all is_no_feed (flat_map escaped bs) ≡ true
 all-escaped-line [] = refl
@@ -105,23 +115,28 @@ mutual
 
   items-line : (later : Bool) (ds : Items) → list_all is_no_feed (items_text later ds) ≡ true
   items-line later no_items = refl
-  items-line later (item d ds) = both (comma_if later) (compact_text d ++ items_text true ds) (comma-line later) (both (compact_text d) (items_text true ds) (text-line d) (items-line true ds))
+  items-line later (item d ds) = both (comma_if later) (compact_text d ++ items_text true ds)
+      (comma-line later) (both (compact_text d) (items_text true ds) (text-line d) (items-line true ds))
 
   members-line : (later : Bool) (ms : Members) → list_all is_no_feed (members_text later ms) ≡ true
   members-line later no_members = refl
   members-line later (member k d ms) =
-      both (comma_if later) (compact_text (string k) ++ 58 ∷ (compact_text d ++ members_text true ms)) (comma-line later)
-      (both (compact_text (string k)) (58 ∷ (compact_text d ++ members_text true ms)) (string-line k) (both (compact_text d) (members_text true ms) (text-line d) (members-line true ms)))
+      both (comma_if later) (compact_text (string k) ++ 58 ∷ (compact_text d ++ members_text true ms))
+      (comma-line later)
+      (both (compact_text (string k)) (58 ∷ (compact_text d ++ members_text true ms)) (string-line k)
+      (both (compact_text d) (members_text true ms) (text-line d) (members-line true ms)))
 
 -- what is read as a configuration has a text without line feeds
 pub config_read-line : (bytes : List ℕ) (s : Settings) → config_read bytes ≡ Ok s → list_all is_no_feed s.text ≡ true
 config_read-line bytes s e =
     let was = was-judged (object_of bytes) s e in
-    let faultless = had-no-fault (fault_of was.0 (config_in was.0)) (record { text = compact_text was.0; config = config_in was.0 }) s was.1 in
+    let faultless = had-no-fault (fault_of was.0 (config_in was.0))
+    (record { text = compact_text was.0; config = config_in was.0 }) s was.1 in
     subst (λ (x : Settings). list_all is_no_feed x.text ≡ true) faultless.1 (text-line was.0)
 
 -- and is UTF-8
-utf8-if-read : (t : Bool) (o : Option Data) (s : Settings) → on_ok (object_if_json (cond t o None)) judged ≡ Ok s → t ≡ true
+utf8-if-read : (t : Bool) (o : Option Data) (s : Settings)
+    → on_ok (object_if_json (cond t o None)) judged ≡ Ok s → t ≡ true
 utf8-if-read true o s e = refl
 utf8-if-read false o s e = absurd (err-not-ok faults.NotJson s e)
 
@@ -146,17 +161,29 @@ empty-config = λ i. record {
   failsafe_mode = false;
   pause = false;
   use_pg_rewind = false;
-  loop_wait_range = (le_prop empty.loop_wait_range.0 default_config.loop_wait_range.0 i, le_prop empty.loop_wait_range.1 default_config.loop_wait_range.1 i);
-  retry_timeout_range = (le_prop empty.retry_timeout_range.0 default_config.retry_timeout_range.0 i, le_prop empty.retry_timeout_range.1 default_config.retry_timeout_range.1 i);
-  ttl_range = (le_prop empty.ttl_range.0 default_config.ttl_range.0 i, le_prop empty.ttl_range.1 default_config.ttl_range.1 i);
-  maximum_lag_on_failover_range = le_prop empty.maximum_lag_on_failover_range default_config.maximum_lag_on_failover_range i;
+  loop_wait_range = (
+    le_prop empty.loop_wait_range.0 default_config.loop_wait_range.0 i,
+    le_prop empty.loop_wait_range.1 default_config.loop_wait_range.1 i,
+  );
+  retry_timeout_range = (
+    le_prop empty.retry_timeout_range.0 default_config.retry_timeout_range.0 i,
+    le_prop empty.retry_timeout_range.1 default_config.retry_timeout_range.1 i,
+  );
+  ttl_range =
+      (le_prop empty.ttl_range.0 default_config.ttl_range.0 i, le_prop empty.ttl_range.1 default_config.ttl_range.1 i);
+  maximum_lag_on_failover_range =
+      le_prop empty.maximum_lag_on_failover_range default_config.maximum_lag_on_failover_range i;
   primary_start_timeout_range = le_prop empty.primary_start_timeout_range default_config.primary_start_timeout_range i;
-  synchronous_node_count_range = (le_prop empty.synchronous_node_count_range.0 default_config.synchronous_node_count_range.0 i, le_prop empty.synchronous_node_count_range.1 default_config.synchronous_node_count_range.1 i);
+  synchronous_node_count_range = (
+    le_prop empty.synchronous_node_count_range.0 default_config.synchronous_node_count_range.0 i,
+    le_prop empty.synchronous_node_count_range.1 default_config.synchronous_node_count_range.1 i,
+  );
 }
 
 pub config_read-empty : config_read (codes "{}") ≡ Ok default_settings
 unfolding empty
-config_read-empty = ap (λ (r : Result Data ConfigFault). on_ok r judged) empty-object ∙ ap (λ (c : Config). Ok (record { text = codes "{}"; config = c })) empty-config
+config_read-empty = ap (λ (r : Result Data ConfigFault). on_ok r judged) empty-object
+    ∙ ap (λ (c : Config). Ok (record { text = codes "{}"; config = c })) empty-config
 
 pub default-IsConfiguration : IsConfiguration default_settings
 default-IsConfiguration = record { reads_back = config_read-empty }

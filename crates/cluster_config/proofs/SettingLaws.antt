@@ -47,8 +47,10 @@ none-found p e =
     let l = no-first (p settings.Ttl) settings.Ttl _ k.1 in
     all_of p a.0 b.0 c.0 d.0 f.0 g.0 h.0 i.0 j.0 k.0 l.0
   where
-    all_of : (p : Setting → Bool) → p settings.FailsafeMode ≡ false → p settings.LoopWait ≡ false → p settings.MaximumLagOnFailover ≡ false → p settings.Pause ≡ false → p settings.UsePgRewind ≡ false
-        → p settings.PrimaryStartTimeout ≡ false → p settings.RetryTimeout ≡ false → p settings.SynchronousMode ≡ false → p settings.SynchronousModeStrict ≡ false → p settings.SynchronousNodeCount ≡ false → p settings.Ttl ≡ false
+    all_of : (p : Setting → Bool) → p settings.FailsafeMode ≡ false → p settings.LoopWait ≡ false
+        → p settings.MaximumLagOnFailover ≡ false → p settings.Pause ≡ false → p settings.UsePgRewind ≡ false
+        → p settings.PrimaryStartTimeout ≡ false → p settings.RetryTimeout ≡ false → p settings.SynchronousMode ≡ false
+        → p settings.SynchronousModeStrict ≡ false → p settings.SynchronousNodeCount ≡ false → p settings.Ttl ≡ false
         → (setting : Setting) → p setting ≡ false
     all_of p a b c d f g h i j k l settings.FailsafeMode = a
     all_of p a b c d f g h i j k l settings.LoopWait = b
@@ -62,16 +64,20 @@ none-found p e =
     all_of p a b c d f g h i j k l settings.SynchronousNodeCount = k
     all_of p a b c d f g h i j k l settings.Ttl = l
 
-within-itself : (range : SettingRange) (other n : ℕ) → nat_lt range.greatest n ≡ false → nat_lt n range.least ≡ false → within_or range other n ≡ n
+within-itself : (range : SettingRange) (other n : ℕ) → nat_lt range.greatest n ≡ false
+    → nat_lt n range.least ≡ false → within_or range other n ≡ n
 within-itself range other n high low = grind (arith, nat_tests)
 
-in-order : (range : SettingRange) (other : ℕ) (found : Option WholeNumber) → is_bad_number range found ≡ false → is_low_number range found ≡ false → found ≡ Some (FromZero (whole_or range other found))
+in-order : (range : SettingRange) (other : ℕ) (found : Option WholeNumber) → is_bad_number range found ≡ false
+    → is_low_number range found ≡ false → found ≡ Some (FromZero (whole_or range other found))
 in-order range other None bad low = absurd (true≢false bad)
 in-order range other (Some BelowZero) bad low = absurd (true≢false low)
-in-order range other (Some (FromZero n)) bad low = ap (λ (m : ℕ). Some (FromZero m)) (sym (within-itself range other n bad low))
+in-order range other (Some (FromZero n)) bad low =
+    ap (λ (m : ℕ). Some (FromZero m)) (sym (within-itself range other n bad low))
 
 -- a number at a setting's key is what is set
-number-there : (range : SettingRange) (other : ℕ) (found : Option Data) (value : Data) → is_bad_if_some (Some range) found ≡ false → is_low_if_some (Some range) found ≡ false
+number-there : (range : SettingRange) (other : ℕ) (found : Option Data) (value : Data)
+    → is_bad_if_some (Some range) found ≡ false → is_low_if_some (Some range) found ≡ false
     → found ≡ Some value → whole_number value ≡ Some (FromZero (number_or range other found))
 number-there range other None value bad low is = absurd (some-not-none value (sym is))
 number-there range other (Some d) value bad low is =
@@ -82,37 +88,57 @@ truth-if : (t : Option Bool) → not (is_some t) ≡ false → t ≡ Some (unwra
 truth-if None e = absurd (true≢false e)
 truth-if (Some b) e = refl
 
-truth-there : (found : Option Data) (value : Data) → is_bad_if_some None found ≡ false → found ≡ Some value → truth_value value ≡ Some (truth_or_false found)
+truth-there : (found : Option Data) (value : Data) → is_bad_if_some None found ≡ false → found ≡ Some value
+    → truth_value value ≡ Some (truth_or_false found)
 truth-there None value bad is = absurd (some-not-none value (sym is))
 truth-there (Some d) value bad is =
     let same : d ≡ value = same-some d value is in
     ap truth_value (sym same) ∙ truth-if (truth_value d) bad
 
 pub number-set : (d value : Data) (setting : Setting) (n : ℕ) → is_bad d setting ≡ false → is_low d setting ≡ false
-    → number_set setting (config_in d) ≡ Some n → value_at setting d ≡ Some value → whole_number value ≡ Some (FromZero n)
+    → number_set setting (config_in d) ≡ Some n → value_at setting d ≡ Some value
+    → whole_number value ≡ Some (FromZero n)
 number-set d value settings.FailsafeMode n bad low set is = absurd (some-not-none n (sym set))
-number-set d value settings.LoopWait n bad low set is = number-there loop_wait_range default_config.loop_wait (value_at settings.LoopWait d) value bad low is ∙ ap (option_map FromZero) set
-number-set d value settings.MaximumLagOnFailover n bad low set is = number-there maximum_lag_range default_config.maximum_lag_on_failover (value_at settings.MaximumLagOnFailover d) value bad low is ∙ ap (option_map FromZero) set
+number-set d value settings.LoopWait n bad low set is =
+    number-there loop_wait_range default_config.loop_wait (value_at settings.LoopWait d) value bad low is
+    ∙ ap (option_map FromZero) set
+number-set d value settings.MaximumLagOnFailover n bad low set is =
+    number-there maximum_lag_range default_config.maximum_lag_on_failover
+    (value_at settings.MaximumLagOnFailover d) value bad low is
+    ∙ ap (option_map FromZero) set
 number-set d value settings.Pause n bad low set is = absurd (some-not-none n (sym set))
 number-set d value settings.UsePgRewind n bad low set is = absurd (some-not-none n (sym set))
-number-set d value settings.PrimaryStartTimeout n bad low set is = number-there primary_start_timeout_range default_config.primary_start_timeout (value_at settings.PrimaryStartTimeout d) value bad low is ∙ ap (option_map FromZero) set
-number-set d value settings.RetryTimeout n bad low set is = number-there retry_timeout_range default_config.retry_timeout (value_at settings.RetryTimeout d) value bad low is ∙ ap (option_map FromZero) set
+number-set d value settings.PrimaryStartTimeout n bad low set is =
+    number-there primary_start_timeout_range default_config.primary_start_timeout
+    (value_at settings.PrimaryStartTimeout d) value bad low is
+    ∙ ap (option_map FromZero) set
+number-set d value settings.RetryTimeout n bad low set is =
+    number-there retry_timeout_range default_config.retry_timeout (value_at settings.RetryTimeout d) value bad low is
+    ∙ ap (option_map FromZero) set
 number-set d value settings.SynchronousMode n bad low set is = absurd (some-not-none n (sym set))
 number-set d value settings.SynchronousModeStrict n bad low set is = absurd (some-not-none n (sym set))
-number-set d value settings.SynchronousNodeCount n bad low set is = number-there node_count_range default_config.synchronous_node_count (value_at settings.SynchronousNodeCount d) value bad low is ∙ ap (option_map FromZero) set
-number-set d value settings.Ttl n bad low set is = number-there ttl_range default_config.ttl (value_at settings.Ttl d) value bad low is ∙ ap (option_map FromZero) set
+number-set d value settings.SynchronousNodeCount n bad low set is =
+    number-there node_count_range default_config.synchronous_node_count
+    (value_at settings.SynchronousNodeCount d) value bad low is
+    ∙ ap (option_map FromZero) set
+number-set d value settings.Ttl n bad low set is =
+    number-there ttl_range default_config.ttl (value_at settings.Ttl d) value bad low is ∙ ap (option_map FromZero) set
 
 pub truth-set : (d value : Data) (setting : Setting) (truth : Bool) → is_bad d setting ≡ false
     → truth_set setting (config_in d) ≡ Some truth → value_at setting d ≡ Some value → truth_value value ≡ Some truth
-truth-set d value settings.FailsafeMode truth bad set is = truth-there (value_at settings.FailsafeMode d) value bad is ∙ set
+truth-set d value settings.FailsafeMode truth bad set is =
+    truth-there (value_at settings.FailsafeMode d) value bad is ∙ set
 truth-set d value settings.LoopWait truth bad set is = absurd (some-not-none truth (sym set))
 truth-set d value settings.MaximumLagOnFailover truth bad set is = absurd (some-not-none truth (sym set))
 truth-set d value settings.Pause truth bad set is = truth-there (value_at settings.Pause d) value bad is ∙ set
-truth-set d value settings.UsePgRewind truth bad set is = truth-there (value_at settings.UsePgRewind d) value bad is ∙ set
+truth-set d value settings.UsePgRewind truth bad set is =
+    truth-there (value_at settings.UsePgRewind d) value bad is ∙ set
 truth-set d value settings.PrimaryStartTimeout truth bad set is = absurd (some-not-none truth (sym set))
 truth-set d value settings.RetryTimeout truth bad set is = absurd (some-not-none truth (sym set))
-truth-set d value settings.SynchronousMode truth bad set is = truth-there (value_at settings.SynchronousMode d) value bad is ∙ set
-truth-set d value settings.SynchronousModeStrict truth bad set is = truth-there (value_at settings.SynchronousModeStrict d) value bad is ∙ set
+truth-set d value settings.SynchronousMode truth bad set is =
+    truth-there (value_at settings.SynchronousMode d) value bad is ∙ set
+truth-set d value settings.SynchronousModeStrict truth bad set is =
+    truth-there (value_at settings.SynchronousModeStrict d) value bad is ∙ set
 truth-set d value settings.SynchronousNodeCount truth bad set is = absurd (some-not-none truth (sym set))
 truth-set d value settings.Ttl truth bad set is = absurd (some-not-none truth (sym set))
 
@@ -142,13 +168,15 @@ was-read : (bytes : List ℕ) (d : Data) (s : Settings) → json_of bytes ≡ So
 was-read bytes d s is e =
     let whole = object-judged d s (sym (ap (λ (o : Option Data). on_ok (object_if_json o) judged) is) ∙ e) in
     let parts = had-no-fault (fault_of d (config_in d)) _ s whole in
-    let times = or_next (fault_if (not (keeps_times (config_in d))) faults.TimesRule) (fault_if (has_float d) faults.Fraction) in
+    let times =
+    or_next (fault_if (not (keeps_times (config_in d))) faults.TimesRule) (fault_if (has_float d) faults.Fraction) in
     let low = option_map faults.BelowMinimum (find (is_low d) settings_in_order) in
     let bad = option_map faults.BadValue (find (is_bad d) settings_in_order) in
     record {
       config = ap (λ (x : Settings). x.config) parts.1;
       bad = none-named faults.BadValue (find (is_bad d) settings_in_order) (first-none bad (or_next low times) parts.0);
-      low = none-named faults.BelowMinimum (find (is_low d) settings_in_order) (first-none low times (none_after bad (or_next low times) parts.0));
+      low = none-named faults.BelowMinimum (find (is_low d) settings_in_order)
+          (first-none low times (none_after bad (or_next low times) parts.0));
     }
 
 unsigned-is : (o : Option Num) (n : ℕ) → option_and_then whole_number_of o ≡ Some (FromZero n) → o ≡ Some (unsigned n)
@@ -164,16 +192,20 @@ unsigned-is (Some (negative z)) n e = absurd (not-below n e)
 unsigned-is (Some (float x)) n e = absurd (some-not-none (FromZero n) (sym e))
 
 -- a number that is set is the one at its key
-pub read-number : (bytes : List ℕ) (d : Data) (s : Settings) (setting : Setting) (value : Data) (n : ℕ) → json_of bytes ≡ Some d → config_read bytes ≡ Ok s
+pub read-number : (bytes : List ℕ) (d : Data) (s : Settings) (setting : Setting) (value : Data) (n : ℕ)
+    → json_of bytes ≡ Some d → config_read bytes ≡ Ok s
     → value_at setting d ≡ Some value → number_set setting s.config ≡ Some n → as_number value ≡ Some (unsigned n)
 read-number bytes d s setting value n is e there set =
     let was : IsRead d s = was-read bytes d s is e in
-    unsigned-is (as_number value) n (number-set d value setting n (none-found (is_bad d) was.bad setting) (none-found (is_low d) was.low setting)
+    unsigned-is (as_number value) n
+    (number-set d value setting n (none-found (is_bad d) was.bad setting) (none-found (is_low d) was.low setting)
     (ap (number_set setting) was.config ∙ set) there)
 
 -- a truth value that is set is the one at its key
-pub read-truth : (bytes : List ℕ) (d : Data) (s : Settings) (setting : Setting) (value : Data) (truth : Bool) → json_of bytes ≡ Some d → config_read bytes ≡ Ok s
+pub read-truth : (bytes : List ℕ) (d : Data) (s : Settings) (setting : Setting) (value : Data) (truth : Bool)
+    → json_of bytes ≡ Some d → config_read bytes ≡ Ok s
     → value_at setting d ≡ Some value → truth_set setting s.config ≡ Some truth → truth_value value ≡ Some truth
 read-truth bytes d s setting value truth is e there set =
     let was : IsRead d s = was-read bytes d s is e in
-    truth-set d value setting truth (none-found (is_bad d) was.bad setting) (ap (truth_set setting) was.config ∙ set) there
+    truth-set d value setting truth (none-found (is_bad d) was.bad setting)
+    (ap (truth_set setting) was.config ∙ set) there

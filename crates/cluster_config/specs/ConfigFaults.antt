@@ -53,7 +53,8 @@ is_low_if_some range (Some d) = is_low_value range d
 abbrev pub is_low : Data → Setting → Bool
 is_low d setting = is_low_if_some (range_of setting) (value_at setting d)
 
--- a lease lasts as long as one wait between turns and two waits for an answer (Patroni's documentation, "Dynamic Configuration Settings")
+-- a lease lasts as long as one wait between turns and two waits for an
+-- answer (Patroni's documentation, "Dynamic Configuration Settings")
 abbrev pub keeps_times : Config → Bool
 keeps_times config = nat_le (config.loop_wait + 2 * config.retry_timeout) config.ttl
 
@@ -62,7 +63,8 @@ abbrev pub is_switched : Bool → Bool → Bool
 is_switched true next = not next
 is_switched false next = next
 
--- whether a configuration changes a setting of another that is as the first configuration has it for good: the failsafe mode
+-- whether a configuration changes a setting of another that is as the
+-- first configuration has it for good: the failsafe mode
 abbrev pub is_changed : Config → Config → Setting → Bool
 is_changed present next settings.FailsafeMode = is_switched present.failsafe_mode next.failsafe_mode
 is_changed present next _ = false
@@ -77,8 +79,8 @@ abbrev pub fault_if : Bool → ConfigFault → Option ConfigFault
 fault_if false fault = None
 fault_if true fault = Some fault
 
--- the first fault of a value that sets this: of the first setting in byte order that is of the wrong kind, of the first below its least, of the
--- rule on times, of a number that isn't whole
+-- the first fault of a value that sets this: of the first setting in byte order that is of the
+-- wrong kind, of the first below its least, of the rule on times, of a number that isn't whole
 abbrev pub fault_of : Data → Config → Option ConfigFault
 fault_of d config =
     or_next (option_map faults.BadValue (find (is_bad d) settings_in_order)) (

@@ -44,9 +44,12 @@ abbrev pub found_along : List (List ℕ) → Data → Option Data
 found_along [] d = Some d
 found_along (name ∷ path) d = option_and_then (found_along path) (get name d)
 
--- a patch says nothing of what stands at the end of a path: at some name along it, the patch has nothing, and objects before
+-- a patch says nothing of what stands at the end of a path: at some
+-- name along it, the patch has nothing, and objects before
 abbrev pub LeavesAlone : List (List ℕ) → Members → Members → Type 0
 LeavesAlone [] present patch = ⊥
 LeavesAlone (name ∷ path) present patch =
     (get_member name patch ≡ None)
-    ⊎ ((inner : Members) × (there : Members) × (get_member name patch ≡ Some (object inner)) × (get_member name present ≡ Some (object there)) × IsDistinct present × IsDistinct patch × LeavesAlone path there inner)
+    ⊎ ((inner : Members) × (there : Members) × (get_member name patch ≡ Some (object inner)) ×
+    (get_member name present ≡ Some (object there)) × IsDistinct present × IsDistinct patch ×
+    LeavesAlone path there inner)

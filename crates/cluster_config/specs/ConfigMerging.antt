@@ -1,5 +1,5 @@
--- Patches: objects merge into objects at every depth, null removes, anything else replaces (Patroni's documentation, "Dynamic Configuration
--- Settings", on PATCH /config).
+-- Patches: objects merge into objects at every depth, null removes, anything else
+-- replaces (Patroni's documentation, "Dynamic Configuration Settings", on PATCH /config).
 use Rattle.std.specs.Prelude.{ℕ, List, Option, Some, None, option_and_then, unwrap_or}
 use Rattle.std.specs.Ordering.{nat_cmp, match_ordering}
 use Rattle.std.specs.Cmp.Lexicographic.{slice_cmp}
@@ -9,7 +9,8 @@ use Rattle.serde_json.specs.Find.{get_member, as_object}
 -- an object without the member of a name
 abbrev pub without : List ℕ → Members → Members
 without name no_members = no_members
-without name (member other d ms) = match_ordering (slice_cmp nat_cmp name other) (member other d (without name ms)) ms (member other d (without name ms))
+without name (member other d ms) = match_ordering (slice_cmp nat_cmp name other)
+    (member other d (without name ms)) ms (member other d (without name ms))
 
 -- an object with this at a name, in place of what stood there
 abbrev pub with_at : List ℕ → Option Data → Members → Members
@@ -38,8 +39,10 @@ abbrev mutual
   patched present (number n) = Some (number n)
   patched present (string s) = Some (string s)
   patched present (array ds) = Some (array ds)
-  patched present (object patch) = Some (object (unless_alone (object_there present) patch (merged (unwrap_or (object_there present) no_members) patch)))
+  patched present (object patch) = Some
+      (object (unless_alone (object_there present) patch (merged (unwrap_or (object_there present) no_members) patch)))
 
 -- an object of a patch, merged into the object that stands there, if one does
 abbrev pub onto : Option Data → Members → Members
-onto present patch = unless_alone (object_there present) patch (merged (unwrap_or (object_there present) no_members) patch)
+onto present patch =
+    unless_alone (object_there present) patch (merged (unwrap_or (object_there present) no_members) patch)

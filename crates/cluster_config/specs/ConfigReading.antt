@@ -59,7 +59,8 @@ config_read bytes = on_ok (object_of bytes) judged
 
 -- a configuration in place of another, unless it changes what may not be changed
 abbrev pub in_place_of : Config → Settings → Result Settings ConfigFault
-in_place_of present next = unless_fault (option_map faults.NotBuilt (find (is_changed present next.config) settings_in_order)) next
+in_place_of present next =
+    unless_fault (option_map faults.NotBuilt (find (is_changed present next.config) settings_in_order)) next
 
 -- the configuration that bytes are, in place of another
 abbrev pub config_replaced : Settings → List ℕ → Result Settings ConfigFault
@@ -76,7 +77,8 @@ with_patch present (object patch) = object (onto present patch)
 
 -- a configuration with a patch merged into it, or the first fault
 abbrev pub config_patched : Settings → List ℕ → Result Settings ConfigFault
-config_patched present bytes = on_ok (on_ok (object_of bytes) (λ patch. judged (with_patch (json_of present.text) patch))) (in_place_of present.config)
+config_patched present bytes = on_ok
+    (on_ok (object_of bytes) (λ patch. judged (with_patch (json_of present.text) patch))) (in_place_of present.config)
 
 -- a call answers this, unless there was no memory
 abbrev pub Answers : {A : Type 0} → Result A ConfigFault → Result A ConfigFault → Type 0

@@ -1,4 +1,5 @@
--- The settings of a cluster: their names, their order and their ranges (Patroni's documentation, "Dynamic Configuration Settings").
+-- The settings of a cluster: their names, their order and their ranges
+-- (Patroni's documentation, "Dynamic Configuration Settings").
 use Rattle.std.specs.Prelude.{ℕ, ◌≤◌, ◌^◌, List, [], ◌∷◌, Option, Some, None, codes}
 use Rattle.cluster_config.specs.declared.setting.Setting.{Setting}
 use Rattle.cluster_config.specs.declared.setting.Setting.TheVariants as settings
@@ -21,7 +22,9 @@ setting_name settings.Ttl = codes "ttl"
 
 -- all settings, in the byte order of their names
 abbrev pub settings_in_order : List Setting
-settings_in_order = settings.FailsafeMode ∷ settings.LoopWait ∷ settings.MaximumLagOnFailover ∷ settings.Pause ∷ settings.UsePgRewind ∷ settings.PrimaryStartTimeout ∷ settings.RetryTimeout ∷ settings.SynchronousMode ∷ settings.SynchronousModeStrict ∷ settings.SynchronousNodeCount ∷ settings.Ttl ∷ []
+settings_in_order = settings.FailsafeMode ∷ settings.LoopWait ∷ settings.MaximumLagOnFailover ∷ settings.Pause
+    ∷ settings.UsePgRewind ∷ settings.PrimaryStartTimeout ∷ settings.RetryTimeout ∷ settings.SynchronousMode
+    ∷ settings.SynchronousModeStrict ∷ settings.SynchronousNodeCount ∷ settings.Ttl ∷ []
 
 -- a day, in seconds: the longest time that a setting may say
 abbrev pub longest : ℕ

@@ -43,7 +43,8 @@ whole_number d = option_and_then whole_number_of (as_number d)
 
 -- the truth value that a text says
 abbrev pub truth_word : List ℕ → Option Bool
-truth_word text = if bytes_eq text (codes "on") || bytes_eq text (codes "true") then Some true else if bytes_eq text (codes "off") || bytes_eq text (codes "false") then Some false else None
+truth_word text = if bytes_eq text (codes "on") || bytes_eq text (codes "true") then Some true
+    else if bytes_eq text (codes "off") || bytes_eq text (codes "false") then Some false else None
 
 -- the truth value that a value is
 abbrev pub truth_value : Data → Option Bool
@@ -77,17 +78,22 @@ tested P true x y first second = first refl
 tested P false x y first second = second
 
 -- what is taken is within the range, since the other number is
-pub within_or-within : (range : SettingRange) (other n : ℕ) → IsWithin range other → IsWithin range (within_or range other n)
+pub within_or-within : (range : SettingRange) (other n : ℕ) → IsWithin range other
+    → IsWithin range (within_or range other n)
 within_or-within range other n within =
     tested (IsWithin range) (nat_le range.least n) _ _
-    (λ least. tested (IsWithin range) (nat_le n range.greatest) _ _ (λ greatest. (leb-true range.least n least, leb-true n range.greatest greatest)) within) within
+    (λ least. tested (IsWithin range) (nat_le n range.greatest) _ _
+    (λ greatest. (leb-true range.least n least, leb-true n range.greatest greatest)) within)
+    within
 
-pub whole_or-within : (range : SettingRange) (other : ℕ) (found : Option WholeNumber) → IsWithin range other → IsWithin range (whole_or range other found)
+pub whole_or-within : (range : SettingRange) (other : ℕ) (found : Option WholeNumber) → IsWithin range other
+    → IsWithin range (whole_or range other found)
 whole_or-within range other None within = within
 whole_or-within range other (Some BelowZero) within = within
 whole_or-within range other (Some (FromZero n)) within = within_or-within range other n within
 
-pub number_or-within : (range : SettingRange) (other : ℕ) (found : Option Data) → IsWithin range other → IsWithin range (number_or range other found)
+pub number_or-within : (range : SettingRange) (other : ℕ) (found : Option Data) → IsWithin range other
+    → IsWithin range (number_or range other found)
 number_or-within range other found within = whole_or-within range other (option_and_then whole_number found) within
 
 -- what a configuration sets: for each setting the value at its key, and the default where there is none
@@ -96,18 +102,28 @@ config_in d = record {
   loop_wait = number_or loop_wait_range default_config.loop_wait (value_at settings.LoopWait d);
   retry_timeout = number_or retry_timeout_range default_config.retry_timeout (value_at settings.RetryTimeout d);
   ttl = number_or ttl_range default_config.ttl (value_at settings.Ttl d);
-  maximum_lag_on_failover = number_or maximum_lag_range default_config.maximum_lag_on_failover (value_at settings.MaximumLagOnFailover d);
-  primary_start_timeout = number_or primary_start_timeout_range default_config.primary_start_timeout (value_at settings.PrimaryStartTimeout d);
-  synchronous_node_count = number_or node_count_range default_config.synchronous_node_count (value_at settings.SynchronousNodeCount d);
+  maximum_lag_on_failover =
+      number_or maximum_lag_range default_config.maximum_lag_on_failover (value_at settings.MaximumLagOnFailover d);
+  primary_start_timeout = number_or primary_start_timeout_range default_config.primary_start_timeout
+      (value_at settings.PrimaryStartTimeout d);
+  synchronous_node_count =
+      number_or node_count_range default_config.synchronous_node_count (value_at settings.SynchronousNodeCount d);
   synchronous_mode = truth_or_false (value_at settings.SynchronousMode d);
   synchronous_mode_strict = truth_or_false (value_at settings.SynchronousModeStrict d);
   failsafe_mode = truth_or_false (value_at settings.FailsafeMode d);
   pause = truth_or_false (value_at settings.Pause d);
   use_pg_rewind = truth_or_false (value_at settings.UsePgRewind d);
-  loop_wait_range = number_or-within loop_wait_range default_config.loop_wait (value_at settings.LoopWait d) default_config.loop_wait_range;
-  retry_timeout_range = number_or-within retry_timeout_range default_config.retry_timeout (value_at settings.RetryTimeout d) default_config.retry_timeout_range;
+  loop_wait_range = number_or-within loop_wait_range default_config.loop_wait
+      (value_at settings.LoopWait d) default_config.loop_wait_range;
+  retry_timeout_range = number_or-within retry_timeout_range default_config.retry_timeout
+      (value_at settings.RetryTimeout d) default_config.retry_timeout_range;
   ttl_range = number_or-within ttl_range default_config.ttl (value_at settings.Ttl d) default_config.ttl_range;
-  maximum_lag_on_failover_range = (number_or-within maximum_lag_range default_config.maximum_lag_on_failover (value_at settings.MaximumLagOnFailover d) (zero-le, default_config.maximum_lag_on_failover_range)).1;
-  primary_start_timeout_range = (number_or-within primary_start_timeout_range default_config.primary_start_timeout (value_at settings.PrimaryStartTimeout d) (zero-le, default_config.primary_start_timeout_range)).1;
-  synchronous_node_count_range = number_or-within node_count_range default_config.synchronous_node_count (value_at settings.SynchronousNodeCount d) default_config.synchronous_node_count_range;
+  maximum_lag_on_failover_range =
+      (number_or-within maximum_lag_range default_config.maximum_lag_on_failover
+      (value_at settings.MaximumLagOnFailover d) (zero-le, default_config.maximum_lag_on_failover_range)).1;
+  primary_start_timeout_range =
+      (number_or-within primary_start_timeout_range default_config.primary_start_timeout
+      (value_at settings.PrimaryStartTimeout d) (zero-le, default_config.primary_start_timeout_range)).1;
+  synchronous_node_count_range = number_or-within node_count_range default_config.synchronous_node_count
+      (value_at settings.SynchronousNodeCount d) default_config.synchronous_node_count_range;
 }

@@ -29,10 +29,12 @@ use Rattle.cluster_model.proofs.Lists.{HoldsIf}
 pub record HoldsOfCommands (P : EventKind → Type 0) (cluster : Cluster) : Type 0 where
   pub suspended : (member : Member) → P (kinds.Agent (agents.Suspended member))
   pub resumed : (member : Member) → P (kinds.Agent (agents.Resumed member))
-  pub committed : (member : Member) (bytes : ℕ) → 1 ≤ bytes → P (commit_of member (entry_for cluster.facts.servers member.id.number (cluster.facts.commits + 1) bytes))
+  pub committed : (member : Member) (bytes : ℕ) → 1 ≤ bytes
+      → P (commit_of member (entry_for cluster.facts.servers member.id.number (cluster.facts.commits + 1) bytes))
   pub frozen : (member : Member) → P (kinds.Server (servers.Frozen (server_of member)))
   pub thawed : (member : Member) → P (kinds.Server (servers.Thawed (server_of member)))
-  pub slowed : (member : Member) (stop start : Option Ticks) → P (kinds.Server (servers.Slowed (server_of member) stop start))
+  pub slowed : (member : Member) (stop start : Option Ticks)
+      → P (kinds.Server (servers.Slowed (server_of member) stop start))
   pub links : (change : LinkEvent) → P (kinds.Link change)
 
 -- it holds of each end that a command brings
@@ -47,35 +49,56 @@ EndsNothing (commands.Crash id) = ⊥
 EndsNothing command = Unit {0}
 
 module _ (P : EventKind → Type 0) (cluster : Cluster) where
-  at-declared : {X : Type 0} (id : MemberId) (known : List X) (change : Member → X → Option EventKind) → ((m : Member) (x : X) → HoldsIf P (change m x))
-      → HoldsIf P (option_and_then (λ m. option_and_then (change m) (slice_get known m.id.number)) (declared cluster id))
-  at-declared id known change all = holds-then P _ (declared cluster id) (λ m. holds-then P (change m) (slice_get known m.id.number) (all m))
+  at-declared : {X : Type 0} (id : MemberId) (known : List X) (change : Member → X → Option EventKind)
+      → ((m : Member) (x : X) → HoldsIf P (change m x))
+      → HoldsIf P
+      (option_and_then (λ m. option_and_then (change m) (slice_get known m.id.number)) (declared cluster id))
+  at-declared id known change all =
+      holds-then P _ (declared cluster id) (λ m. holds-then P (change m) (slice_get known m.id.number) (all m))
 
-  freezing-holds : HoldsOfCommands P cluster → (to : Bool) (member : Member) (frozen : Bool) → HoldsIf P (freezing_of to member frozen)
+  freezing-holds : HoldsOfCommands P cluster → (to : Bool) (member : Member) (frozen : Bool)
+      → HoldsIf P (freezing_of to member frozen)
   freezing-holds all true member false = all.frozen member
   freezing-holds all false member true = all.thawed member
   freezing-holds all true member true = tt
   freezing-holds all false member false = tt
 
-  slow-holds : HoldsOfCommands P cluster → (slowed : SlowedCall) (delay : Delay) (member : Member) (s : ServerFacts) → HoldsIf P (slow_of member slowed delay s)
-  slow-holds all slowed_calls.Stop delay member s = holds-unless P (s.stop_delay.0 == delay.ticks) _ (all.slowed member _ _)
-  slow-holds all slowed_calls.Start delay member s = holds-unless P (s.start_delay.0 == delay.ticks) _ (all.slowed member _ _)
+  slow-holds : HoldsOfCommands P cluster → (slowed : SlowedCall) (delay : Delay) (member : Member) (s : ServerFacts)
+      → HoldsIf P (slow_of member slowed delay s)
+  slow-holds all slowed_calls.Stop delay member s =
+      holds-unless P (s.stop_delay.0 == delay.ticks) _ (all.slowed member _ _)
+  slow-holds all slowed_calls.Start delay member s =
+      holds-unless P (s.start_delay.0 == delay.ticks) _ (all.slowed member _ _)
 
-  pub command-holds : HoldsOfCommands P cluster → (command : Command) → EndsNothing command → HoldsIf P (command_kind cluster command)
-  command-holds all (commands.Suspend id) is = at-declared id cluster.facts.processes suspend_of (λ m process. holds-if P _ _ (all.suspended m))
-  command-holds all (commands.Resume id) is = at-declared id cluster.facts.processes resume_of (λ m process. holds-if P process.suspended _ (all.resumed m))
+  pub command-holds : HoldsOfCommands P cluster → (command : Command) → EndsNothing command
+      → HoldsIf P (command_kind cluster command)
+  command-holds all (commands.Suspend id) is =
+      at-declared id cluster.facts.processes suspend_of (λ m process. holds-if P _ _ (all.suspended m))
+  command-holds all (commands.Resume id) is =
+      at-declared id cluster.facts.processes resume_of (λ m process. holds-if P process.suspended _ (all.resumed m))
   command-holds all (commands.Kill id) is = absurd is
   command-holds all (commands.Crash id) is = absurd is
-  command-holds all (commands.Commit id size) is = holds-mapped P _ (declared cluster id) (λ m. all.committed m size.bytes size.least)
-  command-holds all (commands.Freeze id) is = at-declared id cluster.facts.frozen (freezing_of true) (freezing-holds all true)
-  command-holds all (commands.Thaw id) is = at-declared id cluster.facts.frozen (freezing_of false) (freezing-holds all false)
-  command-holds all (commands.Slow id slowed delay) is = at-declared id cluster.facts.servers (λ m. slow_of m slowed delay) (slow-holds all slowed delay)
-  command-holds all (commands.Cut first second) is = holds-then P (cut_of cluster.facts.cuts) (link_of cluster.facts.members first second) (λ link. holds-unless P (is_cut cluster.facts.cuts link) _ (all.links (changes.Cut link)))
-  command-holds all (commands.Join first second) is = holds-then P (join_of cluster.facts.cuts) (link_of cluster.facts.members first second) (λ link. holds-if P (is_cut cluster.facts.cuts link) _ (all.links (changes.Joined link)))
+  command-holds all (commands.Commit id size) is =
+      holds-mapped P _ (declared cluster id) (λ m. all.committed m size.bytes size.least)
+  command-holds all (commands.Freeze id) is =
+      at-declared id cluster.facts.frozen (freezing_of true) (freezing-holds all true)
+  command-holds all (commands.Thaw id) is =
+      at-declared id cluster.facts.frozen (freezing_of false) (freezing-holds all false)
+  command-holds all (commands.Slow id slowed delay) is =
+      at-declared id cluster.facts.servers (λ m. slow_of m slowed delay) (slow-holds all slowed delay)
+  command-holds all (commands.Cut first second) is =
+      holds-then P (cut_of cluster.facts.cuts) (link_of cluster.facts.members first second)
+      (λ link. holds-unless P (is_cut cluster.facts.cuts link) _ (all.links (changes.Cut link)))
+  command-holds all (commands.Join first second) is =
+      holds-then P (join_of cluster.facts.cuts) (link_of cluster.facts.members first second)
+      (λ link. holds-if P (is_cut cluster.facts.cuts link) _ (all.links (changes.Joined link)))
   command-holds all _ is = tt
 
   -- it holds of what each command brings, where it does of those that end nothing
-  pub each-command-holds : HoldsOfEnds P → (command : Command) → (EndsNothing command → HoldsIf P (command_kind cluster command)) → HoldsIf P (command_kind cluster command)
-  each-command-holds ends (commands.Kill id) others = at-declared id cluster.facts.processes kill_of (λ m process. holds-if P process.running _ (ends.killed m))
-  each-command-holds ends (commands.Crash id) others = at-declared id cluster.facts.servers crash_of (λ m s. holds-unless P (is_gone s.state) _ (ends.crashed m))
+  pub each-command-holds : HoldsOfEnds P → (command : Command)
+      → (EndsNothing command → HoldsIf P (command_kind cluster command)) → HoldsIf P (command_kind cluster command)
+  each-command-holds ends (commands.Kill id) others =
+      at-declared id cluster.facts.processes kill_of (λ m process. holds-if P process.running _ (ends.killed m))
+  each-command-holds ends (commands.Crash id) others =
+      at-declared id cluster.facts.servers crash_of (λ m s. holds-unless P (is_gone s.state) _ (ends.crashed m))
   each-command-holds ends command others = others tt

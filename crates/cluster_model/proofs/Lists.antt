@@ -18,7 +18,8 @@ abbrev pub HoldsIf : (EventKind → Type 0) → Option EventKind → Type 0
 HoldsIf P None = Unit {0}
 HoldsIf P (Some kind) = P kind
 
-pub all-kinds : (P : EventKind → Type 0) (cluster : Cluster) (list : List EventKind) → AllKinds P list → AllAre P (events_of cluster list)
+pub all-kinds : (P : EventKind → Type 0) (cluster : Cluster) (list : List EventKind) → AllKinds P list
+    → AllAre P (events_of cluster list)
 all-kinds P cluster [] all = tt
 all-kinds P cluster (kind ∷ more) all = (all.0, all-kinds P (cluster_after cluster kind) more all.1)
 
@@ -30,7 +31,8 @@ pub all-both : (P : EventKind → Type 0) (xs ys : List Event) → AllAre P xs �
 all-both P [] ys first second = second
 all-both P (x ∷ xs) ys first second = (first.0, all-both P xs ys first.1 second)
 
-pub all-more : (P Q : EventKind → Type 0) (xs : List Event) → ((kind : EventKind) → P kind → Q kind) → AllAre P xs → AllAre Q xs
+pub all-more : (P Q : EventKind → Type 0) (xs : List Event) → ((kind : EventKind) → P kind → Q kind)
+    → AllAre P xs → AllAre Q xs
 all-more P Q [] more all = tt
 all-more P Q (x ∷ xs) more all = (more x.kind all.0, all-more P Q xs more all.1)
 
@@ -42,6 +44,7 @@ pub all-back : (P : EventKind → Type 0) (xs ys : List Event) → AllAre P (xs 
 all-back P [] ys all = all
 all-back P (x ∷ xs) ys all = all-back P xs ys all.1
 
-pub kinds-both : (P : EventKind → Type 0) (xs ys : List EventKind) → AllKinds P xs → AllKinds P ys → AllKinds P (xs ++ ys)
+pub kinds-both : (P : EventKind → Type 0) (xs ys : List EventKind) → AllKinds P xs → AllKinds P ys
+    → AllKinds P (xs ++ ys)
 kinds-both P [] ys first second = second
 kinds-both P (x ∷ xs) ys first second = (first.0, kinds-both P xs ys first.1 second)

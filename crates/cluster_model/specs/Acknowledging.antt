@@ -16,7 +16,8 @@ use Rattle.cluster_model.specs.Losing.{losses_of}
 -- of these waiting commits the first ones, as far as each is confirmed by whom it waits for
 abbrev pub confirmed_front : Required → List (Option Lsn) → List Waiting → List ℕ
 confirmed_front required confirmed [] = []
-confirmed_front required confirmed (first ∷ more) = if is_met required first.end confirmed then first.serial ∷ confirmed_front required confirmed more else []
+confirmed_front required confirmed (first ∷ more) =
+    if is_met required first.end confirmed then first.serial ∷ confirmed_front required confirmed more else []
 
 -- the commits of a server that may be acknowledged, in order
 abbrev pub ready_commits : ServerFacts → List ℕ
@@ -29,7 +30,8 @@ acknowledgement member commit = kinds.Replication (replications.Acknowledged (se
 -- these commits of the server of a member are acknowledged, one after another; which servers lack one is told behind it
 abbrev pub acknowledgements : List ServerFacts → List Member → Member → List ℕ → List EventKind
 acknowledgements known members member [] = []
-acknowledgements known members member (commit ∷ commits) = acknowledgement member commit ∷ (losses_of commit known members ++ acknowledgements known members member commits)
+acknowledgements known members member (commit ∷ commits) =
+    acknowledgement member commit ∷ (losses_of commit known members ++ acknowledgements known members member commits)
 
 -- all that may be
 abbrev pub acknowledge_kinds : List ServerFacts → List Member → Member → Option ServerFacts → List EventKind

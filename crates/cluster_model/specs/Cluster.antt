@@ -38,22 +38,28 @@ agent_facts_with agents member outcome = with_changed agents member.id.number (a
 abbrev pub agent_facts_without : List (Option AgentFacts) → Member → List (Option AgentFacts)
 agent_facts_without agents member = with_changed agents member.id.number (λ agent. None)
 
--- the agents of a cluster of this name with these members, of whom these options are declared, at this moment, after one ended or started
-abbrev pub agent_facts_moved : Name → List MemberOptions → List Member → ℕ → List (Option AgentFacts) → AgentEvent → List (Option AgentFacts)
+-- the agents of a cluster of this name with these members, of whom these
+-- options are declared, at this moment, after one ended or started
+abbrev pub agent_facts_moved : Name → List MemberOptions → List Member → ℕ → List (Option AgentFacts)
+    → AgentEvent → List (Option AgentFacts)
 agent_facts_moved scope options members now known (agents.Killed member) = agent_facts_without known member
-agent_facts_moved scope options members now known (agents.Started member incarnation) = with_changed known member.id.number (λ agent. Some (starting_agent (who_of scope options members member) now incarnation))
+agent_facts_moved scope options members now known (agents.Started member incarnation) = with_changed known
+    member.id.number (λ agent. Some (starting_agent (who_of scope options members member) now incarnation))
 agent_facts_moved scope options members now known _ = known
 
 -- the agents after one was woken, did what an operator asked, ended or started
 abbrev pub agent_facts_by : Cluster → AgentEvent → List (Option AgentFacts)
 agent_facts_by cluster (agents.Woken member) = agent_facts_with cluster.agents member (outcome_of cluster member Wake)
-agent_facts_by cluster (agents.Operated member action) = agent_facts_with cluster.agents member (outcome_of cluster member (Operated action))
-agent_facts_by cluster happening = agent_facts_moved cluster.scope cluster.options cluster.facts.members cluster.facts.clock cluster.agents happening
+agent_facts_by cluster (agents.Operated member action) =
+    agent_facts_with cluster.agents member (outcome_of cluster member (Operated action))
+agent_facts_by cluster happening =
+    agent_facts_moved cluster.scope cluster.options cluster.facts.members cluster.facts.clock cluster.agents happening
 
 -- the agents after this message came to this receiver: the agent of a member acts on it, and none does at the key store
 abbrev pub agent_facts_reached_at : Cluster → InFlightFacts → LinkEnd → List (Option AgentFacts)
 agent_facts_reached_at cluster message link_ends.Store = cluster.agents
-agent_facts_reached_at cluster message (link_ends.Member member) = agent_facts_with cluster.agents member (outcome_of_heard cluster member (heard_from cluster message))
+agent_facts_reached_at cluster message (link_ends.Member member) =
+    agent_facts_with cluster.agents member (outcome_of_heard cluster member (heard_from cluster message))
 
 -- the agents after this message came to its receiver; where none was in flight, all are as before
 abbrev pub agent_facts_reached : Cluster → Option InFlightFacts → List (Option AgentFacts)
@@ -62,7 +68,8 @@ agent_facts_reached cluster (Some message) = agent_facts_reached_at cluster mess
 
 -- the agents after a message was sent, came or was lost
 abbrev pub agent_facts_by_message : Cluster → MessageEvent → List (Option AgentFacts)
-agent_facts_by_message cluster (messages.Delivered number) = agent_facts_reached cluster (in_flight cluster.facts.flight number)
+agent_facts_by_message cluster (messages.Delivered number) =
+    agent_facts_reached cluster (in_flight cluster.facts.flight number)
 agent_facts_by_message cluster _ = cluster.agents
 
 -- the agents after what happens to a watchdog: the reset of a machine ends its agent

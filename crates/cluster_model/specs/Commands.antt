@@ -20,7 +20,8 @@ use Rattle.agent_model.specs.declared.machine.Machine.{Machine}
 
 -- an agent that runs and isn't suspended becomes suspended
 abbrev pub suspend_of : Member → AgentProcess → Option EventKind
-suspend_of member process = if process.running && not process.suspended then Some (kinds.Agent (Suspended member)) else None
+suspend_of member process =
+    if process.running && not process.suspended then Some (kinds.Agent (Suspended member)) else None
 
 -- a suspended agent goes on
 abbrev pub resume_of : Member → AgentProcess → Option EventKind
@@ -33,11 +34,14 @@ kill_of member process = if process.running then Some (kinds.Agent (Killed membe
 -- an end that a script names
 abbrev pub link_end_of : List Member → End → Option LinkEnd
 link_end_of members ends.Store = Some link_ends.Store
-link_end_of members (ends.Member id) = option_map (λ (member : Member). link_ends.Member member) (slice_get members id.number)
+link_end_of members (ends.Member id) =
+    option_map (λ (member : Member). link_ends.Member member) (slice_get members id.number)
 
 -- the link between two ends that a script names
 abbrev pub link_of : List Member → End → End → Option Link
-link_of members first second = option_and_then (λ one. option_map (λ other. record { first = one; second = other }) (link_end_of members second)) (link_end_of members first)
+link_of members first second =
+    option_and_then (λ one. option_map (λ other. record { first = one; second = other }) (link_end_of members second))
+    (link_end_of members first)
 
 -- a link that isn't cut is cut
 abbrev pub cut_of : CutLinks → Link → Option EventKind
@@ -64,7 +68,8 @@ disarm_of member (Some machine) = if live machine.server.state then None else di
 
 -- an agent that doesn't run is started, in its next run; of one that runs it is said that it does
 abbrev pub agent_started : Member → AgentProcess → EventKind
-agent_started member process = if process.running then kinds.Note (AlreadyRunning member) else kinds.Agent (Started member (process.incarnation + 1))
+agent_started member process = if process.running then kinds.Note (AlreadyRunning member)
+    else kinds.Agent (Started member (process.incarnation + 1))
 
 -- an agent that starts does that to its watchdog; one that runs already doesn't
 abbrev pub disarm_at_start : Member → AgentProcess → Option Machine → Option EventKind

@@ -31,13 +31,16 @@ is_stale message state = is_answer message.body && not (message.incarnation == s
 -- what stands between a message and the agent that it is for, where their link is joined
 abbrev pub delivery_to_agent : Message → Option AgentProcess → Delivery
 delivery_to_agent message None = deliveries.Gone
-delivery_to_agent message (Some state) = if state.suspended then deliveries.Suspended else (if not state.running || is_stale message state then deliveries.Gone else deliveries.Open)
+delivery_to_agent message (Some state) = if state.suspended then deliveries.Suspended
+    else (if not state.running || is_stale message state then deliveries.Gone else deliveries.Open)
 
 -- what stands between a message and this receiver, where their link is joined; the store always takes it
 abbrev pub delivery_to : List AgentProcess → Message → LinkEnd → Delivery
 delivery_to processes message link_ends.Store = deliveries.Open
-delivery_to processes message (link_ends.Member member) = delivery_to_agent message (slice_get processes member.id.number)
+delivery_to processes message (link_ends.Member member) =
+    delivery_to_agent message (slice_get processes member.id.number)
 
 -- what stands between a message and its receiver, the first that applies
 abbrev pub delivery_of : CutLinks → List AgentProcess → Message → Delivery
-delivery_of cuts processes message = if is_cut cuts (link_of_message message) then deliveries.Cut else delivery_to processes message message.to
+delivery_of cuts processes message =
+    if is_cut cuts (link_of_message message) then deliveries.Cut else delivery_to processes message message.to

@@ -7,10 +7,12 @@ use Rattle.event_book.specs.declared.event.WatchdogEvent.{WatchdogEvent}
 use Rattle.event_book.specs.declared.event.WatchdogEvent.TheVariants as watchdogs
 use Rattle.event_book.specs.Watchdogs.{is_acknowledged}
 
--- whose deadlines acknowledgements set last, after what happens to a watchdog: a deadline that is removed leaves that as it was
+-- whose deadlines acknowledgements set last, after what happens to a
+-- watchdog: a deadline that is removed leaves that as it was
 abbrev pub failsafe_deadlines_by : List Bool → WatchdogEvent → List Bool
 failsafe_deadlines_by before (watchdogs.Armed member until answer) = with_changed before member.id.number (λ was. false)
-failsafe_deadlines_by before (watchdogs.Fed member until basis) = with_changed before member.id.number (λ was. is_acknowledged basis)
+failsafe_deadlines_by before (watchdogs.Fed member until basis) =
+    with_changed before member.id.number (λ was. is_acknowledged basis)
 failsafe_deadlines_by before _ = before
 
 -- by member, whether acknowledgements set the deadline of its watchdog last, after an event

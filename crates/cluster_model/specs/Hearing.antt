@@ -17,7 +17,8 @@ use Rattle.cluster_model.specs.State.{Cluster}
 
 -- a snapshot with these entries
 abbrev pub snapshot_with : Cluster → List (Key × KeyEntry) → SnapshotFacts
-snapshot_with cluster entries = record { scope = cluster.scope; members = hosts_of cluster.options cluster.facts.members; entries = entries }
+snapshot_with cluster entries =
+    record { scope = cluster.scope; members = hosts_of cluster.options cluster.facts.members; entries = entries }
 
 -- the snapshot that a message carries
 abbrev pub snapshot_in : Cluster → InFlightFacts → SnapshotFacts
@@ -34,13 +35,20 @@ member_at_end (link_ends.Member member) = Some member.id
 
 -- what a message with these words says to an agent: what the key store answers, and what other members ask and answer
 abbrev pub heard_in : Cluster → InFlightFacts → Body → Option Heard
-heard_in cluster message bodies.Snapshot = Some (heard.ReadAnswered message.message.sequence (snapshot_in cluster message))
-heard_in cluster message (bodies.Granted request leased) = option_map (λ grant. heard.Granted message.message.sequence grant (snapshot_in cluster message)) message.grant
+heard_in cluster message bodies.Snapshot =
+    Some (heard.ReadAnswered message.message.sequence (snapshot_in cluster message))
+heard_in cluster message (bodies.Granted request leased) =
+    option_map (λ grant. heard.Granted message.message.sequence grant (snapshot_in cluster message)) message.grant
 heard_in cluster message (bodies.Refused request key found) = Some (heard.Mismatch message.message.sequence key found)
-heard_in cluster message bodies.Ask = option_map (λ from. heard.Asked from message.message.incarnation message.message.sequence) (member_at_end message.message.from)
+heard_in cluster message bodies.Ask = option_map
+    (λ from. heard.Asked from message.message.incarnation message.message.sequence) (member_at_end message.message.from)
 heard_in cluster message (bodies.Answer answer) = Some (heard.Answered message.message.sequence answer)
-heard_in cluster message (bodies.FailsafeRequest ttl) = option_map (λ from. heard.FailsafeAsked from message.message.incarnation message.message.sequence ttl) (member_at_end message.message.from)
-heard_in cluster message (bodies.FailsafeAnswer accepted) = option_map (λ from. heard.FailsafeAnswered from message.message.sequence accepted message.sent) (member_at_end message.message.from)
+heard_in cluster message (bodies.FailsafeRequest ttl) =
+    option_map (λ from. heard.FailsafeAsked from message.message.incarnation message.message.sequence ttl)
+    (member_at_end message.message.from)
+heard_in cluster message (bodies.FailsafeAnswer accepted) =
+    option_map (λ from. heard.FailsafeAnswered from message.message.sequence accepted message.sent)
+    (member_at_end message.message.from)
 heard_in cluster message _ = None
 
 -- what a message says to an agent

@@ -37,7 +37,8 @@ outcome_at now points heard agent machine = option_map (step now points heard) (
 
 -- what this input makes of the agent of a member
 abbrev pub outcome_of : Cluster → Member → Heard → Option Outcome
-outcome_of cluster member heard = outcome_at (moment_of cluster) (points_of cluster member) heard (agent_at cluster.agents member.id.number) (machine_of cluster member)
+outcome_of cluster member heard = outcome_at (moment_of cluster) (points_of cluster member) heard
+    (agent_at cluster.agents member.id.number) (machine_of cluster member)
 
 -- what the agent of a member makes of what a message says, if it says anything to agents
 abbrev pub outcome_of_heard : Cluster → Member → Option Heard → Option Outcome
@@ -64,4 +65,5 @@ is_to_wake now process o = may_act process && has_work now o
 
 -- an agent that starts at this moment, in its incarnation of this number: its first turn is due in the next tick
 abbrev pub starting_agent : Who → ℕ → ℕ → AgentFacts
-starting_agent who now incarnation = record { role = Follower; knows = fresh_knowledge who (record { 0 = now + 1 }) incarnation }
+starting_agent who now incarnation =
+    record { role = Follower; knows = fresh_knowledge who (record { 0 = now + 1 }) incarnation }

@@ -19,7 +19,8 @@ loss_if member false = None
 
 -- a server of this log begins to accept writes on this timeline, and lacks one of these commits, or doesn't
 abbrev pub beginning_kinds : Member → ℕ → List ℕ → Option (List Entry) → List EventKind
-beginning_kinds member timeline acknowledged log = kinds.Server (servers.Began (server_of member) timeline) ∷ kinds_of (loss_if member (lacks_in (entries_of log) acknowledged))
+beginning_kinds member timeline acknowledged log = kinds.Server (servers.Began (server_of member) timeline)
+    ∷ kinds_of (loss_if member (lacks_in (entries_of log) acknowledged))
 
 -- a server that accepts writes lacks this commit
 abbrev pub is_lacking : ℕ → ServerFacts → Bool
@@ -33,4 +34,5 @@ loss_of commit member (Some s) = kinds_of (loss_if member (is_lacking commit s))
 -- it is told of each server of these members
 abbrev pub losses_of : ℕ → List ServerFacts → List Member → List EventKind
 losses_of commit known [] = []
-losses_of commit known (member ∷ members) = loss_of commit member (slice_get known member.id.number) ++ losses_of commit known members
+losses_of commit known (member ∷ members) =
+    loss_of commit member (slice_get known member.id.number) ++ losses_of commit known members

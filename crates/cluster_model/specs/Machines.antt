@@ -24,7 +24,12 @@ use Rattle.pat_base.specs.declared.member_id.TheConstants.{MOST_MEMBERS}
 
 -- the watchdog of a member with these options and this deadline
 abbrev pub watchdog_of : MemberOptions → Option Ticks → WatchdogFacts
-watchdog_of options deadline = record { mode = options.watchdog; works = options.device_works; margin = margin_span options.margin; deadline = deadline }
+watchdog_of options deadline = record {
+  mode = options.watchdog;
+  works = options.device_works;
+  margin = margin_span options.margin;
+  deadline = deadline;
+}
 
 -- this member is the one from which another one receives, if there is such a one
 abbrev pub is_source : Member → Option Member → Bool
@@ -39,34 +44,51 @@ is_connected members servers cuts member (Some other) = is_source member (source
 -- how far the member of this number has confirmed, where it is connected
 abbrev pub connected_end : List Member → List ServerFacts → CutLinks → Member → List (Option Lsn) → ℕ → Option Lsn
 connected_end members servers cuts member confirmed number =
-    if is_connected members servers cuts member (slice_get members number) then slice_index_or confirmed number None else None
+    if is_connected members servers cuts member (slice_get members number)
+    then slice_index_or confirmed number None else None
 
 -- by member number, how far each connected member has confirmed, where members confirmed these positions
-unfoldable pub connected_ends : List Member → List ServerFacts → CutLinks → Member → List (Option Lsn) → List (Option Lsn)
-connected_ends members servers cuts member confirmed = map (connected_end members servers cuts member confirmed) (range_with_len 0 MOST_MEMBERS)
+unfoldable pub connected_ends : List Member → List ServerFacts → CutLinks → Member → List (Option Lsn)
+    → List (Option Lsn)
+connected_ends members servers cuts member confirmed =
+    map (connected_end members servers cuts member confirmed) (range_with_len 0 MOST_MEMBERS)
 
 -- nobody has confirmed a position, by member number
 abbrev pub nothing_confirmed : List (Option Lsn)
 nothing_confirmed = replicate MOST_MEMBERS None
 
--- synchronous replication on this server of a member: whom its commits wait for, and how far each connected member has confirmed. To a
--- server that accepts no writes nobody is connected
+-- synchronous replication on this server of a member: whom its commits wait for, and how far
+-- each connected member has confirmed. To a server that accepts no writes nobody is connected
 abbrev pub replication_of : List Member → List ServerFacts → CutLinks → Member → ServerFacts → Replication
-replication_of members servers cuts member s = record { required = s.required; confirmed_positions = if writes s.state then connected_ends members servers cuts member s.confirmed else nothing_confirmed }
+replication_of members servers cuts member s = record {
+  required = s.required;
+  confirmed_positions =
+      if writes s.state then connected_ends members servers cuts member s.confirmed else nothing_confirmed;
+}
 
 -- a machine of these parts; its server receives, or not, and acknowledgements set the deadline last, or not
-abbrev pub machine_from : Bool → Bool → Option Replication → Option MemberOptions → Option (Option Ticks) → Option (Option Ticks) → Option ServerFacts → Option Machine
+abbrev pub machine_from : Bool → Bool → Option Replication → Option MemberOptions → Option (Option Ticks)
+    → Option (Option Ticks) → Option ServerFacts → Option Machine
 machine_from receives by_failsafe (Some replication) (Some options) (Some deadline) (Some hold) (Some s) =
-    Some (record { server = record (status_of s) { receives = receives }; replication = replication; watchdog = watchdog_of options deadline; by_failsafe = by_failsafe; hold = hold })
+    Some (record {
+      server = record (status_of s) { receives = receives };
+      replication = replication;
+      watchdog = watchdog_of options deadline;
+      by_failsafe = by_failsafe;
+      hold = hold;
+    })
 machine_from receives by_failsafe _ _ _ _ _ = None
 
--- the machine of a member. A replica receives where its upstream accepts writes, the link to that is joined, and its log didn't
--- diverge
+-- the machine of a member. A replica receives where its upstream accepts
+-- writes, the link to that is joined, and its log didn't diverge
 abbrev pub machine_of : Cluster → Member → Option Machine
 machine_of cluster member =
-    machine_from (is_some (source_of cluster.facts.members cluster.facts.servers cluster.facts.cuts member)) (is_set_by_failsafe (slice_get cluster.failsafe_deadlines member.id.number))
-    (option_map (replication_of cluster.facts.members cluster.facts.servers cluster.facts.cuts member) (slice_get cluster.facts.servers member.id.number))
-    (slice_get cluster.options member.id.number) (slice_get cluster.facts.deadlines member.id.number) (slice_get cluster.facts.holds member.id.number) (slice_get cluster.facts.servers member.id.number)
+    machine_from (is_some (source_of cluster.facts.members cluster.facts.servers cluster.facts.cuts member))
+    (is_set_by_failsafe (slice_get cluster.failsafe_deadlines member.id.number))
+    (option_map (replication_of cluster.facts.members cluster.facts.servers cluster.facts.cuts member)
+    (slice_get cluster.facts.servers member.id.number))
+    (slice_get cluster.options member.id.number) (slice_get cluster.facts.deadlines member.id.number)
+    (slice_get cluster.facts.holds member.id.number) (slice_get cluster.facts.servers member.id.number)
 
 -- the history of a server, none where there is no server
 abbrev pub points_from : Option ServerFacts → List HistoryPoint

@@ -64,75 +64,101 @@ lost_at_once false number = []
 -- a message is sent under the next number; one that is sent beyond the most in flight is lost at once
 abbrev pub send_events : Cluster → Message → List Event
 send_events cluster message =
-    events_of cluster (kinds.Message (Sent (cluster.facts.sent + 1) message) ∷ lost_at_once (nat_le most_in_flight (length cluster.facts.flight)) (cluster.facts.sent + 1))
+    events_of cluster
+    (kinds.Message (Sent (cluster.facts.sent + 1) message)
+    ∷ lost_at_once (nat_le most_in_flight (length cluster.facts.flight)) (cluster.facts.sent + 1))
 
 -- the message of a member's agent to this end of a link, in its incarnation of this number
 abbrev pub agent_message : Member → LinkEnd → ℕ → ℕ → Body → Message
-agent_message member to incarnation sequence body = record { from = link_ends.Member member; to = to; incarnation = incarnation; sequence = sequence; body = body }
+agent_message member to incarnation sequence body =
+    record { from = link_ends.Member member; to = to; incarnation = incarnation; sequence = sequence; body = body }
 
 -- whom an agent writes to, if that is declared
 abbrev pub receiver_of : List Member → Target → Option LinkEnd
 receiver_of members targets.Store = Some link_ends.Store
-receiver_of members (targets.Member id) = option_map (λ (member : Member). link_ends.Member member) (slice_get members id.number)
+receiver_of members (targets.Member id) =
+    option_map (λ (member : Member). link_ends.Member member) (slice_get members id.number)
 
 -- what an agent sends, in the run in which it is
 abbrev pub sending_events : Cluster → Member → Option AgentProcess → Option LinkEnd → ℕ → Body → List Event
-sending_events cluster member (Some process) (Some to) sequence body = send_events cluster (agent_message member to process.incarnation sequence body)
+sending_events cluster member (Some process) (Some to) sequence body =
+    send_events cluster (agent_message member to process.incarnation sequence body)
 sending_events cluster member _ _ sequence body = []
 
 -- what an agent answers another member, in the run in which that one asked
 abbrev pub replying_events : Cluster → Member → Option LinkEnd → ℕ → ℕ → Body → List Event
 replying_events cluster member None incarnation sequence body = []
-replying_events cluster member (Some to) incarnation sequence body = send_events cluster (agent_message member to incarnation sequence body)
+replying_events cluster member (Some to) incarnation sequence body =
+    send_events cluster (agent_message member to incarnation sequence body)
 
 -- the server of a member starts as a replica, where it is down
 abbrev pub replica_start_events : Cluster → Member → Option Member → List Event
-replica_start_events cluster member leader = for_some (server_at cluster member) (λ s. events_of cluster (replica_start_kinds member leader s))
+replica_start_events cluster member leader =
+    for_some (server_at cluster member) (λ s. events_of cluster (replica_start_kinds member leader s))
 
 -- the agent of a member ends its server
 abbrev pub stop_events : Cluster → Member → Reason → List Event
-stop_events cluster member reason = for_some (server_at cluster member) (λ s. events_of cluster (stop_kinds member reason s))
+stop_events cluster member reason =
+    for_some (server_at cluster member) (λ s. events_of cluster (stop_kinds member reason s))
 
 -- the server of a member begins by the order of its agent, where it can
 abbrev pub begin_events : Cluster → Member → List Event
-begin_events cluster member = for_some (server_at cluster member) (λ s. events_of cluster (begin_kinds member cluster.facts.acknowledged s))
+begin_events cluster member =
+    for_some (server_at cluster member) (λ s. events_of cluster (begin_kinds member cluster.facts.acknowledged s))
 
 -- the server of a member starts again by the order of its agent
 abbrev pub server_restart_events : Cluster → Member → List Event
-server_restart_events cluster member = for_some (server_at cluster member) (λ s. events_of cluster (server_restart_kinds member cluster.facts.acknowledged s))
+server_restart_events cluster member = for_some (server_at cluster member)
+    (λ s. events_of cluster (server_restart_kinds member cluster.facts.acknowledged s))
 
 -- the log of a member's server is repaired by this leader's, if there is such a member, where it can be
 abbrev pub repair_events : Cluster → Member → Repair → Option Member → List Event
-repair_events cluster member repair leader = events_of cluster (kinds_of (option_and_then (repair_over cluster.facts.cuts cluster.facts.servers member repair) leader))
+repair_events cluster member repair leader = events_of cluster
+    (kinds_of (option_and_then (repair_over cluster.facts.cuts cluster.facts.servers member repair) leader))
 
 -- what the agent of a member orders its server to do, where that can be done there
 abbrev pub server_order_events : Cluster → Member → (ServerFacts → Option EventKind) → List Event
-server_order_events cluster member order = events_of cluster (kinds_of (option_and_then order (server_at cluster member)))
+server_order_events cluster member order =
+    events_of cluster (kinds_of (option_and_then order (server_at cluster member)))
 
 -- what an output of the agent of a member comes to, on the message that it heard
 abbrev pub output_events : Member → HeardMessage → Cluster → Output → List Event
-output_events member heard cluster (outputs.Send to sequence body) = sending_events cluster member (slice_get cluster.facts.processes member.id.number) (receiver_of cluster.facts.members to) sequence body
-output_events member heard cluster (outputs.Answer to incarnation sequence answer) = replying_events cluster member (receiver_of cluster.facts.members (targets.Member to)) incarnation sequence (bodies.Answer answer)
+output_events member heard cluster (outputs.Send to sequence body) = sending_events cluster member
+    (slice_get cluster.facts.processes member.id.number) (receiver_of cluster.facts.members to) sequence body
+output_events member heard cluster (outputs.Answer to incarnation sequence answer) = replying_events cluster member
+    (receiver_of cluster.facts.members (targets.Member to)) incarnation sequence (bodies.Answer answer)
 output_events member heard cluster (outputs.FailsafeAnswer to incarnation sequence accepted) =
-    replying_events cluster member (receiver_of cluster.facts.members (targets.Member to)) incarnation sequence (bodies.FailsafeAnswer accepted)
+    replying_events cluster member (receiver_of cluster.facts.members (targets.Member to)) incarnation sequence
+    (bodies.FailsafeAnswer accepted)
 output_events member heard cluster outputs.Begin = begin_events cluster member
-output_events member heard cluster (outputs.StartReplica leader) = replica_start_events cluster member (declared_member cluster.facts.members leader)
+output_events member heard cluster (outputs.StartReplica leader) =
+    replica_start_events cluster member (declared_member cluster.facts.members leader)
 output_events member heard cluster (outputs.Stop reason) = stop_events cluster member reason
 output_events member heard cluster outputs.ShutDown = server_order_events cluster member (stop_of member)
 output_events member heard cluster (outputs.Restart as_primary) = server_restart_events cluster member
 output_events member heard cluster outputs.Wipe = server_order_events cluster member (wipe_of member)
-output_events member heard cluster (outputs.Follow leader) = server_order_events cluster member (upstream_of member (slice_get cluster.facts.members leader.number))
-output_events member heard cluster (outputs.Repair leader repair) = repair_events cluster member repair (slice_get cluster.facts.members leader.number)
-output_events member heard cluster (outputs.Require required) = server_order_events cluster member (require_of cluster.facts.members member required)
-output_events member heard cluster (outputs.Armed until) = events_of cluster (feed_kinds member heard.sent (arming member until heard))
-output_events member heard cluster (outputs.Fed until) = events_of cluster (feed_kinds member heard.sent (feeding member until heard))
-output_events member heard cluster (outputs.FedByFailsafe until members sequence since) = events_of cluster (feed_kinds member since (failsafe_feeding member until members sequence))
+output_events member heard cluster (outputs.Follow leader) =
+    server_order_events cluster member (upstream_of member (slice_get cluster.facts.members leader.number))
+output_events member heard cluster (outputs.Repair leader repair) =
+    repair_events cluster member repair (slice_get cluster.facts.members leader.number)
+output_events member heard cluster (outputs.Require required) =
+    server_order_events cluster member (require_of cluster.facts.members member required)
+output_events member heard cluster (outputs.Armed until) =
+    events_of cluster (feed_kinds member heard.sent (arming member until heard))
+output_events member heard cluster (outputs.Fed until) =
+    events_of cluster (feed_kinds member heard.sent (feeding member until heard))
+output_events member heard cluster (outputs.FedByFailsafe until members sequence since) =
+    events_of cluster (feed_kinds member since (failsafe_feeding member until members sequence))
 output_events member heard cluster outputs.StaysByFailsafe = event_of cluster (kinds.Note (StaysByFailsafe member))
 output_events member heard cluster outputs.Disarmed = event_of cluster (kinds.Watchdog (Disarmed member))
-output_events member heard cluster (outputs.Note note) = event_of cluster (agent_noting cluster.facts.members member note)
+output_events member heard cluster (outputs.Note note) =
+    event_of cluster (agent_noting cluster.facts.members member note)
 output_events member heard cluster outputs.ClaimsOutsideSync = event_of cluster (kinds.Agent (Passed member))
-output_events member heard cluster (outputs.Told request told) = events_of cluster (kinds_of (told_kind member (agent_at cluster.agents member.id.number) told))
-output_events member heard cluster (outputs.HoldTaken until from sequence) = events_of cluster (kinds_of (option_map (hold_taken member until heard.incarnation sequence) (slice_get cluster.facts.members from.number)))
+output_events member heard cluster (outputs.Told request told) =
+    events_of cluster (kinds_of (told_kind member (agent_at cluster.agents member.id.number) told))
+output_events member heard cluster (outputs.HoldTaken until from sequence) = events_of cluster
+    (kinds_of (option_map (hold_taken member until heard.incarnation sequence)
+    (slice_get cluster.facts.members from.number)))
 
 -- what the outputs of an input come to, one after another
 abbrev pub input_events : Cluster → Member → HeardMessage → Option Outcome → List Event
@@ -144,31 +170,42 @@ no_message = record { number = 0; incarnation = 0; sent = record { 0 = 0 } }
 
 -- an input that no message brings to the agent of a member, as this event: it acts on what it hears by it
 abbrev pub own_input_events : Cluster → Member → AgentEvent → Heard → List Event
-own_input_events cluster member input heard = events_then cluster (event_of cluster (kinds.Agent input)) (λ later. input_events later member no_message (outcome_of cluster member heard))
+own_input_events cluster member input heard = events_then cluster (event_of cluster (kinds.Agent input))
+    (λ later. input_events later member no_message (outcome_of cluster member heard))
 
 -- the agent of a member is woken, and acts
 abbrev pub wake_events_of : Cluster → Member → List Event
 wake_events_of cluster member = own_input_events cluster member (Woken member) Wake
 
--- a script wakes the agent of a member, where it runs and isn't suspended: one with nothing else to do takes note of its server
+-- a script wakes the agent of a member, where it runs and isn't
+-- suspended: one with nothing else to do takes note of its server
 abbrev pub turn_events_if : Cluster → Member → AgentProcess → List Event
 turn_events_if cluster member process = if may_act process then wake_events_of cluster member else []
 
 -- a script wakes the agent of a member, where there is one that may act
 abbrev pub turn_events : Cluster → Member → List Event
-turn_events cluster member = for_some (slice_get cluster.facts.processes member.id.number) (turn_events_if cluster member)
+turn_events cluster member =
+    for_some (slice_get cluster.facts.processes member.id.number) (turn_events_if cluster member)
 
 -- the agent of a member is woken, where it has something to do
 abbrev pub wake_events_if : Cluster → Member → AgentProcess → List Event
-wake_events_if cluster member process = if is_to_wake (moment_of cluster) process (standing_of cluster member) then wake_events_of cluster member else []
+wake_events_if cluster member process =
+    if is_to_wake (moment_of cluster) process (standing_of cluster member) then wake_events_of cluster member else []
 
 -- the agent of a member is woken, where there is one with something to do
 abbrev pub wake_events : Cluster → Member → List Event
-wake_events cluster member = for_some (slice_get cluster.facts.processes member.id.number) (wake_events_if cluster member)
+wake_events cluster member =
+    for_some (slice_get cluster.facts.processes member.id.number) (wake_events_if cluster member)
 
 -- an answer of the key store
 abbrev pub answer_message : Message → Body → Message
-answer_message message body = record { from = link_ends.Store; to = message.from; incarnation = message.incarnation; sequence = message.sequence; body = body }
+answer_message message body = record {
+  from = link_ends.Store;
+  to = message.from;
+  incarnation = message.incarnation;
+  sequence = message.sequence;
+  body = body;
+}
 
 -- the agent of a member does what an operator asks
 abbrev pub operate_events : Cluster → Member → OperatorAction → List Event
@@ -185,15 +222,19 @@ request_events_of cluster asked member o = answered_events cluster member o (ans
 
 -- what a request to the agent of a member comes to, which may act or not
 abbrev pub request_events_if : Cluster → Asker → RequestText → Member → AgentProcess → List Event
-request_events_if cluster asker asked member process = if may_act process then for_some (standing_of cluster member) (request_events_of cluster asked member) else event_of cluster (kinds.Note (silence asker member))
+request_events_if cluster asker asked member process =
+    if may_act process then for_some (standing_of cluster member) (request_events_of cluster asked member)
+    else event_of cluster (kinds.Note (silence asker member))
 
 -- what a request to the agent of a member comes to
 abbrev pub request_events : Cluster → Asker → RequestText → Member → List Event
-request_events cluster asker asked member = for_some (slice_get cluster.facts.processes member.id.number) (request_events_if cluster asker asked member)
+request_events cluster asker asked member =
+    for_some (slice_get cluster.facts.processes member.id.number) (request_events_if cluster asker asked member)
 
 -- what a connection brings to the agent of a member
 abbrev pub visit_events : Cluster → Visit → Member → List Event
-visit_events cluster (visits.Request request) member = request_events cluster askers.Connection (request_text request) member
+visit_events cluster (visits.Request request) member =
+    request_events cluster askers.Connection (request_text request) member
 visit_events cluster (visits.Refusal refusal) member = event_of cluster (replying member (refusal_reply refusal))
 visit_events cluster visits.Failure member = event_of cluster (kinds.Note ConnectionFailed)
 
@@ -205,7 +246,8 @@ published_names members _ = []
 -- the key store's decision on the request that a message carries, as an event, among these members
 abbrev pub decision_kind : List Member → ℕ → Member → Txn → Decision → EventKind
 decision_kind members number by txn Grant = kinds.Store (stores.Granted number by txn (published_names members txn))
-decision_kind members number by txn (Refusal key found) = kinds.Store (stores.Refused number by (txn_kind_of txn) key found)
+decision_kind members number by txn (Refusal key found) =
+    kinds.Store (stores.Refused number by (txn_kind_of txn) key found)
 
 -- and what the key store answers
 abbrev pub decision_body : ℕ → Txn → Decision → Body
@@ -216,12 +258,14 @@ decision_body number txn (Refusal key found) = bodies.Refused number key found
 abbrev pub decision_events : Cluster → ℕ → Message → Txn → Decision → LinkEnd → List Event
 decision_events cluster number message txn decision link_ends.Store = []
 decision_events cluster number message txn decision (link_ends.Member by) =
-    events_then cluster (event_of cluster (decision_kind cluster.facts.members number by txn decision)) (λ later. send_events later (answer_message message (decision_body number txn decision)))
+    events_then cluster (event_of cluster (decision_kind cluster.facts.members number by txn decision))
+    (λ later. send_events later (answer_message message (decision_body number txn decision)))
 
 -- what the key store answers to a message that says this
 abbrev pub answer_events_by : Cluster → ℕ → Message → Body → List Event
 answer_events_by cluster number message bodies.Read = send_events cluster (answer_message message bodies.Snapshot)
-answer_events_by cluster number message (bodies.Request txn) = decision_events cluster number message txn (decision_on cluster.facts.keys cluster.facts.clock txn) message.from
+answer_events_by cluster number message (bodies.Request txn) =
+    decision_events cluster number message txn (decision_on cluster.facts.keys cluster.facts.clock txn) message.from
 answer_events_by cluster number message _ = []
 
 -- the key store answers a read with a snapshot, and a request with its decision
@@ -230,16 +274,20 @@ answer_events cluster number message = answer_events_by cluster number message m
 
 -- the message of this number, as its receiver hears it
 abbrev pub heard_message : ℕ → InFlightFacts → HeardMessage
-heard_message number message = record { number = number; incarnation = message.message.incarnation; sent = message.sent }
+heard_message number message =
+    record { number = number; incarnation = message.message.incarnation; sent = message.sent }
 
 -- the agent of a member acts on a message that comes
 abbrev pub hear_events : Cluster → ℕ → InFlightFacts → Member → List Event
 hear_events cluster number message member =
-    events_then cluster (event_of cluster (kinds.Message (Delivered number))) (λ later. input_events later member (heard_message number message) (outcome_of_heard cluster member (heard_from cluster message)))
+    events_then cluster (event_of cluster (kinds.Message (Delivered number)))
+    (λ later. input_events later member (heard_message number message)
+    (outcome_of_heard cluster member (heard_from cluster message)))
 
 -- a message comes to this receiver: the key store answers it, or the agent of a member acts on it
 abbrev pub arrival_events_at : Cluster → ℕ → InFlightFacts → LinkEnd → List Event
-arrival_events_at cluster number message link_ends.Store = events_then cluster (event_of cluster (kinds.Message (Delivered number))) (λ later. answer_events later number message.message)
+arrival_events_at cluster number message link_ends.Store = events_then cluster
+    (event_of cluster (kinds.Message (Delivered number))) (λ later. answer_events later number message.message)
 arrival_events_at cluster number message (link_ends.Member member) = hear_events cluster number message member
 
 -- a message comes to its receiver, which acts on it
@@ -255,7 +303,9 @@ message_events_by cluster number message deliveries.Gone = event_of cluster (kin
 
 -- a message in flight comes to its receiver, is lost, or is kept for a receiver that is suspended
 abbrev pub message_events : Cluster → ℕ → List Event
-message_events cluster number = for_some (in_flight cluster.facts.flight number) (λ message. message_events_by cluster number message (delivery_of cluster.facts.cuts cluster.facts.processes message.message))
+message_events cluster number = for_some (in_flight cluster.facts.flight number)
+    (λ message.
+    message_events_by cluster number message (delivery_of cluster.facts.cuts cluster.facts.processes message.message))
 
 -- a script delivers a message where nothing stands in its way
 abbrev pub deliver_events_by : Cluster → ℕ → InFlightFacts → Delivery → List Event
@@ -267,7 +317,8 @@ deliver_events_by cluster number message deliveries.Gone = event_of cluster (kin
 -- a script delivers a message; a note says so where none of this number is in flight
 abbrev pub deliver_events : Cluster → ℕ → Option InFlightFacts → List Event
 deliver_events cluster number None = event_of cluster (kinds.Note (NoMessage number))
-deliver_events cluster number (Some message) = deliver_events_by cluster number message (delivery_of cluster.facts.cuts cluster.facts.processes message.message)
+deliver_events cluster number (Some message) =
+    deliver_events_by cluster number message (delivery_of cluster.facts.cuts cluster.facts.processes message.message)
 
 -- a script loses a message that is in flight, wherever it goes
 abbrev pub lose_events : Cluster → ℕ → Option InFlightFacts → List Event

@@ -55,7 +55,8 @@ feeding member until heard = kinds.Watchdog (watchdogs.Fed member until (bases.G
 
 -- the watchdog of a member gets a new deadline, since these members acknowledged its failsafe request of this number
 abbrev pub failsafe_feeding : Member → Ticks → MemberSet → ℕ → EventKind
-failsafe_feeding member until members sequence = kinds.Watchdog (watchdogs.Fed member until (bases.Acknowledgements members sequence))
+failsafe_feeding member until members sequence =
+    kinds.Watchdog (watchdogs.Fed member until (bases.Acknowledgements members sequence))
 
 -- a watchdog is fed: the deadline is measured from this moment
 abbrev pub feed_kinds : Member → Ticks → EventKind → List EventKind
@@ -72,11 +73,13 @@ upstream_of member leader s = if is_replica s.state then following_of member lea
 
 -- a server that is down starts as a replica, of this leader's or of none
 abbrev pub replica_start_kinds : Member → Option Member → ServerFacts → List EventKind
-replica_start_kinds member leader s = if is_down s.state then kinds.Server (servers.StartsAsReplica (server_of member)) ∷ kinds_of (following_of member leader) else []
+replica_start_kinds member leader s = if is_down s.state
+    then kinds.Server (servers.StartsAsReplica (server_of member)) ∷ kinds_of (following_of member leader) else []
 
 -- a server shuts down: one that accepts writes does so no longer, where stops take no time
 abbrev pub stop_kind : Member → State → Ticks → EventKind
-stop_kind member state delay = if is_primary state && delay.0 == 0 then kinds.Server (servers.Ended (server_of member)) else kinds.Server (servers.Stops (server_of member))
+stop_kind member state delay = if is_primary state && delay.0 == 0
+    then kinds.Server (servers.Ended (server_of member)) else kinds.Server (servers.Stops (server_of member))
 
 -- a server that runs or starts shuts down
 abbrev pub stop_of : Member → ServerFacts → Option EventKind
@@ -98,18 +101,23 @@ abbrev pub required_names : List Member → Required → List Name
 required_names members (requireds.All set) = names_of set members
 required_names members _ = []
 
--- a server that doesn't accept writes, and won't when its start is complete, is wiped, unless it waits for a copy already
+-- a server that doesn't accept writes, and won't when its start is
+-- complete, is wiped, unless it waits for a copy already
 abbrev pub wipe_of : Member → ServerFacts → Option EventKind
-wipe_of member s = if is_creating s.state || live s.state then None else Some (kinds.Log (logs.Wiped (server_of member)))
+wipe_of member s =
+    if is_creating s.state || live s.state then None else Some (kinds.Log (logs.Wiped (server_of member)))
 
 -- commits wait for these from now on, where that is a change
 abbrev pub require_of : List Member → Member → Required → ServerFacts → Option EventKind
 require_of members member required s =
-    if is_same_required s.required required then None else Some (kinds.Replication (replications.RequiredSet (server_of member) required (required_names members required)))
+    if is_same_required s.required required then None
+    else Some
+    (kinds.Replication (replications.RequiredSet (server_of member) required (required_names members required)))
 
 -- a member promises another one not to take the leader key before a moment, on its failsafe request
 abbrev pub hold_taken : Member → Ticks → ℕ → ℕ → Member → EventKind
-hold_taken member until incarnation sequence from = kinds.Watchdog (watchdogs.HoldTaken member until from incarnation sequence)
+hold_taken member until incarnation sequence from =
+    kinds.Watchdog (watchdogs.HoldTaken member until from incarnation sequence)
 
 -- the log of a member's server was rewound to what it has in common with this leader's
 abbrev pub rewinding : Member → Member → Rewound → EventKind
@@ -119,15 +127,18 @@ rewinding member leader rewind = kinds.Log (logs.Rewound (server_of member) (ser
 abbrev pub copying : Member → Member → EventKind
 copying member leader = kinds.Log (logs.Copied (server_of member) (server_of leader))
 
--- how the log of a member's server is repaired by this leader's, where it can be: the leader's server accepts writes, and the member's may be
--- rewound, or waits for a copy
+-- how the log of a member's server is repaired by this leader's, where it can be: the
+-- leader's server accepts writes, and the member's may be rewound, or waits for a copy
 abbrev pub repair_by : List ServerFacts → Member → Repair → Member → Option EventKind
-repair_by known member repairs.Rewind leader = option_map (rewinding member leader) (rewind_at known member.id.number leader.id.number)
-repair_by known member repairs.Clone leader = if may_clone_at known member.id.number leader.id.number then Some (copying member leader) else None
+repair_by known member repairs.Rewind leader =
+    option_map (rewinding member leader) (rewind_at known member.id.number leader.id.number)
+repair_by known member repairs.Clone leader =
+    if may_clone_at known member.id.number leader.id.number then Some (copying member leader) else None
 
 -- how the log of a member's server is repaired by this leader's, where it can be and the link between the two is joined
 abbrev pub repair_over : CutLinks → List ServerFacts → Member → Repair → Member → Option EventKind
-repair_over cuts known member repair leader = if is_cut cuts (link_of_members member leader) then None else repair_by known member repair leader
+repair_over cuts known member repair leader =
+    if is_cut cuts (link_of_members member leader) then None else repair_by known member repair leader
 
 -- the member that bars another one from racing, if one does
 abbrev pub barring : Ineligibility → Option MemberId

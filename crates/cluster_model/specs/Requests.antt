@@ -47,7 +47,8 @@ reply_note member reply = notes.Answered member reply.status reply.json reply.bo
 abbrev pub replying : Member → ReplyText → EventKind
 replying member reply = kinds.Note (reply_note member reply)
 
--- what comes of a request to the agent of a member that doesn't run or is suspended: a line gets no answer, and a connection is told so
+-- what comes of a request to the agent of a member that doesn't run or
+-- is suspended: a line gets no answer, and a connection is told so
 abbrev pub silence : Asker → Member → Note
 silence askers.Line member = notes.NoAnswer member
 silence askers.Connection member = reply_note member (refusal_reply refusals.NoAgent)

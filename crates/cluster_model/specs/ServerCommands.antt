@@ -20,7 +20,9 @@ use Rattle.script_model.specs.declared.ranges.Delay.{Delay}
 -- a replica is promoted by its operator, and begins to accept writes on the next timeline
 abbrev pub promote_kinds : Member → List ℕ → ServerFacts → List EventKind
 promote_kinds member acknowledged s =
-    if is_replica s.state then kinds.Server (servers.Promoted (server_of member)) ∷ beginning_kinds member (s.timeline + 1) acknowledged s.log else []
+    if is_replica s.state
+    then kinds.Server (servers.Promoted (server_of member)) ∷ beginning_kinds member (s.timeline + 1) acknowledged s.log
+    else []
 
 -- it crashed, or waits for a copy
 abbrev pub is_gone : State → Bool
@@ -44,8 +46,10 @@ ticks_of delay = record { 0 = delay.ticks }
 
 -- later stops, or later starts, of a server take so long, where they don't already
 abbrev pub slow_by : Member → SlowedCall → Delay → Ticks → Ticks → Option EventKind
-slow_by member slowed_calls.Stop delay stop start = if stop.0 == delay.ticks then None else Some (kinds.Server (servers.Slowed (server_of member) (Some (ticks_of delay)) None))
-slow_by member slowed_calls.Start delay stop start = if start.0 == delay.ticks then None else Some (kinds.Server (servers.Slowed (server_of member) None (Some (ticks_of delay))))
+slow_by member slowed_calls.Stop delay stop start = if stop.0 == delay.ticks then None
+    else Some (kinds.Server (servers.Slowed (server_of member) (Some (ticks_of delay)) None))
+slow_by member slowed_calls.Start delay stop start = if start.0 == delay.ticks then None
+    else Some (kinds.Server (servers.Slowed (server_of member) None (Some (ticks_of delay))))
 
 -- later stops, or later starts, of this server take so long, where they don't already
 abbrev pub slow_of : Member → SlowedCall → Delay → ServerFacts → Option EventKind

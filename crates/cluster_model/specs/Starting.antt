@@ -24,12 +24,16 @@ cluster_without_agents head = record {
   agents = [];
 }
 
--- the agent of a member at the beginning, in its first incarnation: that of member number i has its first turn at tick i + 1
+-- the agent of a member at the beginning, in its first incarnation:
+-- that of member number i has its first turn at tick i + 1
 abbrev pub first_agent : Name → List MemberOptions → List Member → Member → Option AgentFacts
-first_agent scope options members member = Some (starting_agent (who_of scope options members member) member.id.number 1)
+first_agent scope options members member =
+    Some (starting_agent (who_of scope options members member) member.id.number 1)
 
 -- the cluster of a head, before the first event
 abbrev pub cluster_of : HeadText → Cluster
 cluster_of head =
     let cluster = cluster_without_agents head in
-    record cluster { agents = map (first_agent head.cluster cluster.options cluster.facts.members) cluster.facts.members }
+    record cluster {
+      agents = map (first_agent head.cluster cluster.options cluster.facts.members) cluster.facts.members;
+    }

@@ -24,20 +24,23 @@ link_of_members member other = record { first = link_ends.Member member; second 
 abbrev pub source_at : CutLinks → Member → Option Member → Option ServerFacts → Option Member
 source_at cuts member None upstream = None
 source_at cuts member (Some from) None = None
-source_at cuts member (Some from) (Some upstream) = if writes upstream.state && not (is_cut cuts (link_of_members member from)) then Some from else None
+source_at cuts member (Some from) (Some upstream) =
+    if writes upstream.state && not (is_cut cuts (link_of_members member from)) then Some from else None
 
 -- the member of this upstream, where that accepts writes and the link to it is joined
 abbrev pub source_named : List Member → List ServerFacts → CutLinks → Member → Option ServerId → Option Member
 source_named members servers cuts member None = None
-source_named members servers cuts member (Some id) = source_at cuts member (slice_get members id.number) (slice_get servers id.number)
+source_named members servers cuts member (Some id) =
+    source_at cuts member (slice_get members id.number) (slice_get servers id.number)
 
 -- the member from whose server this one receives, if it is a replica whose log didn't diverge
 abbrev pub source_for : List Member → List ServerFacts → CutLinks → Member → Option ServerFacts → Option Member
 source_for members servers cuts member None = None
-source_for members servers cuts member (Some s) = if is_replica s.state && not s.diverged then source_named members servers cuts member s.upstream else None
+source_for members servers cuts member (Some s) =
+    if is_replica s.state && not s.diverged then source_named members servers cuts member s.upstream else None
 
--- the member from whose server that of this member receives: it is a replica whose log didn't diverge, its upstream accepts
--- writes, and the link between the two is joined
+-- the member from whose server that of this member receives: it is a replica whose log
+-- didn't diverge, its upstream accepts writes, and the link between the two is joined
 abbrev pub source_of : List Member → List ServerFacts → CutLinks → Member → Option Member
 source_of members servers cuts member = source_for members servers cuts member (slice_get servers member.id.number)
 
@@ -59,7 +62,8 @@ end_unless_confirmed (Some log) confirmed = unless_confirmed (lsn_at (end_of log
 abbrev pub unconfirmed_end : Member → Option ServerFacts → Option ServerFacts → Option Lsn
 unconfirmed_end member None upstream = None
 unconfirmed_end member (Some s) None = None
-unconfirmed_end member (Some s) (Some upstream) = end_unless_confirmed s.log (slice_index_or upstream.confirmed member.id.number None)
+unconfirmed_end member (Some s) (Some upstream) =
+    end_unless_confirmed s.log (slice_index_or upstream.confirmed member.id.number None)
 
 -- a replica confirms that its log ends there
 abbrev pub confirm_of : Member → Member → Option Lsn → Option EventKind

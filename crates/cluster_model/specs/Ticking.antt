@@ -23,7 +23,9 @@ reset_of now member deadline = if is_due_at now deadline then Some (kinds.Watchd
 
 -- what that brings
 abbrev pub reset_events : Cluster → Member → List Event
-reset_events cluster member = events_of cluster (kinds_of (option_and_then (reset_of cluster.facts.clock member) (slice_get cluster.facts.deadlines member.id.number)))
+reset_events cluster member = events_of cluster
+    (kinds_of (option_and_then (reset_of cluster.facts.clock member)
+    (slice_get cluster.facts.deadlines member.id.number)))
 
 -- the expiry of the leader key, which names its holder
 abbrev pub leader_expiry : Option Member → List EventKind
@@ -43,15 +45,18 @@ expiries_of holder (key ∷ more) = expiry_of holder key ++ expiries_of holder m
 -- what expires with the next tick
 abbrev pub next_expiries : Cluster → List EventKind
 next_expiries cluster =
-    expiries_of (declared_member cluster.facts.members (expired_holder cluster.facts.keys (cluster.facts.clock + 1))) (expired_keys cluster.facts.keys (cluster.facts.clock + 1))
+    expiries_of (declared_member cluster.facts.members (expired_holder cluster.facts.keys (cluster.facts.clock + 1)))
+    (expired_keys cluster.facts.keys (cluster.facts.clock + 1))
 
 -- the start or the stop of the server of a member as a primary is complete, where its moment has come
 abbrev pub completion_events : Cluster → Member → List Event
 completion_events cluster member =
-    for_some (slice_get cluster.facts.servers member.id.number) (λ s. events_of cluster (completion_kinds cluster.facts.clock member cluster.facts.acknowledged s))
+    for_some (slice_get cluster.facts.servers member.id.number)
+    (λ s. events_of cluster (completion_kinds cluster.facts.clock member cluster.facts.acknowledged s))
 
--- the clock grows by one, with which starts and stops of servers that don't write are complete, and what has expired is dropped; the machines whose
--- watchdogs are due are reset; what expired is told; and starts and stops of primaries are complete. Each in script order
+-- the clock grows by one, with which starts and stops of servers that don't write are
+-- complete, and what has expired is dropped; the machines whose watchdogs are due are reset;
+-- what expired is told; and starts and stops of primaries are complete. Each in script order
 abbrev pub tick_events : Cluster → List Event
 tick_events cluster =
     events_then cluster (event_of cluster kinds.Tick) (λ ticked.

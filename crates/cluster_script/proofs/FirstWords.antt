@@ -11,5 +11,6 @@ known Cluster = refl
 known _ = refl
 
 -- bytes that are all those of a first word
-pub keyword-is : (keyword : Keyword) (word : List ℕ) → length word ≡ length (word_of keyword) → HasBytesAt word 0 (word_of keyword) → Some keyword ≡ keyword_of word
+pub keyword-is : (keyword : Keyword) (word : List ℕ) → length word ≡ length (word_of keyword)
+    → HasBytesAt word 0 (word_of keyword) → Some keyword ≡ keyword_of word
 keyword-is keyword word len bytes = rw (text_from_reads word (word_of keyword) len bytes) (known keyword)

@@ -10,7 +10,8 @@ use Rattle.lease_store.specs.Kept.{AreOfKind}
 use Rattle.lease_store.proofs.InOrder.{is_sorted-in_key_order, kinds-in_key_order, find-in_key_order}
 use Rattle.cluster_view.specs.Snapshots.{IsRead}
 
-pub read-in_key_order : (entries : List (Key × KeyEntry)) → AreOfKind entries → IsSome (find key_cmp keys.Config entries) → IsRead (in_key_order entries)
+pub read-in_key_order : (entries : List (Key × KeyEntry)) → AreOfKind entries
+    → IsSome (find key_cmp keys.Config entries) → IsRead (in_key_order entries)
 read-in_key_order entries kinds config = record {
   order = is_sorted-in_key_order entries;
   kinds = kinds-in_key_order entries kinds;

@@ -14,8 +14,8 @@ use Rattle.lease_store.specs.Kept.{AreOfKind}
 use Rattle.lease_store.specs.KeyOrder.{key_cmp}
 use Rattle.cluster_view.specs.declared.snapshot.LeaderEntry.{LeaderEntry}
 
--- the cluster's name, the names and hosts of all members in the order of the script, and the keys that were present, with their
--- values and revisions
+-- the cluster's name, the names and hosts of all members in the order of the
+-- script, and the keys that were present, with their values and revisions
 pub record SnapshotFacts : Type 0 where
   pub scope : Name
   pub members : List (Name × Host)

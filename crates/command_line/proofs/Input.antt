@@ -21,7 +21,8 @@ too-long waited bytes long =
 -- one byte more than a script may have passes the limit that all bytes pass
 pub limit_of-take : (waited : ℕ) (all : List ℕ) → limit_of waited (take most_read all) ≡ limit_of waited all
 limit_of-take waited all = elim (cases_lt most_bytes (length all)) [
-  | inl long ↦ too-long waited (take most_read all) (omega (arith, length-take most_read all)) ∙ sym (too-long waited all long)
+  | inl long ↦
+      too-long waited (take most_read all) (omega (arith, length-take most_read all)) ∙ sym (too-long waited all long)
   | inr short ↦ ap (limit_of waited) (take_all most_read all (omega (arith, short)))
 ]
 
@@ -32,20 +33,25 @@ too-long-limits waited bytes long none = clash (sym (too-long waited bytes long)
     clash e = cc
 
 -- where no limit is passed, all bytes were read
-pub reads-all : (waited : ℕ) (all : List ℕ) → limit_of waited (take most_read all) ≡ None → (take most_read all ≡ all) × (drop most_read all ≡ [])
+pub reads-all : (waited : ℕ) (all : List ℕ) → limit_of waited (take most_read all) ≡ None
+    → (take most_read all ≡ all) × (drop most_read all ≡ [])
 reads-all waited all none = elim (cases_lt most_bytes (length all)) [
   | inl long ↦ absurd (too-long-limits waited (take most_read all) (omega (arith, length-take most_read all)) none)
   | inr short ↦ (take_all most_read all (omega (arith, short)), drop_all most_read all (omega (arith, short)))
 ]
 
-refuses-front : (waited : ℕ) (ending : Ending) (all : List ℕ) → Refuses waited ending (take most_read all) → Refuses waited ending all
-refuses-front waited (endings.NotScript line fault) all h = subst (λ (bytes : List ℕ). Refuses waited (endings.NotScript line fault) bytes) (reads-all waited all h.0).0 h
+refuses-front : (waited : ℕ) (ending : Ending) (all : List ℕ) → Refuses waited ending (take most_read all)
+    → Refuses waited ending all
+refuses-front waited (endings.NotScript line fault) all h =
+    subst (λ (bytes : List ℕ). Refuses waited (endings.NotScript line fault) bytes) (reads-all waited all h.0).0 h
 refuses-front waited (endings.Limit limit) all h = sym (limit_of-take waited all) ∙ h
 refuses-front waited _ all h = tt
 
 -- an ending that refuses those read refuses all
-pub Refuses-all : (waited : ℕ) (ending : Ending) (read all : List ℕ) → read ≡ take most_read all → Refuses waited ending read → Refuses waited ending all
-Refuses-all waited ending read all is h = refuses-front waited ending all (subst (λ (bytes : List ℕ). Refuses waited ending bytes) is h)
+pub Refuses-all : (waited : ℕ) (ending : Ending) (read all : List ℕ) → read ≡ take most_read all
+    → Refuses waited ending read → Refuses waited ending all
+Refuses-all waited ending read all is h =
+    refuses-front waited ending all (subst (λ (bytes : List ℕ). Refuses waited ending bytes) is h)
 
 saturates : (ticks n : ℕ) → nat_lt most_ticks (ticks + min n (2 ^ 64 - 1)) ≡ nat_lt most_ticks (ticks + n)
 saturates ticks n = elim (cases_lt (2 ^ 64 - 1) n) [
@@ -61,7 +67,9 @@ module _ (n waited : ℕ) (counted : waited ≡ min n (2 ^ 64 - 1)) where
   pub saturated : (bytes : List ℕ) → limit_of waited bytes ≡ limit_of n bytes
   saturated bytes = ap (λ (m : ℕ). limit_of m bytes) counted ∙ rw (saturates (ticks_in (lines_in bytes)) n) refl
 
-  pub read-counted : (script : ScriptText) (bytes : List ℕ) → (limit_of waited bytes ≡ None) × (script_of bytes ≡ Ok script) → (limit_of n bytes ≡ None) × (script_of bytes ≡ Ok script)
+  pub read-counted : (script : ScriptText) (bytes : List ℕ)
+      → (limit_of waited bytes ≡ None) × (script_of bytes ≡ Ok script)
+      → (limit_of n bytes ≡ None) × (script_of bytes ≡ Ok script)
   read-counted script bytes read = (sym (saturated bytes) ∙ read.0, read.1)
 
   pub refuses-counted : (ending : Ending) (bytes : List ℕ) → Refuses waited ending bytes → Refuses n ending bytes

@@ -14,7 +14,8 @@ use Rattle.command_line.specs.Members.{is_named, member_named}
 abbrev pub named_from : List ℕ → List MemberText → ℕ → Option MemberId
 named_from name members place = option_and_then member_of (position_from (is_named name) place (drop place members))
 
-rest-from : (members : List MemberText) (place : ℕ) (member : MemberText) → slice_get members place ≡ Some member → drop place members ≡ member ∷ drop (suc place) members
+rest-from : (members : List MemberText) (place : ℕ) (member : MemberText)
+    → slice_get members place ≡ Some member → drop place members ≡ member ∷ drop (suc place) members
 rest-from [] place member is = cc
 rest-from (first ∷ members) zero member is = ap (λ (m : MemberText). m ∷ members) (same is)
   where
@@ -28,19 +29,26 @@ named-all name head = ap (option_and_then member_of) (sym (position_from-zero (i
 
 -- whether the member at this place has the name
 abbrev pub TellsName : List ℕ → List MemberText → ℕ → Bool → Type 0
-TellsName name members place told = (member : MemberText) → slice_get members place ≡ Some member → told ≡ is_named name member
+TellsName name members place told =
+    (member : MemberText) → slice_get members place ≡ Some member → told ≡ is_named name member
 
 -- it is the one at the place, where that has the name
-pub named-here : (name : List ℕ) (members : List MemberText) (place : ℕ) (told : Bool) → place < length members → TellsName name members place told → told ≡ true → named_from name members place ≡ member_of place
+pub named-here : (name : List ℕ) (members : List MemberText) (place : ℕ) (told : Bool) → place < length members
+    → TellsName name members place told → told ≡ true → named_from name members place ≡ member_of place
 named-here name members place told within tells named = elim ((slice_get_cases members place).1) [
   | inl (member, inside, is, same) ↦ rw (rest-from members place member is, sym (tells member is) ∙ named) refl
   | inr (past, none) ↦ absurd (omega (arith, past, within))
 ]
 
 -- and else one behind it
-pub named-behind : (name : List ℕ) (members : List MemberText) (place : ℕ) (told : Bool) → place < length members → TellsName name members place told → told ≡ false → named_from name members place ≡ named_from name members (place + 1)
+pub named-behind : (name : List ℕ) (members : List MemberText) (place : ℕ) (told : Bool)
+    → place < length members → TellsName name members place told → told ≡ false
+    → named_from name members place ≡ named_from name members (place + 1)
 named-behind name members place told within tells other = elim ((slice_get_cases members place).1) [
-  | inl (member, inside, is, same) ↦ ap (λ (l : List MemberText). option_and_then member_of (position_from (is_named name) place l)) (rest-from members place member is ∙ ap (λ (n : ℕ). member ∷ drop n members) next) ∙ rw (sym (tells member is) ∙ other) refl
+  | inl (member, inside, is, same) ↦
+      ap (λ (l : List MemberText). option_and_then member_of (position_from (is_named name) place l))
+      (rest-from members place member is ∙ ap (λ (n : ℕ). member ∷ drop n members) next)
+      ∙ rw (sym (tells member is) ∙ other) refl
   | inr (past, none) ↦ absurd (omega (arith, past, within))
 ]
   where
@@ -48,9 +56,13 @@ named-behind name members place told within tells other = elim ((slice_get_cases
     next = omega arith
 
 -- past the end there is none
-pub named-past : (name : List ℕ) (members : List MemberText) (place : ℕ) → length members ≤ place → named_from name members place ≡ None
-named-past name members place past = ap (λ (l : List MemberText). option_and_then member_of (position_from (is_named name) place l)) (drop_all place members past)
+pub named-past : (name : List ℕ) (members : List MemberText) (place : ℕ) → length members ≤ place
+    → named_from name members place ≡ None
+named-past name members place past =
+    ap (λ (l : List MemberText). option_and_then member_of (position_from (is_named name) place l))
+    (drop_all place members past)
 
 -- what was found by the name in a head that is this one
-pub found-in : (head shown : HeadText) (name : List ℕ) (found same : Option MemberId) → shown ≡ head → found ≡ member_named shown name → found ≡ same → member_named head name ≡ same
+pub found-in : (head shown : HeadText) (name : List ℕ) (found same : Option MemberId) → shown ≡ head
+    → found ≡ member_named shown name → found ≡ same → member_named head name ≡ same
 found-in head shown name found same is so e = ap (λ (h : HeadText). member_named h name) (sym is) ∙ (sym so ∙ e)

@@ -5,8 +5,9 @@ use Rattle.script_words.specs.Numbers.{number}
 use Rattle.command_line.specs.declared.order.Order.{Order}
 use Rattle.command_line.specs.declared.order.Order.TheVariants as orders
 
--- a command: to play the script of the input, and for the second, to serve so many connections at an address by the agent of a member then; to
--- print that script as it is spelled canonically; to make a script of a number with so many lines that are drawn, and for the last, to play it
+-- a command: to play the script of the input, and for the second, to serve so many connections at
+-- an address by the agent of a member then; to print that script as it is spelled canonically; to
+-- make a script of a number with so many lines that are drawn, and for the last, to play it
 pub data Command : Type 0 where
   Run : Command
   Serve : (member : List ℕ) → (address : List ℕ) → (count : ℕ) → Command
@@ -24,16 +25,19 @@ order_command (orders.Drill seed count) = Drill seed count
 
 -- what one word asks for
 abbrev pub command_in : List ℕ → Option Command
-command_in word = if bytes_eq word (codes "run") then Some Run else if bytes_eq word (codes "print") then Some Print else None
+command_in word =
+    if bytes_eq word (codes "run") then Some Run else if bytes_eq word (codes "print") then Some Print else None
 
 -- what a word and two numbers ask for
 abbrev pub making_in : List ℕ → Option ℕ → Option ℕ → Option Command
-making_in word (Some seed) (Some count) = if bytes_eq word (codes "gen") then Some (Generate seed count) else if bytes_eq word (codes "drill") then Some (Drill seed count) else None
+making_in word (Some seed) (Some count) = if bytes_eq word (codes "gen") then Some (Generate seed count)
+    else if bytes_eq word (codes "drill") then Some (Drill seed count) else None
 making_in word _ _ = None
 
 -- what a word, a member, an address and a number ask for
 abbrev pub service_in : List ℕ → List ℕ → List ℕ → Option ℕ → Option Command
-service_in word member address (Some count) = if bytes_eq word (codes "serve") then Some (Serve member address count) else None
+service_in word member address (Some count) =
+    if bytes_eq word (codes "serve") then Some (Serve member address count) else None
 service_in word member address None = None
 
 -- what the words of a command line ask for, if they are a command

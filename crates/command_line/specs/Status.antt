@@ -47,7 +47,8 @@ status_of endings.PastCount = statuses.Limit
 
 -- an ending refuses bytes that are to be a script for what they are, where so many ticks come beside those of its lines
 abbrev pub Refuses : ℕ → Ending → List ℕ → Type 0
-Refuses waited (endings.NotScript line fault) bytes = (limit_of waited bytes ≡ None) × (script_of bytes ≡ Err (line, fault))
+Refuses waited (endings.NotScript line fault) bytes =
+    (limit_of waited bytes ≡ None) × (script_of bytes ≡ Err (line, fault))
 Refuses waited (endings.Limit limit) bytes = limit_of waited bytes ≡ Some limit
 Refuses waited _ bytes = Unit {0}
 
@@ -95,7 +96,8 @@ abbrev pub message_of : Ending → List ℕ
 message_of endings.Done = []
 message_of (endings.NotScript line fault) = fault_line line fault
 message_of endings.UnknownMember = codes "serve: unknown member\n"
-message_of endings.Usage = codes "usage: patroni_sim run | serve MEMBER ADDRESS COUNT | print | gen SEED COUNT | drill SEED COUNT\n"
+message_of endings.Usage =
+    codes "usage: patroni_sim run | serve MEMBER ADDRESS COUNT | print | gen SEED COUNT | drill SEED COUNT\n"
 message_of endings.ReadFault = codes "read fault\n"
 message_of endings.WriteFault = codes "write fault\n"
 message_of endings.Memory = codes "out of memory\n"

@@ -10,10 +10,12 @@ use Rattle.pg_model.specs.Facts.{entries_of}
 use Rattle.commit_actions.specs.States.{Agent, Machine, State, Reaches, HasLog, HasEntryOf, Acts, is_ready}
 use Rattle.commit_actions.specs.Inputs.{Sending, AgentInput, IsLawful, IsGivenByLease}
 
--- what happens at one go: each but an input of an agent is one event of the cluster, or one decision of the key store with its answer
+-- what happens at one go: each but an input of an agent is one event
+-- of the cluster, or one decision of the key store with its answer
 pub data Action : Type 0 where
-  -- a commit stands at the end of a server's log; a commit is acknowledged, where the log up to it is this front; a standby receives
-  -- so many entries; what it received is confirmed to its upstream; it is rewound to where the logs fork; it is copied; a log is wiped
+  -- a commit stands at the end of a server's log; a commit is acknowledged, where the log up
+  -- to it is this front; a standby receives so many entries; what it received is confirmed
+  -- to its upstream; it is rewound to where the logs fork; it is copied; a log is wiped
   Commit : (m : ℕ) → (entry : Entry) → Action
   Acknowledge : (m : ℕ) → (front : List Entry) → (commit : ℕ) → Action
   Receive : (m from number : ℕ) → Action
@@ -25,9 +27,9 @@ pub data Action : Type 0 where
   Accept : (m : ℕ) → Action
   Cease : (m : ℕ) → Action
   End : (m : ℕ) → Action
-  -- the key store: a create that compares no sync key is granted; a renewal is, which may carry a set for the failsafe key; the
-  -- leader key expires; it is released; another key is written; a snapshot is sent; a request that compares the sync key is
-  -- decided on; a message is lost
+  -- the key store: a create that compares no sync key is granted; a renewal is, which may carry
+  -- a set for the failsafe key; the leader key expires; it is released; another key is written;
+  -- a snapshot is sent; a request that compares the sync key is decided on; a message is lost
   Create : (m incarnation sequence number : ℕ) → Action
   Renew : (m incarnation sequence number : ℕ) → (carries : Bool) → Action
   Expire : Action
@@ -91,11 +93,17 @@ is_granted leader sync request = is_leader_as_read leader request.aim request.le
 abbrev pub sync_key_by : ℕ → ℕ → Aim → SyncKey
 sync_key_by m r ClaimSync = record { leader = m; standbys = λ n. false; quorum = strict_quorum; revision = r }
 sync_key_by m r CreateLeader = record { leader = m; standbys = λ n. false; quorum = strict_quorum; revision = r }
-sync_key_by m r (PublishStandbys standbys quorum) = record { leader = m; standbys = standbys; quorum = quorum; revision = r }
+sync_key_by m r (PublishStandbys standbys quorum) =
+    record { leader = m; standbys = standbys; quorum = quorum; revision = r }
 
 -- the grant of such a request
 abbrev pub sync_grant_by : ℕ → SyncRequest → SyncGrant
-sync_grant_by r request = record { member = request.member; incarnation = request.incarnation; sequence = request.sequence; key = sync_key_by request.member r request.aim }
+sync_grant_by r request = record {
+  member = request.member;
+  incarnation = request.incarnation;
+  sequence = request.sequence;
+  key = sync_key_by request.member r request.aim;
+}
 
 -- a request writes the sync key, and its grant is sent
 abbrev pub with_sync_grant : State → ℕ → ℕ → SyncRequest → State
@@ -107,7 +115,8 @@ with_sync_grant s i j request = record s {
 
 -- the grant of a create or a renewal under the next revision
 abbrev pub lease_grant_by : State → ℕ → ℕ → ℕ → LeaseGrant
-lease_grant_by s m incarnation sequence = record { member = m; incarnation = incarnation; sequence = sequence; revision = s.revision + 1; sync = s.sync }
+lease_grant_by s m incarnation sequence =
+    record { member = m; incarnation = incarnation; sequence = sequence; revision = s.revision + 1; sync = s.sync }
 
 -- a request creates the leader key, and its grant is sent
 abbrev pub with_leader_created : State → ℕ → ℕ → SyncRequest → State
@@ -116,7 +125,8 @@ with_leader_created s i j request = record s {
   holder = request.member;
   holder_was_live = false;
   revision = s.revision + 1;
-  flight = put_at (put_at s.flight i None) j (Some (LeaseGranted (lease_grant_by s request.member request.incarnation request.sequence)));
+  flight = put_at (put_at s.flight i None) j
+      (Some (LeaseGranted (lease_grant_by s request.member request.incarnation request.sequence)));
 }
 
 -- a request is granted
@@ -141,7 +151,17 @@ failsafe_revision_if false r before = before
 
 -- an agent at the beginning of an incarnation
 abbrev pub fresh_agent : ℕ → Agent
-fresh_agent incarnation = record { incarnation = incarnation; last = 0; waits = None; turn = None; race = None; won = false; ready = false; leads = false; noted = 0 }
+fresh_agent incarnation = record {
+  incarnation = incarnation;
+  last = 0;
+  waits = None;
+  turn = None;
+  race = None;
+  won = false;
+  ready = false;
+  leads = false;
+  noted = 0;
+}
 
 -- the messages in flight with what an input sends, if anything
 abbrev pub send : Option Sending → (ℕ → Option Flying) → ℕ → Option Flying
@@ -155,36 +175,73 @@ machine_after x input = record x { live = input.live; required = input.required;
 -- the state after an action
 abbrev pub act : State → Action → State
 act s (Commit m entry) = with_log s m (Some (entries_of (s.members m).log ++ entry ∷ []))
-act s (Acknowledge m front commit) = record s { acknowledged_log = longer_log s.acknowledged_log front; acknowledged = s.acknowledged ++ commit ∷ [] }
-act s (Receive m from number) = with_log s m (Some (received (entries_of (s.members m).log) (entries_of (s.members from).log) number))
-act s (Confirm m by) = with_machine s m (record (s.members m) { confirmed = put_at (s.members m).confirmed by (Some (end_of (entries_of (s.members by).log))) })
+act s (Acknowledge m front commit) =
+    record s { acknowledged_log = longer_log s.acknowledged_log front; acknowledged = s.acknowledged ++ commit ∷ [] }
+act s (Receive m from number) =
+    with_log s m (Some (received (entries_of (s.members m).log) (entries_of (s.members from).log) number))
+act s (Confirm m by) = with_machine s m
+    (record (s.members m) {
+      confirmed =
+          put_at (s.members m).confirmed by (Some (end_of (entries_of (s.members by).log)));
+    })
 act s (Rewind m from) = with_log s m (Some (common_of (entries_of (s.members m).log) (entries_of (s.members from).log)))
 act s (Clone m from) = with_log s m (s.members from).log
 act s (Wipe m) = with_log s m None
 act s (Accept m) = with_machine s m (record (s.members m) { writes = true; confirmed = λ n. None })
 act s (Cease m) = with_machine s m (record (s.members m) { writes = false })
 act s (End m) = with_machine s m (record (s.members m) { live = false; writes = false })
-act s (Create m incarnation sequence number) = record s { leader = Some (s.revision + 1); holder = m; holder_was_live = false; revision = s.revision + 1; flight = put_at s.flight number (Some (LeaseGranted (lease_grant_by s m incarnation sequence))) }
-act s (Renew m incarnation sequence number carries) = record s { leader = Some (s.revision + 1); failsafe_revision = failsafe_revision_if carries (s.revision + 1) s.failsafe_revision; revision = s.revision + 1; flight = put_at s.flight number (Some (LeaseGranted (lease_grant_by s m incarnation sequence))) }
+act s (Create m incarnation sequence number) = record s {
+  leader = Some (s.revision + 1);
+  holder = m;
+  holder_was_live = false;
+  revision = s.revision + 1;
+  flight = put_at s.flight number (Some (LeaseGranted (lease_grant_by s m incarnation sequence)));
+}
+act s (Renew m incarnation sequence number carries) = record s {
+  leader = Some (s.revision + 1);
+  failsafe_revision = failsafe_revision_if carries (s.revision + 1) s.failsafe_revision;
+  revision = s.revision + 1;
+  flight = put_at s.flight number (Some (LeaseGranted (lease_grant_by s m incarnation sequence)));
+}
 act s Expire = record s { leader = None; holder = 0 }
 act s Release = record s { leader = None; holder = 0; revision = s.revision + 1 }
 act s OtherWrite = record s { revision = s.revision + 1 }
-act s (SendSnapshot keyless leaderless number) = record s { flight = put_at s.flight number (Some (SnapshotSent (record { sync = s.sync; keyless = keyless; leaderless = leaderless; failsafe_revision = s.failsafe_revision }))) }
+act s (SendSnapshot keyless leaderless number) = record s {
+  flight = put_at s.flight number (Some (SnapshotSent (record {
+    sync = s.sync;
+    keyless = keyless;
+    leaderless = leaderless;
+    failsafe_revision = s.failsafe_revision;
+  })));
+}
 act s (Decide number answer) = decide_at s number answer (s.flight number)
 act s (Lose number) = record s { flight = put_at s.flight number None }
-act s (AnswerRace by m incarnation sequence number) = record s { flight = put_at s.flight number (Some (RaceAnswered (record { member = m; incarnation = incarnation; sequence = sequence; by = by; end = end_of (entries_of (s.members by).log) }))) }
-act s (Start m) = with_machine s m (record (s.members m) { agent = Some (fresh_agent ((s.members m).runs + 1)); runs = (s.members m).runs + 1 })
+act s (AnswerRace by m incarnation sequence number) = record s {
+  flight = put_at s.flight number (Some (RaceAnswered (record {
+    member = m;
+    incarnation = incarnation;
+    sequence = sequence;
+    by = by;
+    end = end_of (entries_of (s.members by).log);
+  })));
+}
+act s (Start m) = with_machine s m
+    (record (s.members m) { agent = Some (fresh_agent ((s.members m).runs + 1)); runs = (s.members m).runs + 1 })
 act s (Kill m) = with_machine s m (record (s.members m) { agent = None })
 act s Note = s
-act s (Input m input) = record s { holder_was_live = input.holder_was_live; flight = send input.sends (forget input.heard s.flight); members = put_at s.members m (machine_after (s.members m) input) }
+act s (Input m input) = record s {
+  holder_was_live = input.holder_was_live;
+  flight = send input.sends (forget input.heard s.flight);
+  members = put_at s.members m (machine_after (s.members m) input);
+}
 
 -- an incarnation and a number that this machine's agents gave before
 pub record IsNumbered (x : Machine) (incarnation sequence : ℕ) : Type 0 where
   pub run_old : incarnation ≤ x.runs
   pub sequence_old : (agent : Agent) → x.agent ≡ Some agent → agent.incarnation ≡ incarnation → sequence ≤ agent.last
 
--- a server that isn't live copies from one that accepts writes: else a log that has what was acknowledged is cut to one that lacks
--- it
+-- a server that isn't live copies from one that accepts writes: else a
+-- log that has what was acknowledged is cut to one that lacks it
 pub record CopiesFrom (s : State) (m from : ℕ) : Type 0 where
   pub mine : List Entry
   pub mine_is : (s.members m).log ≡ Some mine
@@ -221,8 +278,8 @@ pub record MayAcknowledge (s : State) (m : ℕ) (front : List Entry) (commit : �
   pub entry : HasEntryOf commit front
   pub met : Meets s.member_count (s.members m).required (λ n. Reaches (end_of front) ((s.members m).confirmed n))
 
--- where creations compare the sync key: a renewal is granted of a leader key that is there, and one that carries a set was asked
--- for by a holder that was live
+-- where creations compare the sync key: a renewal is granted of a leader key that
+-- is there, and one that carries a set was asked for by a holder that was live
 pub record MayRenew (s : State) (carries : Bool) : Type 0 where
   pub leader : s.creates_compare ≡ true → (r : ℕ) × (s.leader ≡ Some r)
   pub holder_was_live : s.creates_compare ≡ true → carries ≡ true → s.holder_was_live ≡ true
@@ -237,10 +294,14 @@ IsAllowed s (Rewind m from) = CopiesFrom s m from
 IsAllowed s (Clone m from) = MayClone s m from
 IsAllowed s (Wipe m) = (s.members m).live ≡ false
 IsAllowed s (Accept m) = (s.members m).live ≡ true
-IsAllowed s (Create m incarnation sequence number) = IsNumbered (s.members m) incarnation sequence × (s.creates_compare ≡ false)
-IsAllowed s (Renew m incarnation sequence number carries) = IsNumbered (s.members m) incarnation sequence × MayRenew s carries
-IsAllowed s (SendSnapshot keyless leaderless number) = (keyless ≡ true → (n : ℕ) → Acts (s.members n) → ⊥) × (leaderless ≡ true → (s.leader ≡ None) × ((n : ℕ) → is_ready (s.members n).agent ≡ true → ⊥))
-IsAllowed s (AnswerRace by m incarnation sequence number) = HasLog (s.members by).log × IsNumbered (s.members m) incarnation sequence
+IsAllowed s (Create m incarnation sequence number) =
+    IsNumbered (s.members m) incarnation sequence × (s.creates_compare ≡ false)
+IsAllowed s (Renew m incarnation sequence number carries) =
+    IsNumbered (s.members m) incarnation sequence × MayRenew s carries
+IsAllowed s (SendSnapshot keyless leaderless number) = (keyless ≡ true → (n : ℕ) → Acts (s.members n) → ⊥)
+    × (leaderless ≡ true → (s.leader ≡ None) × ((n : ℕ) → is_ready (s.members n).agent ≡ true → ⊥))
+IsAllowed s (AnswerRace by m incarnation sequence number) =
+    HasLog (s.members by).log × IsNumbered (s.members m) incarnation sequence
 IsAllowed s (Input m input) = (law : IsLawful s m input) × IsGivenByLease s m input law.was law.does
 IsAllowed s _ = Unit {0}
 
@@ -266,11 +327,20 @@ first_state member_count creates_compare required confirmed logs = record {
   failsafe_revision = None;
   revision = 1;
   flight = λ i. None;
-  members = λ m. record { live = false; writes = false; required = required m; confirmed = confirmed m; log = logs m; agent = Some (fresh_agent 1); runs = 1 };
+  members = λ m. record {
+    live = false;
+    writes = false;
+    required = required m;
+    confirmed = confirmed m;
+    log = logs m;
+    agent = Some (fresh_agent 1);
+    runs = 1;
+  };
   acknowledged_log = [];
   acknowledged = [];
 }
 
 -- the first state of servers with these logs, whose commits wait for nobody
 abbrev pub start_with : Bool → ℕ → (ℕ → List Entry) → State
-start_with creates_compare member_count logs = first_state member_count creates_compare (λ m. Nobody) (λ m n. None) (λ m. Some (logs m))
+start_with creates_compare member_count logs =
+    first_state member_count creates_compare (λ m. Nobody) (λ m n. None) (λ m. Some (logs m))

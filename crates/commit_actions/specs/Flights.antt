@@ -2,15 +2,16 @@
 use Rattle.std.specs.Prelude.{ℕ, Bool, Option}
 use Rattle.commit_actions.specs.Keys.{SyncKey}
 
--- what a request that compares the sync key is for: to become the leader in the sync key, without a standby; to create the leader
--- key; to name the standbys, and how many of them may lack an acknowledged commit
+-- what a request that compares the sync key is for: to become the leader in the sync key, without a standby;
+-- to create the leader key; to name the standbys, and how many of them may lack an acknowledged commit
 pub data Aim : Type 0 where
   ClaimSync : Aim
   CreateLeader : Aim
   PublishStandbys : (standbys : ℕ → Bool) → (quorum : ℕ) → Aim
 
--- a request that compares the sync key: its sender, the sender's incarnation, its number in that one, the revision of the leader key that it
--- compares, that of the sync key or its absence, and what it is for. One that creates the leader key compares its absence
+-- a request that compares the sync key: its sender, the sender's incarnation, its number
+-- in that one, the revision of the leader key that it compares, that of the sync key or
+-- its absence, and what it is for. One that creates the leader key compares its absence
 pub record SyncRequest : Type 0 where
   pub member : ℕ
   pub incarnation : ℕ
@@ -42,8 +43,8 @@ pub record RaceAnswer : Type 0 where
   pub by : ℕ
   pub end : ℕ
 
--- a snapshot: its sync key; whether there was neither a leader key nor a failsafe key, so that nobody acted; whether there was no
--- leader key; and the revision of its failsafe key
+-- a snapshot: its sync key; whether there was neither a leader key nor a failsafe key, so
+-- that nobody acted; whether there was no leader key; and the revision of its failsafe key
 pub record SnapshotView : Type 0 where
   pub sync : Option SyncKey
   pub keyless : Bool

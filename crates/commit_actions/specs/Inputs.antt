@@ -11,9 +11,9 @@ pub record Sending : Type 0 where
   pub number : ℕ
   pub request : SyncRequest
 
--- one input of an agent: the message that it hears, if one; after it the agent, whether its server is live, and whom its commits wait
--- for; the request that it sends, if one that compares the sync key; and whether up to then the holder of the leader key was live
--- when it asked for a renewal that carries a set for the failsafe key
+-- one input of an agent: the message that it hears, if one; after it the agent, whether its server is live, and
+-- whom its commits wait for; the request that it sends, if one that compares the sync key; and whether up to
+-- then the holder of the leader key was live when it asked for a renewal that carries a set for the failsafe key
 pub record AgentInput : Type 0 where
   pub heard : Option ℕ
   pub agent : Agent
@@ -33,8 +33,8 @@ pub record HearsLeaseGrant (s : State) (m : ℕ) (input : AgentInput) (was : Age
   pub heard : input.heard ≡ Some number
   pub is : s.flight number ≡ Some (LeaseGranted grant)
   pub member : grant.member ≡ m
-  -- of this incarnation, and the one that it waits for: the grant of an older renewal shows an older sync key, and a write of the sync key
-  -- that compares a newer leader key may be on its way
+  -- of this incarnation, and the one that it waits for: the grant of an older renewal shows an
+  -- older sync key, and a write of the sync key that compares a newer leader key may be on its way
   pub incarnation : was.incarnation ≡ grant.incarnation
   pub waits : was.waits ≡ Some grant.sequence
 
@@ -55,7 +55,9 @@ pub record HearsSnapshot (s : State) (input : AgentInput) (sync : Option SyncKey
   pub keyless : Bool
   pub leaderless : Bool
   pub failsafe_revision : Option ℕ
-  pub is : s.flight number ≡ Some (SnapshotSent (record { sync = sync; keyless = keyless; leaderless = leaderless; failsafe_revision = failsafe_revision }))
+  pub is : s.flight number
+      ≡ Some (SnapshotSent
+      (record { sync = sync; keyless = keyless; leaderless = leaderless; failsafe_revision = failsafe_revision }))
 
 -- its turn goes on: the snapshot, and what came of the race, unless that is given up
 pub record KeepsTurn (was agent : Agent) : Type 0 where
@@ -72,10 +74,11 @@ pub record BeginsTurn (s : State) (input : AgentInput) : Type 0 where
 -- nobody is live, nor about to be by the grant of the sync key of this revision
 pub record IsUnled (flight : ℕ → Option Flying) (members : ℕ → Machine) (revision : ℕ) : Type 0 where
   pub live : (n : ℕ) → (members n).live ≡ true → ⊥
-  pub pending : (i : ℕ) (a : SyncGrant) → flight i ≡ Some (SyncGranted a) → a.key.revision ≡ revision → Waits (members a.member) a.incarnation a.sequence → Acts (members a.member) → ⊥
+  pub pending : (i : ℕ) (a : SyncGrant) → flight i ≡ Some (SyncGranted a) → a.key.revision ≡ revision
+      → Waits (members a.member) a.incarnation a.sequence → Acts (members a.member) → ⊥
 
--- the sync key that its turn read names this member, so that it wins without a race: there is none, it is the leader, or a standby
--- where no standby may lack an acknowledged commit
+-- the sync key that its turn read names this member, so that it wins without a race: there
+-- is none, it is the leader, or a standby where no standby may lack an acknowledged commit
 abbrev pub WinsByName : Option SyncKey → ℕ → Type 0
 WinsByName None m = Unit {0}
 WinsByName (Some key) m = (key.leader ≡ m) ⊎ ((key.standbys m ≡ true) × (key.quorum ≡ strict_quorum))
@@ -101,7 +104,8 @@ pub record Sends (m : ℕ) (input : AgentInput) (was : Agent) (request : SyncReq
   -- its number is above all before it: else the answer to an older request is taken for its own
   pub later : was.last < request.sequence
   pub counted : request.sequence ≤ input.agent.last
-  -- it waits for this answer and no other: else it hears the grant of a renewal, and shrinks its list, with this write on its way
+  -- it waits for this answer and no other: else it hears the grant of
+  -- a renewal, and shrinks its list, with this write on its way
   pub waits : input.agent.waits ≡ Some request.sequence
 
 -- who accepts writes knows that this member has confirmed this position, since it last began
@@ -118,8 +122,8 @@ pub record Idles (s : State) (m : ℕ) (input : AgentInput) (was : Agent) : Type
 pub data WhyUnled (s : State) (keyless leaderless : Bool) : Type 0 where
   -- there was neither a leader key nor a failsafe key, so nobody acted
   WasKeyless : (is : keyless ≡ true) → WhyUnled s keyless leaderless
-  -- there was no leader key, and creates compare the sync key. Else an old create of a leader that goes on by failsafe brings its key
-  -- back: it commits, and who read the key absent claims without that commit
+  -- there was no leader key, and creates compare the sync key. Else an old create of a leader that goes on
+  -- by failsafe brings its key back: it commits, and who read the key absent claims without that commit
   WasLeaderless : (compares : s.creates_compare ≡ true) → (is : leaderless ≡ true) → WhyUnled s keyless leaderless
 
 -- it asks the others in a race for the leader key
@@ -135,7 +139,8 @@ pub record Races (s : State) (m : ℕ) (input : AgentInput) (was : Agent) : Type
   pub counted : race.sequence ≤ input.agent.last
   pub ends : (n : ℕ) → race.ends n ≡ None
   pub won : input.agent.won ≡ false
-  -- nobody is live while the sync key is as that snapshot shows it: else the answers say where logs ended before a commit
+  -- nobody is live while the sync key is as that snapshot shows it:
+  -- else the answers say where logs ended before a commit
   pub unled : WhyUnled s view.keyless view.leaderless
 
 -- it hears an answer in its race, and keeps where that log ends
@@ -157,7 +162,8 @@ pub record HearsAnswer (s : State) (m : ℕ) (input : AgentInput) (was : Agent) 
   pub race : Race
   pub race_is : input.agent.race ≡ Some race
   pub sequence_same : race.sequence ≡ before.sequence
-  pub ends : (n end : ℕ) → race.ends n ≡ Some end → (before.ends n ≡ Some end) ⊎ ((n ≡ race_answer.by) × (end ≡ race_answer.end))
+  pub ends : (n end : ℕ) → race.ends n ≡ Some end
+      → (before.ends n ≡ Some end) ⊎ ((n ≡ race_answer.by) × (end ≡ race_answer.end))
 
 -- it finds that it won: enough other standbys answered, and none of them ends behind its own log
 pub record WinsRace (s : State) (m : ℕ) (input : AgentInput) (was : Agent) : Type 0 where
@@ -195,7 +201,8 @@ pub record Arms (s : State) (m : ℕ) (input : AgentInput) (was : Agent) : Type 
   pub aim : request.aim ≡ ClaimSync
   -- the claim compares the grant that it hears: else a claim of an older lease is granted under another leader
   pub leader : request.leader ≡ grant.revision
-  -- and the sync key of the turn's snapshot, not of the grant's: between the two another may have led, published and acknowledged
+  -- and the sync key of the turn's snapshot, not of the grant's:
+  -- between the two another may have led, published and acknowledged
   pub sync : request.sync ≡ sync_revision_of was.turn
   pub counts : m < s.member_count
   -- the turn's key names it and no standby may lack a commit, or it won its race in this turn
@@ -211,7 +218,8 @@ pub record CreatesLeader (s : State) (m : ℕ) (input : AgentInput) (was : Agent
   pub sends : Sends m input was request
   pub aim : request.aim ≡ CreateLeader
   pub leader : request.leader ≡ 0
-  -- it compares the sync key that its turn read: then one from before its server went live is refused, since the claim changed that
+  -- it compares the sync key that its turn read: then one from before
+  -- its server went live is refused, since the claim changed that
   pub sync : request.sync ≡ sync_revision_of was.turn
 
 -- it takes over its running server, as one that starts again does
@@ -219,7 +227,8 @@ pub record TakesOver (s : State) (m : ℕ) (input : AgentInput) (was : Agent) : 
   pub keeps : KeepsServer s m input
   pub sends : input.sends ≡ None
   pub ready : input.agent.ready ≡ true → was.ready ≡ true
-  -- commits that were acknowledged before a standby was added may be known to no agent any more: the log's end covers them
+  -- commits that were acknowledged before a standby was added may be
+  -- known to no agent any more: the log's end covers them
   pub noted : input.agent.noted ≡ end_of (entries_of (s.members m).log)
   pub turn : KeepsTurn was input.agent
 
@@ -234,10 +243,13 @@ pub record ChangesRequired (s : State) (m : ℕ) (input : AgentInput) (was : Age
   pub turn : KeepsTurn was input.agent
   pub key : SyncKey
   pub key_is : grant.sync ≡ Some key
-  -- the list covers the standbys of the sync key in that grant's snapshot: else a commit is acknowledged that one of them lacks
+  -- the list covers the standbys of the sync key in that grant's
+  -- snapshot: else a commit is acknowledged that one of them lacks
   pub overlaps : Overlaps s.member_count key.standbys key.quorum input.required
-  -- where it grows, or counts otherwise, the log's end is noted: who joins must first confirm what was acknowledged without it
-  pub notes : (input.agent.noted ≡ end_of (entries_of (s.members m).log)) ⊎ (Narrows (s.members m).required input.required × (input.agent.noted ≡ was.noted))
+  -- where it grows, or counts otherwise, the log's end is noted: who
+  -- joins must first confirm what was acknowledged without it
+  pub notes : (input.agent.noted ≡ end_of (entries_of (s.members m).log))
+      ⊎ (Narrows (s.members m).required input.required × (input.agent.noted ≡ was.noted))
 
 -- a leader publishes standbys in a turn
 pub record Publishes (s : State) (m : ℕ) (input : AgentInput) (was : Agent) : Type 0 where
@@ -265,7 +277,8 @@ pub record Publishes (s : State) (m : ℕ) (input : AgentInput) (was : Agent) : 
   -- new ones are connected, so that their logs haven't diverged from this one: a race compares only where logs end
   pub connected : (n : ℕ) → standbys n ≡ true → (key.standbys n ≡ true) ⊎ HasConfirmed (s.members m) 0 n
   -- new ones have confirmed the noted position, or are counted among those that may lack a commit
-  pub may : MayPublish s.member_count key.standbys key.quorum standbys quorum (s.members m).required (HasConfirmed (s.members m) was.noted)
+  pub may : MayPublish s.member_count key.standbys key.quorum standbys quorum (s.members m).required
+      (HasConfirmed (s.members m) was.noted)
 
 -- it promotes its server, on the granted claim
 pub record Promotes (s : State) (m : ℕ) (input : AgentInput) (was : Agent) : Type 0 where
@@ -294,7 +307,8 @@ pub record SettlesRequired (s : State) (m : ℕ) (input : AgentInput) (was : Age
   -- the list covers the standbys that the granted write published
   pub overlaps : Overlaps s.member_count sync_grant.key.standbys sync_grant.key.quorum input.required
   -- and shrinks, or the log's end is noted
-  pub notes : (input.agent.noted ≡ end_of (entries_of (s.members m).log)) ⊎ (Narrows (s.members m).required input.required × (input.agent.noted ≡ was.noted))
+  pub notes : (input.agent.noted ≡ end_of (entries_of (s.members m).log))
+      ⊎ (Narrows (s.members m).required input.required × (input.agent.noted ≡ was.noted))
 
 -- what an input does
 pub data Does (s : State) (m : ℕ) (input : AgentInput) (was : Agent) : Type 0 where
@@ -310,24 +324,29 @@ pub data Does (s : State) (m : ℕ) (input : AgentInput) (was : Agent) : Type 0 
   Promoting : Promotes s m input was → Does s m input was
   SettlingRequired : SettlesRequired s m input was → Does s m input was
 
--- what the timed lease gives to an agent that arms: the grant that it hears is the present leader key, and nobody else acts
+-- what the timed lease gives to an agent that arms: the grant that it
+-- hears is the present leader key, and nobody else acts
 pub record ArmsAlone (s : State) (m revision : ℕ) : Type 0 where
   pub present : s.leader ≡ Some revision
   pub alone : (n : ℕ) → Acts (s.members n) → n ≡ m
 
--- what it gives to one that asks in a race after a snapshot without a leader key, while its own hold isn't active: whoever is live
--- holds the leader key, where the failsafe key is as that snapshot showed it
+-- what it gives to one that asks in a race after a snapshot without a leader key, while its own hold isn't
+-- active: whoever is live holds the leader key, where the failsafe key is as that snapshot showed it
 abbrev pub OnlyHolderLives : State → Option ℕ → Type 0
-OnlyHolderLives s failsafe_revision = s.failsafe_revision ≡ failsafe_revision → (n : ℕ) → (s.members n).live ≡ true → (r : ℕ) × (s.leader ≡ Some r) × (s.holder ≡ n)
+OnlyHolderLives s failsafe_revision = s.failsafe_revision ≡ failsafe_revision → (n : ℕ)
+    → (s.members n).live ≡ true → (r : ℕ) × (s.leader ≡ Some r) × (s.holder ≡ n)
 
 -- where there was neither key, nothing more is needed
-abbrev pub OnlyHolderLivesIf : (s : State) → (keyless leaderless : Bool) → Option ℕ → WhyUnled s keyless leaderless → Type 0
+abbrev pub OnlyHolderLivesIf : (s : State) → (keyless leaderless : Bool) → Option ℕ
+    → WhyUnled s keyless leaderless → Type 0
 OnlyHolderLivesIf s keyless leaderless failsafe_revision (WasKeyless is) = Unit {0}
-OnlyHolderLivesIf s keyless leaderless failsafe_revision (WasLeaderless compares is) = OnlyHolderLives s failsafe_revision
+OnlyHolderLivesIf s keyless leaderless failsafe_revision (WasLeaderless compares is) =
+    OnlyHolderLives s failsafe_revision
 
 -- what the timed lease gives to an input
 abbrev pub IsGivenByLease : (s : State) (m : ℕ) (input : AgentInput) (was : Agent) → Does s m input was → Type 0
-IsGivenByLease s m input was (Racing races) = OnlyHolderLivesIf s races.view.keyless races.view.leaderless races.view.failsafe_revision races.unled
+IsGivenByLease s m input was (Racing races) =
+    OnlyHolderLivesIf s races.view.keyless races.view.leaderless races.view.failsafe_revision races.unled
 IsGivenByLease s m input was (Arming arms) = ArmsAlone s m arms.grant.revision
 IsGivenByLease s m input was _ = Unit {0}
 
@@ -340,8 +359,8 @@ pub record HolderCarries (s : State) (m : ℕ) (input : AgentInput) : Type 0 whe
 
 -- what an agent owes at an input
 pub record IsLawful (s : State) (m : ℕ) (input : AgentInput) : Type 0 where
-  -- the agent runs, and goes on in its incarnation; the numbers of its requests don't fall, and what it waits for it waited for before, or
-  -- asked in this input
+  -- the agent runs, and goes on in its incarnation; the numbers of its requests
+  -- don't fall, and what it waits for it waited for before, or asked in this input
   pub was : Agent
   pub was_is : (s.members m).agent ≡ Some was
   pub incarnation : input.agent.incarnation ≡ was.incarnation

@@ -52,19 +52,41 @@ pub data Query : Type 0 where
 
 -- the requests that compare the sync key, by their member, its incarnation and its number
 abbrev pub claim_request : ℕ → ℕ → ℕ → ℕ → Expected → SyncRequest
-claim_request member incarnation sequence revision sync = record { member = member; incarnation = incarnation; sequence = sequence; leader = revision; sync = revision_in sync; aim = ClaimSync }
+claim_request member incarnation sequence revision sync = record {
+  member = member;
+  incarnation = incarnation;
+  sequence = sequence;
+  leader = revision;
+  sync = revision_in sync;
+  aim = ClaimSync;
+}
 
 -- what a write of the sync key that publishes these standbys aims at
 abbrev pub published_aim : ℕ → Expected → MemberSet → Aim
-published_aim revision sync standbys = PublishStandbys (set_members standbys) (quorum_written (txns.SetSync revision sync standbys))
+published_aim revision sync standbys =
+    PublishStandbys (set_members standbys) (quorum_written (txns.SetSync revision sync standbys))
 
 -- such a write
 abbrev pub publish_request : ℕ → ℕ → ℕ → ℕ → Expected → MemberSet → SyncRequest
-publish_request member incarnation sequence revision sync standbys = record { member = member; incarnation = incarnation; sequence = sequence; leader = revision; sync = revision_in sync; aim = published_aim revision sync standbys }
+publish_request member incarnation sequence revision sync standbys = record {
+  member = member;
+  incarnation = incarnation;
+  sequence = sequence;
+  leader = revision;
+  sync = revision_in sync;
+  aim = published_aim revision sync standbys;
+}
 
 -- a create that compares the sync key
 abbrev pub create_request : ℕ → ℕ → ℕ → Expected → SyncRequest
-create_request member incarnation sequence sync = record { member = member; incarnation = incarnation; sequence = sequence; leader = 0; sync = revision_in sync; aim = CreateLeader }
+create_request member incarnation sequence sync = record {
+  member = member;
+  incarnation = incarnation;
+  sequence = sequence;
+  leader = 0;
+  sync = revision_in sync;
+  aim = CreateLeader;
+}
 
 -- a create, which may compare the sync key
 abbrev pub create_query : ℕ → ℕ → ℕ → Option Expected → Query
@@ -78,10 +100,14 @@ renew_query member revision (Some members) = CarryQuery member revision
 
 -- what commits read of a transaction
 abbrev pub query_of : ℕ → ℕ → ℕ → Txn → Query
-query_of member incarnation sequence (txns.Create info ttl failsafe sync) = create_query member incarnation sequence sync
-query_of member incarnation sequence (txns.Renew revision info ttl status row failsafe) = renew_query member revision failsafe
-query_of member incarnation sequence (txns.Claim revision sync) = SyncQuery (claim_request member incarnation sequence revision sync)
-query_of member incarnation sequence (txns.SetSync revision sync standbys) = SyncQuery (publish_request member incarnation sequence revision sync standbys)
+query_of member incarnation sequence (txns.Create info ttl failsafe sync) =
+    create_query member incarnation sequence sync
+query_of member incarnation sequence (txns.Renew revision info ttl status row failsafe) =
+    renew_query member revision failsafe
+query_of member incarnation sequence (txns.Claim revision sync) =
+    SyncQuery (claim_request member incarnation sequence revision sync)
+query_of member incarnation sequence (txns.SetSync revision sync standbys) =
+    SyncQuery (publish_request member incarnation sequence revision sync standbys)
 query_of member incarnation sequence _ = OtherQuery
 
 -- what a book determines
@@ -110,13 +136,15 @@ pub record Past : Type 0 where
 -- the sync key after a granted transaction of this member, under this revision
 abbrev pub sync_after_grant : ℕ → ℕ → Option SyncKey → Txn → Option SyncKey
 sync_after_grant by revision sync (txns.Claim leader expected) = Some (sync_key_by by revision ClaimSync)
-sync_after_grant by revision sync (txns.SetSync leader expected standbys) = Some (sync_key_by by revision (published_aim leader expected standbys))
+sync_after_grant by revision sync (txns.SetSync leader expected standbys) =
+    Some (sync_key_by by revision (published_aim leader expected standbys))
 sync_after_grant by revision sync (txns.DropSync leader expected) = None
 sync_after_grant by revision sync _ = sync
 
 -- the sync key after an event
 abbrev pub sync_after : ℕ → Option SyncKey → EventKind → Option SyncKey
-sync_after revision sync (kinds.Store (stores.Granted number by txn standbys)) = sync_after_grant by.id.number (revision + 1) sync txn
+sync_after revision sync (kinds.Store (stores.Granted number by txn standbys)) =
+    sync_after_grant by.id.number (revision + 1) sync txn
 sync_after revision sync _ = sync
 
 -- there is neither a leader key nor a failsafe key
@@ -146,12 +174,15 @@ failsafe_revision_of (Some key) = Some key.revision
 
 -- the holder of the leader key asks for a renewal that carries a set for the failsafe key; a create begins anew
 abbrev pub was_live_by_txn : Bool → Option LeaderKey → ℕ → Txn → Bool
-was_live_by_txn holder_was_live leader m (txns.Renew revision info ttl status row (Some members)) = holder_was_live || is_holder leader m
+was_live_by_txn holder_was_live leader m (txns.Renew revision info ttl status row (Some members)) =
+    holder_was_live || is_holder leader m
 was_live_by_txn holder_was_live leader m _ = holder_was_live
 
--- the holder of the leader key was live, behind a message that is sent: only a request of a member can be a renewal that carries a set
+-- the holder of the leader key was live, behind a message that is
+-- sent: only a request of a member can be a renewal that carries a set
 abbrev pub was_live_by_message : Bool → Option LeaderKey → LinkEnd → Body → Bool
-was_live_by_message holder_was_live leader (ends.Member member) (bodies.Request txn) = was_live_by_txn holder_was_live leader member.id.number txn
+was_live_by_message holder_was_live leader (ends.Member member) (bodies.Request txn) =
+    was_live_by_txn holder_was_live leader member.id.number txn
 was_live_by_message holder_was_live leader _ _ = holder_was_live
 
 -- a create that is granted begins anew; any other grant changes nothing
@@ -161,39 +192,58 @@ was_live_by_grant holder_was_live _ = holder_was_live
 
 -- whether the holder was live when it asked for a renewal that carries a set, after an event
 abbrev pub was_live_after : Bool → Option LeaderKey → EventKind → Bool
-was_live_after holder_was_live leader (kinds.Message (Sent number message)) = was_live_by_message holder_was_live leader message.from message.body
-was_live_after holder_was_live leader (kinds.Store (stores.Granted number by txn standbys)) = was_live_by_grant holder_was_live txn
+was_live_after holder_was_live leader (kinds.Message (Sent number message)) =
+    was_live_by_message holder_was_live leader message.from message.body
+was_live_after holder_was_live leader (kinds.Store (stores.Granted number by txn standbys)) =
+    was_live_by_grant holder_was_live txn
 was_live_after holder_was_live leader _ = holder_was_live
 
 -- what a granted request tells its sender: the sync key that it wrote, or the leader key's new revision
 abbrev pub sync_grant_of : Option SyncKey → SyncRequest → Option Flying
 sync_grant_of None request = None
-sync_grant_of (Some key) request = Some (SyncGranted (record { member = request.member; incarnation = request.incarnation; sequence = request.sequence; key = key }))
+sync_grant_of (Some key) request =
+    Some (SyncGranted
+    (record { member = request.member; incarnation = request.incarnation; sequence = request.sequence; key = key }))
 
 -- the grant of the leader key under the last revision
 abbrev pub lease_grant_of : Past → ℕ → ℕ → ℕ → Option Flying
-lease_grant_of past member incarnation sequence = Some (LeaseGranted (record { member = member; incarnation = incarnation; sequence = sequence; revision = past.revision; sync = past.sync }))
+lease_grant_of past member incarnation sequence = Some (LeaseGranted (record {
+  member = member;
+  incarnation = incarnation;
+  sequence = sequence;
+  revision = past.revision;
+  sync = past.sync;
+}))
 
--- what a granted request that compares the sync key tells: to a create the grant of the leader key, to others the sync key
+-- what a granted request that compares the sync key tells: to a create
+-- the grant of the leader key, to others the sync key
 abbrev pub request_grant_of : Past → SyncRequest → Aim → Option Flying
 request_grant_of past request CreateLeader = lease_grant_of past request.member request.incarnation request.sequence
 request_grant_of past request _ = sync_grant_of past.sync request
 
 -- a snapshot
 abbrev pub snapshot_of : Past → Bool → Bool → Option Flying
-snapshot_of past keyless leaderless = Some (SnapshotSent (record { sync = past.sync; keyless = keyless; leaderless = leaderless; failsafe_revision = failsafe_revision_of past.failsafe }))
+snapshot_of past keyless leaderless = Some (SnapshotSent (record {
+  sync = past.sync;
+  keyless = keyless;
+  leaderless = leaderless;
+  failsafe_revision = failsafe_revision_of past.failsafe;
+}))
 
 -- the answer to a granted request
 abbrev pub grant_in_flight_of : Past → ℕ → ℕ → ℕ → Query → Option Flying
 grant_in_flight_of past member incarnation sequence LeaseQuery = lease_grant_of past member incarnation sequence
-grant_in_flight_of past member incarnation sequence (CarryQuery by revision) = lease_grant_of past member incarnation sequence
+grant_in_flight_of past member incarnation sequence (CarryQuery by revision) =
+    lease_grant_of past member incarnation sequence
 grant_in_flight_of past member incarnation sequence (SyncQuery request) = request_grant_of past request request.aim
 grant_in_flight_of past member incarnation sequence OtherQuery = snapshot_of past false false
 
 -- a message of the key store to this member
 abbrev pub answer_in_flight_of : Past → ℕ → ℕ → ℕ → Body → Option Flying
-answer_in_flight_of past member incarnation sequence bodies.Snapshot = snapshot_of past (is_keyless past.leader past.failsafe) (is_leaderless past.leader)
-answer_in_flight_of past member incarnation sequence (bodies.Granted request leased) = grant_in_flight_of past member incarnation sequence (past.asked request)
+answer_in_flight_of past member incarnation sequence bodies.Snapshot =
+    snapshot_of past (is_keyless past.leader past.failsafe) (is_leaderless past.leader)
+answer_in_flight_of past member incarnation sequence (bodies.Granted request leased) =
+    grant_in_flight_of past member incarnation sequence (past.asked request)
 answer_in_flight_of past member incarnation sequence _ = None
 
 -- a request in flight, if it compares the sync key
@@ -203,29 +253,37 @@ query_in_flight_of _ = None
 
 -- a message of this member to the key store
 abbrev pub request_in_flight_of : ℕ → ℕ → ℕ → Body → Option Flying
-request_in_flight_of member incarnation sequence (bodies.Request txn) = query_in_flight_of (query_of member incarnation sequence txn)
+request_in_flight_of member incarnation sequence (bodies.Request txn) =
+    query_in_flight_of (query_of member incarnation sequence txn)
 request_in_flight_of member incarnation sequence _ = None
 
 -- an answer in a race, where its sender has a log
 abbrev pub race_answer_of : ℕ → ℕ → ℕ → ℕ → Option Lsn → Option Flying
 race_answer_of by member incarnation sequence None = None
-race_answer_of by member incarnation sequence (Some end) = Some (RaceAnswered (record { member = member; incarnation = incarnation; sequence = sequence; by = by; end = end.position }))
+race_answer_of by member incarnation sequence (Some end) =
+    Some (RaceAnswered
+    (record { member = member; incarnation = incarnation; sequence = sequence; by = by; end = end.position }))
 
 -- a message of the first member to the second
 abbrev pub peer_in_flight_of : ℕ → ℕ → ℕ → ℕ → Body → Option Flying
-peer_in_flight_of by member incarnation sequence (bodies.Answer answer) = race_answer_of by member incarnation sequence answer.end
+peer_in_flight_of by member incarnation sequence (bodies.Answer answer) =
+    race_answer_of by member incarnation sequence answer.end
 peer_in_flight_of by member incarnation sequence _ = None
 
 -- what commits read of a message that is sent
 abbrev pub flying_of : Past → LinkEnd → LinkEnd → ℕ → ℕ → Body → Option Flying
-flying_of past (ends.Member member) ends.Store incarnation sequence body = request_in_flight_of member.id.number incarnation sequence body
-flying_of past ends.Store (ends.Member member) incarnation sequence body = answer_in_flight_of past member.id.number incarnation sequence body
-flying_of past (ends.Member by) (ends.Member member) incarnation sequence body = peer_in_flight_of by.id.number member.id.number incarnation sequence body
+flying_of past (ends.Member member) ends.Store incarnation sequence body =
+    request_in_flight_of member.id.number incarnation sequence body
+flying_of past ends.Store (ends.Member member) incarnation sequence body =
+    answer_in_flight_of past member.id.number incarnation sequence body
+flying_of past (ends.Member by) (ends.Member member) incarnation sequence body =
+    peer_in_flight_of by.id.number member.id.number incarnation sequence body
 flying_of past ends.Store ends.Store incarnation sequence body = None
 
 -- the messages in flight after an event
 abbrev pub past_flight_by : Past → MessageEvent → ℕ → Option Flying
-past_flight_by past (Sent number message) = put_at past.flight number (flying_of past message.from message.to message.incarnation message.sequence message.body)
+past_flight_by past (Sent number message) =
+    put_at past.flight number (flying_of past message.from message.to message.incarnation message.sequence message.body)
 past_flight_by past (Delivered number) = put_at past.flight number None
 past_flight_by past (Lost number) = put_at past.flight number None
 
@@ -236,12 +294,14 @@ past_flight_after past _ = past.flight
 
 -- what a message that is sent asks of the key store
 abbrev pub query_sent : LinkEnd → ℕ → ℕ → Body → Query
-query_sent (ends.Member member) incarnation sequence (bodies.Request txn) = query_of member.id.number incarnation sequence txn
+query_sent (ends.Member member) incarnation sequence (bodies.Request txn) =
+    query_of member.id.number incarnation sequence txn
 query_sent _ incarnation sequence _ = OtherQuery
 
 -- what each request so far asks, after an event
 abbrev pub queries_after : (ℕ → Query) → EventKind → ℕ → Query
-queries_after asked (kinds.Message (Sent number message)) = put_at asked number (query_sent message.from message.incarnation message.sequence message.body)
+queries_after asked (kinds.Message (Sent number message)) =
+    put_at asked number (query_sent message.from message.incarnation message.sequence message.body)
 queries_after asked _ = asked
 
 -- the incarnation of each agent, after an event
@@ -266,7 +326,8 @@ log_found (Some log) = log
 
 -- the longest log up to an acknowledged commit, after an event
 abbrev pub acknowledged_log_after : Logs → List Entry → EventKind → List Entry
-acknowledged_log_after logs acknowledged_log (kinds.Replication (replications.Acknowledged server commit)) = longer_log acknowledged_log (front_to commit (entries_of (log_found (slice_get logs server.id.number))))
+acknowledged_log_after logs acknowledged_log (kinds.Replication (replications.Acknowledged server commit)) =
+    longer_log acknowledged_log (front_to commit (entries_of (log_found (slice_get logs server.id.number))))
 acknowledged_log_after logs acknowledged_log _ = acknowledged_log
 
 -- what one more event leaves
@@ -364,8 +425,8 @@ machine_of past volatile_state m = record {
   runs = past.runs m;
 }
 
--- a cluster: its members have numbers below the first, and the second says whether creates of the leader key compare the sync key,
--- as they do in quorum mode with failsafe mode
+-- a cluster: its members have numbers below the first, and the second says whether creates
+-- of the leader key compare the sync key, as they do in quorum mode with failsafe mode
 pub record Setup : Type 0 where
   pub member_count : ℕ
   pub creates_compare : Bool

@@ -48,7 +48,8 @@ pub record State : Type 0 where
   -- creates of the leader key compare the sync key: in quorum mode with failsafe mode
   pub creates_compare : Bool
   pub sync : Option SyncKey
-  -- the revision of the leader key, the member that it names, and whether that member was live when it asked for a renewal of it
+  -- the revision of the leader key, the member that it names, and
+  -- whether that member was live when it asked for a renewal of it
   pub leader : Option ℕ
   pub holder : ℕ
   pub holder_was_live : Bool

@@ -1,5 +1,5 @@
--- The stored sync key as the law sees it, and the number that a transaction writes into it. Both numbers stay shut to proofs, so that none
--- rests on what they are today.
+-- The stored sync key as the law sees it, and the number that a transaction writes into
+-- it. Both numbers stay shut to proofs, so that none rests on what they are today.
 use Rattle.std.specs.Prelude.{ℕ}
 use Rattle.store_keys.specs.declared.txn.Txn.{Txn}
 use Rattle.store_keys.specs.declared.value.SyncKey.{SyncKey as StoredKey}
@@ -16,4 +16,9 @@ quorum_written txn = strict_quorum
 
 -- what the law sees of a sync key that is stored under this revision
 abbrev pub key_seen : StoredKey → ℕ → SyncKey
-key_seen key revision = record { leader = key.leader.number; standbys = set_members key.standbys; quorum = quorum_of key; revision = revision }
+key_seen key revision = record {
+  leader = key.leader.number;
+  standbys = set_members key.standbys;
+  quorum = quorum_of key;
+  revision = revision;
+}

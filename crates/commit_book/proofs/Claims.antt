@@ -22,8 +22,13 @@ at-leader : (leader : Option ℕ) (r : ℕ) → at_revision leader r ≡ true �
 at-leader None r e = absurd (both e)
 at-leader (Some k) r e = ap (λ (n : ℕ). Some n) (eq-from k r e)
 
-pub claim-named : (s : State) (number : ℕ) (request : SyncRequest) → IsSound s → s.flight number ≡ Some (Requested request) → request.aim ≡ ClaimSync → is_granted s.leader s.sync request ≡ true → NamesMember s.sync request.member
+pub claim-named : (s : State) (number : ℕ) (request : SyncRequest) → IsSound s
+    → s.flight number ≡ Some (Requested request) → request.aim ≡ ClaimSync
+    → is_granted s.leader s.sync request ≡ true → NamesMember s.sync request.member
 claim-named s number request sound at aim granted =
     (sound-order s sound).claims number request at aim
-    (at-leader s.leader request.leader (subst (λ (a : Aim). is_leader_as_read s.leader a request.leader ≡ true) aim (and-first (is_leader_as_read s.leader request.aim request.leader) (is_as_read s.sync request.sync) granted)))
-    (as-read s.sync request.sync (and-second (is_leader_as_read s.leader request.aim request.leader) (is_as_read s.sync request.sync) granted))
+    (at-leader s.leader request.leader
+    (subst (λ (a : Aim). is_leader_as_read s.leader a request.leader ≡ true) aim
+    (and-first (is_leader_as_read s.leader request.aim request.leader) (is_as_read s.sync request.sync) granted)))
+    (as-read s.sync request.sync
+    (and-second (is_leader_as_read s.leader request.aim request.leader) (is_as_read s.sync request.sync) granted))

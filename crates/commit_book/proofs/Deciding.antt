@@ -34,8 +34,11 @@ abbrev OfKind : Key → Option KeyEntry → Type 0
 OfKind key found = (found_key : KeyEntry) → found ≡ Some found_key → IsOfKind key found_key.value
 
 -- ---- the leader key
-leader-value-read : (compared revision : ℕ) (value : Value) (expiry : Option Ticks) → IsOfKind keys.Leader value → IsSome expiry
-    → (compared == revision) ≡ at_revision (leader_revision (leader_key_of (Some (record { value = value; revision = revision; expiry = expiry })))) compared
+leader-value-read : (compared revision : ℕ) (value : Value) (expiry : Option Ticks)
+    → IsOfKind keys.Leader value → IsSome expiry
+    → (compared == revision)
+    ≡ at_revision
+    (leader_revision (leader_key_of (Some (record { value = value; revision = revision; expiry = expiry })))) compared
 leader-value-read compared revision (values.Leader member) (Some expiry) kind leased = turned compared revision
 leader-value-read compared revision (values.Leader member) None kind leased = absurd (both leased)
 leader-value-read compared revision (values.Config config) expiry kind leased = absurd kind
@@ -46,9 +49,11 @@ leader-value-read compared revision (values.Status end) expiry kind leased = abs
 leader-value-read compared revision (values.History row) expiry kind leased = absurd kind
 leader-value-read compared revision (values.Failsafe members) expiry kind leased = absurd kind
 
-leader-read : (compared : ℕ) (found : Option KeyEntry) → OfKind keys.Leader found → IsLeased found → is_as_expected (Revision compared) (found_in found) ≡ at_revision (leader_revision (leader_key_of found)) compared
+leader-read : (compared : ℕ) (found : Option KeyEntry) → OfKind keys.Leader found → IsLeased found
+    → is_as_expected (Revision compared) (found_in found) ≡ at_revision (leader_revision (leader_key_of found)) compared
 leader-read compared None kind leased = refl
-leader-read compared (Some found_key) kind leased = leader-value-read compared found_key.revision found_key.value found_key.expiry (kind found_key refl) leased
+leader-read compared (Some found_key) kind leased =
+    leader-value-read compared found_key.revision found_key.value found_key.expiry (kind found_key refl) leased
 
 leased-if : (b : Bool) (o : Option KeyEntry) → IsLeased o → IsLeased (cond b o None)
 leased-if true o e = e
@@ -60,18 +65,24 @@ leased-present clock (Some found_key) e = leased-if (is_present clock found_key.
 
 -- what a compare of the leader key's revision finds
 leader-compared : (past : Past) (facts : Facts) (compared : ℕ) → IsSameKeys past facts
-    → is_as_expected (Revision compared) (found_in (key_in facts.keys.pairs facts.clock keys.Leader)) ≡ at_revision (leader_revision past.leader) compared
+    → is_as_expected (Revision compared) (found_in (key_in facts.keys.pairs facts.clock keys.Leader))
+    ≡ at_revision (leader_revision past.leader) compared
 leader-compared past facts compared same =
     let entry : Option KeyEntry = find key_cmp keys.Leader facts.keys.pairs in
     leader-read compared (present facts.clock entry)
-    (λ found_key is. kind_found keys.Leader facts.keys.pairs found_key same.lease.kept.kinds (present_found facts.clock entry found_key is))
+    (λ found_key is. kind_found keys.Leader facts.keys.pairs found_key same.lease.kept.kinds
+    (present_found facts.clock entry found_key is))
     (leased-present facts.clock entry same.lease.leased)
     ∙ ap (λ (l : Option LeaderKey). at_revision (leader_revision l) compared)
-    (sym (snapshot-leader (lease_keys past) facts same.lease ∙ ap leader_key_of (find_present facts.clock keys.Leader facts.keys.pairs same.lease.kept.order)))
+    (sym (snapshot-leader (lease_keys past) facts same.lease
+    ∙ ap leader_key_of (find_present facts.clock keys.Leader facts.keys.pairs same.lease.kept.order)))
 
 -- ---- the sync key
-sync-value-read : (expected : Expected) (revision : ℕ) (value : Value) (expiry : Option Ticks) → IsOfKind keys.Sync value
-    → is_as_expected expected (Revision revision) ≡ is_as_read (sync_key_of (Some (record { value = value; revision = revision; expiry = expiry }))) (revision_in expected)
+sync-value-read : (expected : Expected) (revision : ℕ) (value : Value) (expiry : Option Ticks)
+    → IsOfKind keys.Sync value
+    → is_as_expected expected (Revision revision)
+    ≡ is_as_read (sync_key_of (Some (record { value = value; revision = revision; expiry = expiry })))
+    (revision_in expected)
 sync-value-read Absent revision (values.Sync key) expiry kind = refl
 sync-value-read (Revision compared) revision (values.Sync key) expiry kind = turned compared revision
 sync-value-read expected revision (values.Leader member) expiry kind = absurd kind
@@ -82,47 +93,59 @@ sync-value-read expected revision (values.Status end) expiry kind = absurd kind
 sync-value-read expected revision (values.History row) expiry kind = absurd kind
 sync-value-read expected revision (values.Failsafe members) expiry kind = absurd kind
 
-sync-read : (expected : Expected) (found : Option KeyEntry) → OfKind keys.Sync found → is_as_expected expected (found_in found) ≡ is_as_read (sync_key_of found) (revision_in expected)
+sync-read : (expected : Expected) (found : Option KeyEntry) → OfKind keys.Sync found
+    → is_as_expected expected (found_in found) ≡ is_as_read (sync_key_of found) (revision_in expected)
 sync-read Absent None kind = refl
 sync-read (Revision compared) None kind = refl
-sync-read expected (Some found_key) kind = sync-value-read expected found_key.revision found_key.value found_key.expiry (kind found_key refl)
+sync-read expected (Some found_key) kind =
+    sync-value-read expected found_key.revision found_key.value found_key.expiry (kind found_key refl)
 
 -- what a compare of the sync key finds
 sync-compared : (past : Past) (facts : Facts) (expected : Expected) → IsSameKeys past facts
-    → is_as_expected expected (found_in (key_in facts.keys.pairs facts.clock keys.Sync)) ≡ is_as_read past.sync (revision_in expected)
+    → is_as_expected expected (found_in (key_in facts.keys.pairs facts.clock keys.Sync))
+    ≡ is_as_read past.sync (revision_in expected)
 sync-compared past facts expected same =
     let entry : Option KeyEntry = find key_cmp keys.Sync facts.keys.pairs in
     ap (λ (o : Option KeyEntry). is_as_expected expected (found_in o)) (present-endless facts.clock entry same.endless)
-    ∙ sync-read expected entry (λ found_key is. kind_found keys.Sync facts.keys.pairs found_key same.lease.kept.kinds is)
+    ∙ sync-read expected entry
+    (λ found_key is. kind_found keys.Sync facts.keys.pairs found_key same.lease.kept.kinds is)
     ∙ ap (λ (k : Option SyncKey). is_as_read k (revision_in expected)) (sym same.sync)
 
 -- ---- decisions
-grants-both : (a b : Bool) (key other : Key) (found also : Expected) → grants (decision_if a key found (decision_if b other also Granting)) ≡ (a && b)
+grants-both : (a b : Bool) (key other : Key) (found also : Expected)
+    → grants (decision_if a key found (decision_if b other also Granting)) ≡ (a && b)
 grants-both true true key other found also = refl
 grants-both true false key other found also = refl
 grants-both false b key other found also = refl
 
 -- on a claim, or a write of the sync key
 pub decision-is : (past : Past) (facts : Facts) (compared : ℕ) (expected : Expected) → IsSameKeys past facts
-    → grants (decision_by facts.keys.pairs facts.clock ((keys.Leader, Revision compared) ∷ (keys.Sync, expected) ∷ [])) ≡ (at_revision (leader_revision past.leader) compared && is_as_read past.sync (revision_in expected))
+    → grants (decision_by facts.keys.pairs facts.clock ((keys.Leader, Revision compared) ∷ (keys.Sync, expected) ∷ []))
+    ≡ (at_revision (leader_revision past.leader) compared && is_as_read past.sync (revision_in expected))
 decision-is past facts compared expected same =
     let leader : Expected = found_in (key_in facts.keys.pairs facts.clock keys.Leader) in
     let sync : Expected = found_in (key_in facts.keys.pairs facts.clock keys.Sync) in
-    grants-both (is_as_expected (Revision compared) leader) (is_as_expected expected sync) keys.Leader keys.Sync leader sync
+    grants-both (is_as_expected (Revision compared) leader)
+    (is_as_expected expected sync) keys.Leader keys.Sync leader sync
     ∙ ap (λ (b : Bool). b && is_as_expected expected sync) (leader-compared past facts compared same)
-    ∙ ap (λ (b : Bool). at_revision (leader_revision past.leader) compared && b) (sync-compared past facts expected same)
+    ∙ ap (λ (b : Bool). at_revision (leader_revision past.leader) compared && b)
+    (sync-compared past facts expected same)
 
 grants-one : (a : Bool) (key : Key) (found : Expected) → grants (decision_if a key found Granting) ≡ a
 grants-one true key found = refl
 grants-one false key found = refl
 
-there-from : (leader : Option LeaderKey) (compared : ℕ) → at_revision (leader_revision leader) compared ≡ true → (key : LeaderKey) × (leader ≡ Some key)
+there-from : (leader : Option LeaderKey) (compared : ℕ) → at_revision (leader_revision leader) compared ≡ true
+    → (key : LeaderKey) × (leader ≡ Some key)
 there-from None compared e = absurd (both e)
 there-from (Some key) compared e = (key, refl)
 
 -- where what compares the leader key alone is granted, that key is there
 pub granted-leader : (past : Past) (facts : Facts) (compared : ℕ) → IsSameKeys past facts
-    → decision_by facts.keys.pairs facts.clock ((keys.Leader, Revision compared) ∷ []) ≡ Granting → (key : LeaderKey) × (past.leader ≡ Some key)
+    → decision_by facts.keys.pairs facts.clock ((keys.Leader, Revision compared) ∷ []) ≡ Granting
+    → (key : LeaderKey) × (past.leader ≡ Some key)
 granted-leader past facts compared same granted =
     let leader : Expected = found_in (key_in facts.keys.pairs facts.clock keys.Leader) in
-    there-from past.leader compared (sym (leader-compared past facts compared same) ∙ sym (grants-one (is_as_expected (Revision compared) leader) keys.Leader leader) ∙ ap grants granted)
+    there-from past.leader compared
+    (sym (leader-compared past facts compared same)
+    ∙ sym (grants-one (is_as_expected (Revision compared) leader) keys.Leader leader) ∙ ap grants granted)

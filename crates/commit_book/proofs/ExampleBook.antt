@@ -13,8 +13,11 @@ use Rattle.commit_actions.specs.Past.{first_past, past_over}
 use Rattle.commit_book.specs.Example.{led_and_claimed, claim_flying}
 use Rattle.commit_book.specs.Flights.{AreCausal}
 
-pub example : (logs : Logs) (required : List Required) (confirmed : List (List (Option Lsn))) (first : Settings) (names : List Name) (base : ℕ) (by : Member) (info : MemberInfo)
-    → AreCausal (first_past logs required confirmed) (start_of first names base) (led_and_claimed by info) × ((past_over (first_past logs required confirmed) (led_and_claimed by info)).flight 4 ≡ Some (SyncGranted (claim_flying by)))
+pub example : (logs : Logs) (required : List Required) (confirmed : List (List (Option Lsn)))
+    (first : Settings) (names : List Name) (base : ℕ) (by : Member) (info : MemberInfo)
+    → AreCausal (first_past logs required confirmed) (start_of first names base) (led_and_claimed by info)
+    × ((past_over (first_past logs required confirmed) (led_and_claimed by info)).flight 4
+    ≡ Some (SyncGranted (claim_flying by)))
 example logs required confirmed first names base by info = (
   (
     tt,
@@ -36,7 +39,33 @@ example logs required confirmed first names base by info = (
                     tt,
                     (
                       (omega arith, tt),
-                      (tt, (tt, (tt, (tt, (tt, ((omega arith, record { before = omega arith; named = (refl, (refl, refl)); leasing = refl; written = refl }), tt)))))),
+                      (
+                        tt,
+                        (
+                          tt,
+                          (
+                            tt,
+                            (
+                              tt,
+                              (
+                                tt,
+                                (
+                                  (
+                                    omega arith,
+                                    record {
+                                      before = omega arith;
+                                      named = (refl, (refl, refl));
+                                      leasing = refl;
+                                      written = refl;
+                                    },
+                                  ),
+                                  tt,
+                                ),
+                              ),
+                            ),
+                          ),
+                        ),
+                      ),
                     ),
                   ),
                 ),

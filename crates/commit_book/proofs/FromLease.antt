@@ -14,7 +14,9 @@ use Rattle.commit_actions.specs.States.{Machine, is_ready, Acts}
 use Rattle.commit_actions.specs.Past.{Past, past_after, past_over, leader_revision, is_keyless}
 
 -- both laws read one leader key of a book
-pub same-leader : (p : lease_past.Past) (past : Past) (book : List Event) → p.clock ≡ past.clock → p.revision ≡ past.revision → p.leader ≡ past.leader → (lease_past.past_over p book).leader ≡ (past_over past book).leader
+pub same-leader : (p : lease_past.Past) (past : Past) (book : List Event) → p.clock ≡ past.clock
+    → p.revision ≡ past.revision → p.leader ≡ past.leader
+    → (lease_past.past_over p book).leader ≡ (past_over past book).leader
 same-leader p past [] clock revision leader = leader
 same-leader p past (event ∷ book) clock revision leader =
     same-leader (lease_past.past_after p event.kind) (past_after past event.kind) book
@@ -25,60 +27,83 @@ same-leader p past (event ∷ book) clock revision leader =
     ∙ ap (λ (l : Option LeaderKey). lease_past.leader_after past.clock past.revision l event.kind) leader)
 
 -- a grant that is heard in time is the present leader key
-pub grant-present : (s : lease.State) (m : ℕ) (heard : Option ℕ) → lease_carried.IsSound s → (fed : Fed s m heard) → IsOnTime (s.declared.margin m) s.clock fed.grant.moment → leader_revision s.leader ≡ Some fed.grant.revision
+pub grant-present : (s : lease.State) (m : ℕ) (heard : Option ℕ) → lease_carried.IsSound s → (fed : Fed s m heard)
+    → IsOnTime (s.declared.margin m) s.clock fed.grant.moment → leader_revision s.leader ≡ Some fed.grant.revision
 grant-present s m heard inv fed in_time =
     let p = (fed-ok s m heard inv fed in_time).present in
     ap leader_revision p.key_is ∙ ap (λ (r : ℕ). Some r) p.revision
 
-acts-same : (x : Machine) (y : lease.Machine) → x.live ≡ y.live → is_ready x.agent ≡ lease.is_ready y.agent → Acts x → lease.Acts y
+acts-same : (x : Machine) (y : lease.Machine) → x.live ≡ y.live → is_ready x.agent ≡ lease.is_ready y.agent
+    → Acts x → lease.Acts y
 acts-same x y live ready (inl e) = inl (sym live ∙ e)
 acts-same x y live ready (inr e) = inr (sym ready ∙ e)
 
 -- where no hold is active, nobody acts beside who hears it
-pub grant-alone : (s : lease.State) (members : ℕ → Machine) (m : ℕ) (heard : Option ℕ) → lease_carried.IsSound s → (fed : Fed s m heard) → IsOnTime (s.declared.margin m) s.clock fed.grant.moment → (s.members m).hold ≤ s.clock →
-    ((n : ℕ) → (members n).live ≡ (s.members n).live) → ((n : ℕ) → is_ready (members n).agent ≡ lease.is_ready (s.members n).agent) → (n : ℕ) → Acts (members n) → n ≡ m
-grant-alone s members m heard inv fed in_time free live ready n acts = newcomer s m heard inv fed in_time free n (acts-same (members n) (s.members n) (live n) (ready n) acts)
+pub grant-alone : (s : lease.State) (members : ℕ → Machine) (m : ℕ) (heard : Option ℕ) → lease_carried.IsSound s
+    → (fed : Fed s m heard) → IsOnTime (s.declared.margin m) s.clock fed.grant.moment → (s.members m).hold ≤ s.clock →
+    ((n : ℕ) → (members n).live ≡ (s.members n).live)
+    → ((n : ℕ) → is_ready (members n).agent ≡ lease.is_ready (s.members n).agent) → (n : ℕ) → Acts (members n) → n ≡ m
+grant-alone s members m heard inv fed in_time free live ready n acts =
+    newcomer s m heard inv fed in_time free n (acts-same (members n) (s.members n) (live n) (ready n) acts)
 
-pub same-failsafe : (p : lease_past.Past) (past : Past) (book : List Event) → p.revision ≡ past.revision → p.failsafe ≡ past.failsafe → (lease_past.past_over p book).failsafe ≡ (past_over past book).failsafe
+pub same-failsafe : (p : lease_past.Past) (past : Past) (book : List Event) → p.revision ≡ past.revision
+    → p.failsafe ≡ past.failsafe → (lease_past.past_over p book).failsafe ≡ (past_over past book).failsafe
 same-failsafe p past [] revision failsafe = failsafe
 same-failsafe p past (event ∷ book) revision failsafe =
     same-failsafe (lease_past.past_after p event.kind) (past_after past event.kind) book
     (ap (λ (r : ℕ). lease_past.revision_after r event.kind) revision)
-    (ap (λ (r : ℕ). lease_past.failsafe_after r p.failsafe event.kind) revision ∙ ap (λ (f : Option FailsafeKey). lease_past.failsafe_after past.revision f event.kind) failsafe)
+    (ap (λ (r : ℕ). lease_past.failsafe_after r p.failsafe event.kind) revision
+    ∙ ap (λ (f : Option FailsafeKey). lease_past.failsafe_after past.revision f event.kind) failsafe)
 
-free-leader : (leader : Option LeaderKey) (failsafe : Option FailsafeKey) → is_keyless leader failsafe ≡ true → leader ≡ None
+free-leader : (leader : Option LeaderKey) (failsafe : Option FailsafeKey) → is_keyless leader failsafe ≡ true
+    → leader ≡ None
 free-leader None failsafe e = refl
 free-leader (Some key) None e = absurd (both e)
 free-leader (Some key) (Some f) e = absurd (both e)
 
-free-failsafe : (leader : Option LeaderKey) (failsafe : Option FailsafeKey) → is_keyless leader failsafe ≡ true → failsafe ≡ None
+free-failsafe : (leader : Option LeaderKey) (failsafe : Option FailsafeKey)
+    → is_keyless leader failsafe ≡ true → failsafe ≡ None
 free-failsafe None None e = refl
 free-failsafe None (Some f) e = absurd (both e)
 free-failsafe (Some key) None e = absurd (both e)
 free-failsafe (Some key) (Some f) e = absurd (both e)
 
 -- without a leader key and a failsafe key nobody acts
-pub grant-free : (s : lease.State) (members : ℕ → Machine) → lease_carried.IsSound s → is_keyless s.leader s.failsafe ≡ true →
-    ((n : ℕ) → (members n).live ≡ (s.members n).live) → ((n : ℕ) → is_ready (members n).agent ≡ lease.is_ready (s.members n).agent) → (n : ℕ) → Acts (members n) → ⊥
-grant-free s members inv free live ready n acts = elim (inv.guarded n (acts-same (members n) (s.members n) (live n) (ready n) acts)).cover [
-  | inl c ↦ none-some c.1.found_key (sym (free-leader s.leader s.failsafe free) ∙ c.1.key_is)
-  | inr h ↦ none-some h.1.f (sym (free-failsafe s.leader s.failsafe free) ∙ h.1.is)
-]
+pub grant-free : (s : lease.State) (members : ℕ → Machine) → lease_carried.IsSound s
+    → is_keyless s.leader s.failsafe ≡ true →
+    ((n : ℕ) → (members n).live ≡ (s.members n).live)
+    → ((n : ℕ) → is_ready (members n).agent ≡ lease.is_ready (s.members n).agent) → (n : ℕ) → Acts (members n) → ⊥
+grant-free s members inv free live ready n acts =
+    elim (inv.guarded n (acts-same (members n) (s.members n) (live n) (ready n) acts)).cover [
+      | inl c ↦ none-some c.1.found_key (sym (free-leader s.leader s.failsafe free) ∙ c.1.key_is)
+      | inr h ↦ none-some h.1.f (sym (free-failsafe s.leader s.failsafe free) ∙ h.1.is)
+    ]
 
 -- without a leader key nobody is Ready
 pub grant-absent : (s : lease.State) (members : ℕ → Machine) → lease_carried.IsSound s → s.leader ≡ None →
-    ((n : ℕ) → is_ready (members n).agent ≡ lease.is_ready (s.members n).agent) → (n : ℕ) → is_ready (members n).agent ≡ true → ⊥
+    ((n : ℕ) → is_ready (members n).agent ≡ lease.is_ready (s.members n).agent) → (n : ℕ)
+    → is_ready (members n).agent ≡ true → ⊥
 grant-absent s members inv gone ready n e = elim (inv.guarded n (inr (sym (ready n) ∙ e))).cover [
   | inl c ↦ none-some c.1.found_key (sym gone ∙ c.1.key_is)
   | inr h ↦ both (sym (inv.ready_by_grant n (sym (ready n) ∙ e)) ∙ h.0)
 ]
 
--- where a member that isn't live has no active hold, and the failsafe key lists it, whoever is live holds the leader key
-pub grant-holds : (s : lease.State) (members : ℕ → Machine) (m : ℕ) → lease_carried.IsSound s → (s.members m).hold ≤ s.clock → ((f : FailsafeKey) → s.failsafe ≡ Some f → f.members m ≡ true) → (s.members m).live ≡ false →
-    ((n : ℕ) → (members n).live ≡ (s.members n).live) → (n : ℕ) → (members n).live ≡ true → (k : LeaderKey) × (s.leader ≡ Some k) × (k.holder ≡ n)
+-- where a member that isn't live has no active hold, and the failsafe
+-- key lists it, whoever is live holds the leader key
+pub grant-holds : (s : lease.State) (members : ℕ → Machine) (m : ℕ) → lease_carried.IsSound s
+    → (s.members m).hold ≤ s.clock → ((f : FailsafeKey) → s.failsafe ≡ Some f → f.members m ≡ true)
+    → (s.members m).live ≡ false →
+    ((n : ℕ) → (members n).live ≡ (s.members n).live) → (n : ℕ) → (members n).live ≡ true
+    → (k : LeaderKey) × (s.leader ≡ Some k) × (k.holder ≡ n)
 grant-holds s members m inv free listed rests live n e =
     let g = inv.guarded n (inl (sym (live n) ∙ e)) in
     elim g.cover [
       | inl c ↦ (c.1.found_key, c.1.key_is, c.1.holder)
-      | inr h ↦ absurd (omega (arith, g.later, free, h.1.spans.listed h.1.f h.1.is m (listed h.1.f h.1.is) (λ same. both (sym rests ∙ ap (λ (j : ℕ). (s.members j).live) same ∙ sym (live n) ∙ e))))
+      | inr h ↦ absurd (omega (
+        arith,
+        g.later,
+        free,
+        h.1.spans.listed h.1.f h.1.is m (listed h.1.f h.1.is)
+            (λ same. both (sym rests ∙ ap (λ (j : ℕ). (s.members j).live) same ∙ sym (live n) ∙ e)),
+      ))
     ]

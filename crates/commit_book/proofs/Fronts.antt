@@ -36,18 +36,27 @@ abbrev Keeps : Seen → Type 0
 Keeps seen = WritersHold seen.writes seen.logs seen.acknowledged
 
 -- the entries of a log that is there
-entries-are : (found : Option (Option (List Entry))) (entries : List Entry) → log_found found ≡ Some entries → entries_found found ≡ entries
+entries-are : (found : Option (Option (List Entry))) (entries : List Entry) → log_found found ≡ Some entries
+    → entries_found found ≡ entries
 entries-are None entries is = absurd (none-some entries is)
 entries-are (Some None) entries is = absurd (none-some entries is)
 entries-are (Some (Some log)) entries is = some-is log entries is
 
-sound-seen : (setup : Setup) (past : Past) (volatile_states : ℕ → VolatileState) → IsSound (state_of setup past volatile_states) → Keeps (seen_of past)
+sound-seen : (setup : Setup) (past : Past) (volatile_states : ℕ → VolatileState)
+    → IsSound (state_of setup past volatile_states) → Keeps (seen_of past)
 sound-seen setup past volatile_states inv server writes commit told =
     let k = sound-keeps (state_of setup past volatile_states) inv in
     let log = k.logs server writes in
     let entry = k.kept server writes commit told log.entries log.is in
-    subst (λ (l : List Entry). has_serial l commit ≡ true) (sym (entries-are (slice_get past.logs server) log.entries log.is))
-    ((looked-up log.entries commit).1 (record { front = entry.front; entry = entry.entry; rest = entry.rest; whole = entry.whole; serial_is = entry.serial }))
+    subst (λ (l : List Entry). has_serial l commit ≡ true)
+    (sym (entries-are (slice_get past.logs server) log.entries log.is))
+    ((looked-up log.entries commit).1 (record {
+      front = entry.front;
+      entry = entry.entry;
+      rest = entry.rest;
+      whole = entry.whole;
+      serial_is = entry.serial;
+    }))
 
 -- an event aside changes none of it
 aside-writes : (w : ℕ → Bool) (k : EventKind) → LeavesCommits k → writes_after w k ≡ w
@@ -68,74 +77,106 @@ aside-shown t (kinds.Replication (replications.Acknowledged server commit)) a = 
 aside-shown t (kinds.Replication _) a = refl
 aside-shown t _ a = refl
 
-seen-eq : (w v : ℕ → Bool) (l m : Logs) (a b : List ℕ) → w ≡ v → l ≡ m → a ≡ b → ◌≡◌ {A = Seen} (record { writes = w; logs = l; acknowledged = a }) (record { writes = v; logs = m; acknowledged = b })
+seen-eq : (w v : ℕ → Bool) (l m : Logs) (a b : List ℕ) → w ≡ v → l ≡ m → a ≡ b
+    → ◌≡◌ {A = Seen} (record { writes = w; logs = l; acknowledged = a })
+    (record { writes = v; logs = m; acknowledged = b })
 seen-eq w v l m a b e f g = cc
 
 aside-seen : (past : Past) (k : EventKind) → LeavesCommits k → seen_of (past_after past k) ≡ seen_of past
-aside-seen past k a = seen-eq (writes_after past.writes k) past.writes (logs_after past.logs k) past.logs (acknowledged_after past.acknowledged k) past.acknowledged (aside-writes past.writes k a) (aside-logs past.logs k a) (aside-shown past.acknowledged k a)
+aside-seen past k a = seen-eq (writes_after past.writes k) past.writes (logs_after past.logs k) past.logs
+    (acknowledged_after past.acknowledged k) past.acknowledged (aside-writes past.writes k a)
+    (aside-logs past.logs k a) (aside-shown past.acknowledged k a)
 
 -- what the claim reads is as before where all events are aside
-all-aside : (past : Past) (events : List Event) → AllLeaveCommits events → seen_of (past_over past events) ≡ seen_of past
+all-aside : (past : Past) (events : List Event) → AllLeaveCommits events
+    → seen_of (past_over past events) ≡ seen_of past
 all-aside past [] a = refl
 all-aside past (event ∷ events) a = all-aside (past_after past event.kind) events a.1 ∙ aside-seen past event.kind a.0
 
-pub all-logs-aside : (past : Past) (events : List Event) → AllLeaveCommits events → (past_over past events).logs ≡ past.logs
+pub all-logs-aside : (past : Past) (events : List Event) → AllLeaveCommits events
+    → (past_over past events).logs ≡ past.logs
 all-logs-aside past events a = ap (λ (seen : Seen). seen.logs) (all-aside past events a)
 
-pub aside-front : (front back events : List Event) → front ++ back ≡ events → AllLeaveCommits events → AllLeaveCommits front
+pub aside-front : (front back events : List Event) → front ++ back ≡ events → AllLeaveCommits events
+    → AllLeaveCommits front
 aside-front [] back events e a = tt
 aside-front (x ∷ front) back [] e a = absurd (no-cons x (front ++ back) e)
-aside-front (x ∷ front) back (y ∷ events) e a = (subst (λ (z : Event). LeavesCommits z.kind) (sym (head-is x y (front ++ back) events e)) a.0, aside-front front back events (tail-is x y (front ++ back) events e) a.1)
+aside-front (x ∷ front) back (y ∷ events) e a = (
+  subst (λ (z : Event). LeavesCommits z.kind) (sym (head-is x y (front ++ back) events e)) a.0,
+  aside-front front back events (tail-is x y (front ++ back) events e) a.1,
+)
 
 -- so commits stay kept
-pub keeps-aside : (past : Past) (events : List Event) → AllLeaveCommits events → KeepsNow past → KeepsNow (past_over past events)
+pub keeps-aside : (past : Past) (events : List Event) → AllLeaveCommits events → KeepsNow past
+    → KeepsNow (past_over past events)
 keeps-aside past events aside keeps = subst Keeps (sym (all-aside past events aside)) keeps
 
 -- at a front of an action's events it is as before them or as after them
-either : (past : Past) (front back events : List Event) → front ++ back ≡ events → ChangeOnce events → (seen_of (past_over past front) ≡ seen_of past) ⊎ (seen_of (past_over past front) ≡ seen_of (past_over past events))
+either : (past : Past) (front back events : List Event) → front ++ back ≡ events → ChangeOnce events
+    → (seen_of (past_over past front) ≡ seen_of past)
+    ⊎ (seen_of (past_over past front) ≡ seen_of (past_over past events))
 either past [] back events e single = inl refl
 either past (x ∷ front) back [] e single = absurd (no-cons x (front ++ back) e)
 either past (x ∷ front) back (y ∷ events) e (inl single) =
     let head : x ≡ y = head-is x y (front ++ back) events e in
-    let step : seen_of (past_after past x.kind) ≡ seen_of past = aside-seen past x.kind (subst (λ (z : Event). LeavesCommits z.kind) (sym head) single.0) in
+    let step : seen_of (past_after past x.kind) ≡ seen_of past =
+    aside-seen past x.kind (subst (λ (z : Event). LeavesCommits z.kind) (sym head) single.0) in
     elim (either (past_after past x.kind) front back events (tail-is x y (front ++ back) events e) single.1) [
       | inl same ↦ inl (same ∙ step)
       | inr same ↦ inr (same ∙ ap (λ (z : Event). seen_of (past_over (past_after past z.kind) events)) head)
     ]
 either past (x ∷ front) back (y ∷ events) e (inr aside) =
     let head : x ≡ y = head-is x y (front ++ back) events e in
-    inr (all-aside (past_after past x.kind) front (aside-front front back events (tail-is x y (front ++ back) events e) aside)
+    inr (all-aside (past_after past x.kind) front
+    (aside-front front back events (tail-is x y (front ++ back) events e) aside)
     ∙ ap (λ (z : Event). seen_of (past_after past z.kind)) head ∙ sym (all-aside (past_after past y.kind) events aside))
 
-pub past-append : (past : Past) (es more : List Event) → past_over past (es ++ more) ≡ past_over (past_over past es) more
+pub past-append : (past : Past) (es more : List Event)
+    → past_over past (es ++ more) ≡ past_over (past_over past es) more
 past-append past [] more = refl
 past-append past (e ∷ es) more = past-append (past_after past e.kind) es more
 
-fronts-from : (setup : Setup) (past : Past) (volatile_states : ℕ → VolatileState) (transitions : List Transition) (front rest : List Event) → IsSound (state_of setup past volatile_states) → AreAllowed setup past volatile_states transitions → front ++ rest ≡ book_of transitions → Keeps (seen_of (past_over past front))
+fronts-from : (setup : Setup) (past : Past) (volatile_states : ℕ → VolatileState)
+    (transitions : List Transition) (front rest : List Event) → IsSound (state_of setup past volatile_states)
+    → AreAllowed setup past volatile_states transitions → front ++ rest ≡ book_of transitions
+    → Keeps (seen_of (past_over past front))
 fronts-from setup past volatile_states [] [] rest inv allowed e = sound-seen setup past volatile_states inv
 fronts-from setup past volatile_states [] (x ∷ front) rest inv allowed e = absurd (no-cons x (front ++ rest) e)
 fronts-from setup past volatile_states (transition ∷ transitions) front rest inv allowed e =
-    let after : IsSound (state_of setup (past_over past transition.events) transition.volatile_states) = subst IsSound (sym allowed.1) (inv-act (state_of setup past volatile_states) transition.action inv allowed.0) in
+    let after : IsSound (state_of setup (past_over past transition.events) transition.volatile_states) =
+    subst IsSound (sym allowed.1) (inv-act (state_of setup past volatile_states) transition.action inv allowed.0) in
     elim (cuts front rest transition.events (book_of transitions) e) [
       | inl c ↦ elim (either past front c.0 transition.events c.1 allowed.2) [
         | inl same ↦ subst Keeps (sym same) (sound-seen setup past volatile_states inv)
-        | inr same ↦ subst Keeps (sym same) (sound-seen setup (past_over past transition.events) transition.volatile_states after)
+        | inr same ↦ subst Keeps (sym same)
+            (sound-seen setup (past_over past transition.events) transition.volatile_states after)
       ]
-      | inr c ↦ subst (λ (p : Past). Keeps (seen_of p)) (sym (ap (past_over past) c.1 ∙ past-append past transition.events c.0))
-          (fronts-from setup (past_over past transition.events) transition.volatile_states transitions c.0 rest after allowed.3 c.2)
+      | inr c ↦ subst (λ (p : Past). Keeps (seen_of p))
+          (sym (ap (past_over past) c.1 ∙ past-append past transition.events c.0))
+          (fronts-from setup
+          (past_over past transition.events) transition.volatile_states transitions c.0 rest after allowed.3 c.2)
     ]
 
 -- action by action: inside the next one
-pub kept-inside : (setup : Setup) (past : Past) (volatile_states : ℕ → VolatileState) (transition : Transition) (front back : List Event) → IsSound (state_of setup past volatile_states) → IsAllowed (state_of setup past volatile_states) transition.action → IsShown setup past volatile_states transition → ChangeOnce transition.events → front ++ back ≡ transition.events → KeepsNow (past_over past front)
+pub kept-inside : (setup : Setup) (past : Past) (volatile_states : ℕ → VolatileState)
+    (transition : Transition) (front back : List Event) → IsSound (state_of setup past volatile_states)
+    → IsAllowed (state_of setup past volatile_states) transition.action → IsShown setup past volatile_states transition
+    → ChangeOnce transition.events → front ++ back ≡ transition.events → KeepsNow (past_over past front)
 kept-inside setup past volatile_states transition front back inv can told single e =
-    let after : IsSound (state_of setup (past_over past transition.events) transition.volatile_states) = subst IsSound (sym told) (inv-act (state_of setup past volatile_states) transition.action inv can) in
+    let after : IsSound (state_of setup (past_over past transition.events) transition.volatile_states) =
+    subst IsSound (sym told) (inv-act (state_of setup past volatile_states) transition.action inv can) in
     elim (either past front back transition.events e single) [
       | inl same ↦ subst Keeps (sym same) (sound-seen setup past volatile_states inv)
-      | inr same ↦ subst Keeps (sym same) (sound-seen setup (past_over past transition.events) transition.volatile_states after)
+      | inr same ↦
+          subst Keeps (sym same) (sound-seen setup (past_over past transition.events) transition.volatile_states after)
     ]
 
-pub kept-after : (setup : Setup) (past : Past) (volatile_states : ℕ → VolatileState) (transition : Transition) → IsSound (state_of setup past volatile_states) → IsAllowed (state_of setup past volatile_states) transition.action → IsShown setup past volatile_states transition → IsSound (state_of setup (past_over past transition.events) transition.volatile_states)
-kept-after setup past volatile_states transition inv can told = subst IsSound (sym told) (inv-act (state_of setup past volatile_states) transition.action inv can)
+pub kept-after : (setup : Setup) (past : Past) (volatile_states : ℕ → VolatileState) (transition : Transition)
+    → IsSound (state_of setup past volatile_states) → IsAllowed (state_of setup past volatile_states) transition.action
+    → IsShown setup past volatile_states transition
+    → IsSound (state_of setup (past_over past transition.events) transition.volatile_states)
+kept-after setup past volatile_states transition inv can told =
+    subst IsSound (sym told) (inv-act (state_of setup past volatile_states) transition.action inv can)
 
 -- the folds of the book are those of the past
 pub past-writes : (past : Past) (book : List Event) → (past_over past book).writes ≡ writes_over past.writes book
@@ -151,17 +192,28 @@ shown-by told (kinds.Replication (replications.Acknowledged server commit)) = re
 shown-by told (kinds.Replication _) = sym (append-nil told)
 shown-by told _ = sym (append-nil told)
 
-pub past-shown : (past : Past) (book : List Event) → (past_over past book).acknowledged ≡ past.acknowledged ++ acknowledged_in book
+pub past-shown : (past : Past) (book : List Event)
+    → (past_over past book).acknowledged ≡ past.acknowledged ++ acknowledged_in book
 past-shown past [] = sym (append-nil past.acknowledged)
 past-shown past (e ∷ book) =
-    past-shown (past_after past e.kind) book ∙ ap (λ (t : List ℕ). t ++ acknowledged_in book) (shown-by past.acknowledged e.kind) ∙ append_assoc past.acknowledged (acknowledged_of e.kind) (acknowledged_in book)
+    past-shown (past_after past e.kind) book
+    ∙ ap (λ (t : List ℕ). t ++ acknowledged_in book) (shown-by past.acknowledged e.kind)
+    ∙ append_assoc past.acknowledged (acknowledged_of e.kind) (acknowledged_in book)
 
-pub inv-first : (setup : Setup) (logs : Logs) (required : List Required) (confirmed : List (List (Option Lsn))) → AllHaveBytes logs → IsSound (state_of setup (first_past logs required confirmed) first_volatile_states)
-inv-first setup logs required confirmed have_bytes = inv-first-state setup.member_count setup.creates_compare (λ m. confirmers_of (slice_get required m)) (λ m. position_of (slice_get confirmed m)) (λ m. log_found (slice_get logs m)) have_bytes
+pub inv-first : (setup : Setup) (logs : Logs) (required : List Required) (confirmed : List (List (Option Lsn)))
+    → AllHaveBytes logs → IsSound (state_of setup (first_past logs required confirmed) first_volatile_states)
+inv-first setup logs required confirmed have_bytes =
+    inv-first-state setup.member_count setup.creates_compare (λ m. confirmers_of (slice_get required m))
+    (λ m. position_of (slice_get confirmed m)) (λ m. log_found (slice_get logs m)) have_bytes
 
-pub kept-book : (setup : Setup) (logs : Logs) (required : List Required) (confirmed : List (List (Option Lsn))) (transitions : List Transition) (front rest : List Event) → AllHaveBytes logs → AreAllowed setup (first_past logs required confirmed) first_volatile_states transitions → front ++ rest ≡ book_of transitions → KeepsCommits logs front
+pub kept-book : (setup : Setup) (logs : Logs) (required : List Required) (confirmed : List (List (Option Lsn)))
+    (transitions : List Transition) (front rest : List Event) → AllHaveBytes logs
+    → AreAllowed setup (first_past logs required confirmed) first_volatile_states transitions
+    → front ++ rest ≡ book_of transitions → KeepsCommits logs front
 kept-book setup logs required confirmed transitions front rest have_bytes allowed e server writes commit told =
     let past : Past = first_past logs required confirmed in
-    let k = fronts-from setup past first_volatile_states transitions front rest (inv-first setup logs required confirmed have_bytes) allowed e in
+    let k = fronts-from setup past first_volatile_states transitions front rest
+    (inv-first setup logs required confirmed have_bytes) allowed e in
     subst (λ (l : Logs). has_serial (entries_at l server) commit ≡ true) (past-logs past front)
-    (k server (ap (λ (w : ℕ → Bool). w server) (past-writes past front) ∙ writes) commit (subst (λ (t : List ℕ). Contains t commit) (sym (past-shown past front)) told))
+    (k server (ap (λ (w : ℕ → Bool). w server) (past-writes past front) ∙ writes) commit
+    (subst (λ (t : List ℕ). Contains t commit) (sym (past-shown past front)) told))

@@ -42,48 +42,73 @@ use Rattle.commit_book.proofs.Deciding.{granted-leader}
 use Rattle.commit_book.proofs.Flights.{flight-first, flight-by, request-asked}
 use Rattle.commit_book.proofs.Keys.{keys-first, keys-by}
 
-pub book-first : (logs : Logs) (required : List Required) (confirmed : List (List (Option Lsn))) (first : Settings) (names : List Name) (base : ℕ) → IsSameBook (first_past logs required confirmed) (start_of first names base)
-book-first logs required confirmed first names base = record { store = keys-first logs required confirmed first names base; flight = flight-first logs required confirmed first names base }
+pub book-first : (logs : Logs) (required : List Required) (confirmed : List (List (Option Lsn))) (first : Settings)
+    (names : List Name) (base : ℕ) → IsSameBook (first_past logs required confirmed) (start_of first names base)
+book-first logs required confirmed first names base = record {
+  store = keys-first logs required confirmed first names base;
+  flight = flight-first logs required confirmed first names base;
+}
 
-pub book-by : (past : Past) (facts : Facts) (kind : EventKind) → IsSpanned kind → IsCausal past facts kind → IsSameBook past facts → IsSameBook (past_after past kind) (facts_after facts kind)
-book-by past facts kind span causal old = record { store = keys-by past facts kind span old.store; flight = flight-by past facts kind causal old.store old.flight }
+pub book-by : (past : Past) (facts : Facts) (kind : EventKind) → IsSpanned kind → IsCausal past facts kind
+    → IsSameBook past facts → IsSameBook (past_after past kind) (facts_after facts kind)
+book-by past facts kind span causal old = record {
+  store = keys-by past facts kind span old.store;
+  flight = flight-by past facts kind causal old.store old.flight;
+}
 
-pub book-after : (past : Past) (facts : Facts) (events : List Event) → AreCausal past facts events → IsSameBook past facts → IsSameBook (past_over past events) (facts_over facts events)
+pub book-after : (past : Past) (facts : Facts) (events : List Event) → AreCausal past facts events
+    → IsSameBook past facts → IsSameBook (past_over past events) (facts_over facts events)
 book-after past facts [] causal old = old
-book-after past facts (event ∷ events) causal old = book-after (past_after past event.kind) (facts_after facts event.kind) events causal.1.1 (book-by past facts event.kind causal.0 causal.1.0 old)
+book-after past facts (event ∷ events) causal old = book-after (past_after past event.kind)
+    (facts_after facts event.kind) events causal.1.1 (book-by past facts event.kind causal.0 causal.1.0 old)
 
-pub causal-front : (past : Past) (facts : Facts) (front rest : List Event) → AreCausal past facts (front ++ rest) → AreCausal past facts front
+pub causal-front : (past : Past) (facts : Facts) (front rest : List Event)
+    → AreCausal past facts (front ++ rest) → AreCausal past facts front
 causal-front past facts [] rest causal = tt
-causal-front past facts (event ∷ front) rest causal = (causal.0, (causal.1.0, causal-front (past_after past event.kind) (facts_after facts event.kind) front rest causal.1.1))
+causal-front past facts (event ∷ front) rest causal = (
+  causal.0,
+  (causal.1.0, causal-front (past_after past event.kind) (facts_after facts event.kind) front rest causal.1.1),
+)
 
 -- ---- a delivery to the key store
 -- what a request asks has its name, and is for the lease where the key store says so
-create-leasing : (member incarnation sequence : ℕ) (info : MemberInfo) (ttl : Ticks) (failsafe sync : Option Expected) → is_leasing (query_of member incarnation sequence (txns.Create info ttl failsafe sync)) ≡ true
+create-leasing : (member incarnation sequence : ℕ) (info : MemberInfo) (ttl : Ticks) (failsafe sync : Option Expected)
+    → is_leasing (query_of member incarnation sequence (txns.Create info ttl failsafe sync)) ≡ true
 create-leasing member incarnation sequence info ttl failsafe None = refl
 create-leasing member incarnation sequence info ttl failsafe (Some sync) = refl
 
-renew-leasing : (member incarnation sequence revision : ℕ) (info : MemberInfo) (ttl : Ticks) (status : Option Lsn) (row : Option HistoryRow) (failsafe : Option MemberSet)
+renew-leasing : (member incarnation sequence revision : ℕ) (info : MemberInfo) (ttl : Ticks)
+    (status : Option Lsn) (row : Option HistoryRow) (failsafe : Option MemberSet)
     → is_leasing (query_of member incarnation sequence (txns.Renew revision info ttl status row failsafe)) ≡ true
 renew-leasing member incarnation sequence revision info ttl status row None = refl
 renew-leasing member incarnation sequence revision info ttl status row (Some members) = refl
 
-leasing-is : (member incarnation sequence : ℕ) (txn : Txn) → is_leasing (query_of member incarnation sequence txn) ≡ is_lease txn
-leasing-is member incarnation sequence (txns.Create info ttl failsafe sync) = create-leasing member incarnation sequence info ttl failsafe sync
-leasing-is member incarnation sequence (txns.Renew revision info ttl status row failsafe) = renew-leasing member incarnation sequence revision info ttl status row failsafe
+leasing-is : (member incarnation sequence : ℕ) (txn : Txn)
+    → is_leasing (query_of member incarnation sequence txn) ≡ is_lease txn
+leasing-is member incarnation sequence (txns.Create info ttl failsafe sync) =
+    create-leasing member incarnation sequence info ttl failsafe sync
+leasing-is member incarnation sequence (txns.Renew revision info ttl status row failsafe) =
+    renew-leasing member incarnation sequence revision info ttl status row failsafe
 leasing-is member incarnation sequence _ = refl
 
-create-named : (member incarnation sequence : ℕ) (info : MemberInfo) (ttl : Ticks) (failsafe sync : Option Expected) → IsNamed member incarnation sequence (query_of member incarnation sequence (txns.Create info ttl failsafe sync))
+create-named : (member incarnation sequence : ℕ) (info : MemberInfo) (ttl : Ticks) (failsafe sync : Option Expected)
+    → IsNamed member incarnation sequence (query_of member incarnation sequence (txns.Create info ttl failsafe sync))
 create-named member incarnation sequence info ttl failsafe None = tt
 create-named member incarnation sequence info ttl failsafe (Some sync) = (refl, (refl, refl))
 
-renew-named : (member incarnation sequence revision : ℕ) (info : MemberInfo) (ttl : Ticks) (status : Option Lsn) (row : Option HistoryRow) (failsafe : Option MemberSet)
-    → IsNamed member incarnation sequence (query_of member incarnation sequence (txns.Renew revision info ttl status row failsafe))
+renew-named : (member incarnation sequence revision : ℕ) (info : MemberInfo) (ttl : Ticks)
+    (status : Option Lsn) (row : Option HistoryRow) (failsafe : Option MemberSet)
+    → IsNamed member incarnation sequence
+    (query_of member incarnation sequence (txns.Renew revision info ttl status row failsafe))
 renew-named member incarnation sequence revision info ttl status row None = tt
 renew-named member incarnation sequence revision info ttl status row (Some members) = refl
 
-named-is : (member incarnation sequence : ℕ) (txn : Txn) → IsNamed member incarnation sequence (query_of member incarnation sequence txn)
-named-is member incarnation sequence (txns.Create info ttl failsafe sync) = create-named member incarnation sequence info ttl failsafe sync
-named-is member incarnation sequence (txns.Renew revision info ttl status row failsafe) = renew-named member incarnation sequence revision info ttl status row failsafe
+named-is : (member incarnation sequence : ℕ) (txn : Txn)
+    → IsNamed member incarnation sequence (query_of member incarnation sequence txn)
+named-is member incarnation sequence (txns.Create info ttl failsafe sync) =
+    create-named member incarnation sequence info ttl failsafe sync
+named-is member incarnation sequence (txns.Renew revision info ttl status row failsafe) =
+    renew-named member incarnation sequence revision info ttl status row failsafe
 named-is member incarnation sequence (txns.Claim revision sync) = (refl, (refl, refl))
 named-is member incarnation sequence (txns.SetSync revision sync standbys) = (refl, (refl, refl))
 named-is member incarnation sequence _ = tt
@@ -92,31 +117,50 @@ named-is member incarnation sequence _ = tt
 abbrev Granted : Past → ℕ → Member → Txn → List Name → Past
 Granted past i by txn standbys = past_after past (kinds.Store (stores.Granted i by txn standbys))
 
-create-written : (past : Past) (i : ℕ) (by : Member) (incarnation sequence : ℕ) (info : MemberInfo) (ttl : Ticks) (failsafe sync : Option Expected) (standbys : List Name)
-    → IsWritten (Granted past i by (txns.Create info ttl failsafe sync) standbys) (query_of by.id.number incarnation sequence (txns.Create info ttl failsafe sync))
+create-written : (past : Past) (i : ℕ) (by : Member) (incarnation sequence : ℕ) (info : MemberInfo)
+    (ttl : Ticks) (failsafe sync : Option Expected) (standbys : List Name)
+    → IsWritten (Granted past i by (txns.Create info ttl failsafe sync) standbys)
+    (query_of by.id.number incarnation sequence (txns.Create info ttl failsafe sync))
 create-written past i by incarnation sequence info ttl failsafe None standbys = refl
 create-written past i by incarnation sequence info ttl failsafe (Some sync) standbys = refl
 
-renew-written : (past : Past) (i : ℕ) (by : Member) (incarnation sequence revision : ℕ) (info : MemberInfo) (ttl : Ticks) (status : Option Lsn) (row : Option HistoryRow) (failsafe : Option MemberSet) (standbys : List Name) (key : LeaderKey) → past.leader ≡ Some key
-    → IsWritten (Granted past i by (txns.Renew revision info ttl status row failsafe) standbys) (query_of by.id.number incarnation sequence (txns.Renew revision info ttl status row failsafe))
-renew-written past i by incarnation sequence revision info ttl status row None standbys key is = ap (λ (l : Option LeaderKey). leader_revision (extended_by past.clock (past.revision + 1) ttl.0 l)) is
-renew-written past i by incarnation sequence revision info ttl status row (Some members) standbys key is = ap (λ (l : Option LeaderKey). leader_revision (extended_by past.clock (past.revision + 1) ttl.0 l)) is
+renew-written : (past : Past) (i : ℕ) (by : Member) (incarnation sequence revision : ℕ) (info : MemberInfo)
+    (ttl : Ticks) (status : Option Lsn) (row : Option HistoryRow) (failsafe : Option MemberSet)
+    (standbys : List Name) (key : LeaderKey) → past.leader ≡ Some key
+    → IsWritten (Granted past i by (txns.Renew revision info ttl status row failsafe) standbys)
+    (query_of by.id.number incarnation sequence (txns.Renew revision info ttl status row failsafe))
+renew-written past i by incarnation sequence revision info ttl status row None standbys key is =
+    ap (λ (l : Option LeaderKey). leader_revision (extended_by past.clock (past.revision + 1) ttl.0 l)) is
+renew-written past i by incarnation sequence revision info ttl status row (Some members) standbys key is =
+    ap (λ (l : Option LeaderKey). leader_revision (extended_by past.clock (past.revision + 1) ttl.0 l)) is
 
-written-is : (past : Past) (facts : Facts) (i : ℕ) (by : Member) (incarnation sequence : ℕ) (txn : Txn) (standbys : List Name) → IsSameKeys past facts → decision_on facts.keys facts.clock txn ≡ Granting
+written-is : (past : Past) (facts : Facts) (i : ℕ) (by : Member) (incarnation sequence : ℕ) (txn : Txn)
+    (standbys : List Name) → IsSameKeys past facts → decision_on facts.keys facts.clock txn ≡ Granting
     → IsWritten (Granted past i by txn standbys) (query_of by.id.number incarnation sequence txn)
-written-is past facts i by incarnation sequence (txns.Create info ttl failsafe sync) standbys same granted = create-written past i by incarnation sequence info ttl failsafe sync standbys
-written-is past facts i by incarnation sequence (txns.Renew revision info ttl status row failsafe) standbys same granted =
+written-is past facts i by incarnation sequence (txns.Create info ttl failsafe sync) standbys same granted =
+    create-written past i by incarnation sequence info ttl failsafe sync standbys
+written-is past facts i by incarnation sequence (txns.Renew revision info ttl status row failsafe) standbys same
+    granted =
     let key = granted-leader past facts revision same granted in
     renew-written past i by incarnation sequence revision info ttl status row failsafe standbys key.0 key.1
 written-is past facts i by incarnation sequence (txns.Claim revision sync) standbys same granted = refl
 written-is past facts i by incarnation sequence (txns.SetSync revision sync members) standbys same granted = refl
 written-is past facts i by incarnation sequence _ standbys same granted = tt
 
-pub granted-causal : (past : Past) (facts : Facts) (tick : Ticks) (i j : ℕ) (carried : InFlightFacts) (by : Member) (incarnation sequence : ℕ) (txn : Txn) (standbys : List Name) → IsSameBook past facts
-    → in_flight facts.flight i ≡ Some carried → carried.message ≡ record { from = ends.Member by; to = ends.Store; incarnation = incarnation; sequence = sequence; body = bodies.Request txn }
-    → facts.sent < j → IsSpannedTxn txn → decision_on facts.keys facts.clock txn ≡ Granting → AreCausal past facts (granted_events tick i j by incarnation sequence txn standbys)
+pub granted-causal : (past : Past) (facts : Facts) (tick : Ticks) (i j : ℕ) (carried : InFlightFacts)
+    (by : Member) (incarnation sequence : ℕ) (txn : Txn) (standbys : List Name) → IsSameBook past facts
+    → in_flight facts.flight i ≡ Some carried → carried.message ≡ record {
+      from = ends.Member by;
+      to = ends.Store;
+      incarnation = incarnation;
+      sequence = sequence;
+      body = bodies.Request txn;
+    }
+    → facts.sent < j → IsSpannedTxn txn → decision_on facts.keys facts.clock txn ≡ Granting
+    → AreCausal past facts (granted_events tick i j by incarnation sequence txn standbys)
 granted-causal past facts tick i j carried by incarnation sequence txn standbys old here is above span granted =
-    let asked : past.asked i ≡ query_of by.id.number incarnation sequence txn = request-asked past facts i carried by incarnation sequence txn old.flight here is in (
+    let asked : past.asked i ≡ query_of by.id.number incarnation sequence txn =
+    request-asked past facts i carried by incarnation sequence txn old.flight here is in (
       tt,
       (
         tt,
@@ -131,9 +175,11 @@ granted-causal past facts tick i j carried by incarnation sequence txn standbys 
                   above,
                   record {
                     before = old.flight.flown i carried here;
-                    named = subst (λ (q : Query). IsNamed by.id.number incarnation sequence q) (sym asked) (named-is by.id.number incarnation sequence txn);
+                    named = subst (λ (q : Query). IsNamed by.id.number incarnation sequence q) (sym asked)
+                        (named-is by.id.number incarnation sequence txn);
                     leasing = ap is_leasing asked ∙ leasing-is by.id.number incarnation sequence txn;
-                    written = subst (λ (q : Query). IsWritten (Granted past i by txn standbys) q) (sym asked) (written-is past facts i by incarnation sequence txn standbys old.store granted);
+                    written = subst (λ (q : Query). IsWritten (Granted past i by txn standbys) q) (sym asked)
+                        (written-is past facts i by incarnation sequence txn standbys old.store granted);
                   },
                 ),
                 tt,
@@ -144,25 +190,37 @@ granted-causal past facts tick i j carried by incarnation sequence txn standbys 
       ),
     )
 
-pub refused-causal : (past : Past) (facts : Facts) (tick : Ticks) (i j : ℕ) (by : Member) (incarnation sequence : ℕ) (request : TxnKind) (key : Key) (found : Expected) → facts.sent < j
+pub refused-causal : (past : Past) (facts : Facts) (tick : Ticks) (i j : ℕ) (by : Member)
+    (incarnation sequence : ℕ) (request : TxnKind) (key : Key) (found : Expected) → facts.sent < j
     → AreCausal past facts (refused_events tick i j by incarnation sequence request key found)
-refused-causal past facts tick i j by incarnation sequence request key found above = (tt, (tt, (tt, (tt, (tt, ((above, tt), tt))))))
+refused-causal past facts tick i j by incarnation sequence request key found above =
+    (tt, (tt, (tt, (tt, (tt, ((above, tt), tt))))))
 
-pub read-causal : (past : Past) (facts : Facts) (tick : Ticks) (i j : ℕ) (by : Member) (incarnation sequence : ℕ) → facts.sent < j → AreCausal past facts (read_events tick i j by incarnation sequence)
+pub read-causal : (past : Past) (facts : Facts) (tick : Ticks) (i j : ℕ) (by : Member) (incarnation sequence : ℕ)
+    → facts.sent < j → AreCausal past facts (read_events tick i j by incarnation sequence)
 read-causal past facts tick i j by incarnation sequence above = (tt, (tt, (tt, ((above, tt), tt))))
 
 -- ---- a tick, a loss, a delivery to an agent, and all that its input brings
-member-answers : (past : Past) (last : ℕ) (from to : LinkEnd) (incarnation sequence : ℕ) (body : Body) → IsMemberEnd from → Answers past last from to incarnation sequence body
+member-answers : (past : Past) (last : ℕ) (from to : LinkEnd) (incarnation sequence : ℕ) (body : Body)
+    → IsMemberEnd from → Answers past last from to incarnation sequence body
 member-answers past last (ends.Member by) to incarnation sequence body is = tt
 member-answers past last ends.Store to incarnation sequence body is = absurd is
 
-members-causal : (past : Past) (facts : Facts) (kind : EventKind) → IsOfMembers kind → IsNumberedAbove facts.sent kind → IsCausal past facts kind
-members-causal past facts (kinds.Message (Sent number message)) is above = (above, member-answers past facts.sent message.from message.to message.incarnation message.sequence message.body is)
+members-causal : (past : Past) (facts : Facts) (kind : EventKind) → IsOfMembers kind
+    → IsNumberedAbove facts.sent kind → IsCausal past facts kind
+members-causal past facts (kinds.Message (Sent number message)) is above =
+    (above, member-answers past facts.sent message.from message.to message.incarnation message.sequence message.body is)
 members-causal past facts (kinds.Message (Delivered number)) is above = tt
 members-causal past facts (kinds.Message (Lost number)) is above = tt
 members-causal past facts _ is above = tt
 
-pub own-causal : (past : Past) (facts : Facts) (events : List Event) → AllAre IsOfMembers events → AreNumberedAbove facts.sent events → AreCausal past facts events
+pub own-causal : (past : Past) (facts : Facts) (events : List Event) → AllAre IsOfMembers events
+    → AreNumberedAbove facts.sent events → AreCausal past facts events
 own-causal past facts [] all numbered = tt
-own-causal past facts (event ∷ events) all numbered =
-    (members-spanned event.kind all.0, (members-causal past facts event.kind all.0 numbered.0, own-causal (past_after past event.kind) (facts_after facts event.kind) events all.1 numbered.1))
+own-causal past facts (event ∷ events) all numbered = (
+  members-spanned event.kind all.0,
+  (
+    members-causal past facts event.kind all.0 numbered.0,
+    own-causal (past_after past event.kind) (facts_after facts event.kind) events all.1 numbered.1,
+  ),
+)

@@ -31,38 +31,67 @@ use Rattle.commit_actions.specs.Stored.{quorum_of, quorum_written}
 use Rattle.commit_actions.specs.Past.{Past, first_past, past_after, sync_after_grant}
 use Rattle.commit_book.specs.Keys.{sync_key_of, lease_keys, IsSameKeys}
 
-lease-first : (logs : Logs) (required : List Required) (confirmed : List (List (Option Lsn))) (first : Settings) (names : List Name) (base : ℕ) → IsSameStore (lease_keys (first_past logs required confirmed)) (start_of first names base)
+lease-first : (logs : Logs) (required : List Required) (confirmed : List (List (Option Lsn)))
+    (first : Settings) (names : List Name) (base : ℕ)
+    → IsSameStore (lease_keys (first_past logs required confirmed)) (start_of first names base)
 lease-first logs required confirmed first names base =
     let s = same-first first names base in
-    record { clock = s.clock; revision = s.revision; leader = s.leader; failsafe = s.failsafe; kept = s.kept; leased = s.leased; endless = s.endless; present = s.present }
+    record {
+      clock = s.clock;
+      revision = s.revision;
+      leader = s.leader;
+      failsafe = s.failsafe;
+      kept = s.kept;
+      leased = s.leased;
+      endless = s.endless;
+      present = s.present;
+    }
 
-pub keys-first : (logs : Logs) (required : List Required) (confirmed : List (List (Option Lsn))) (first : Settings) (names : List Name) (base : ℕ) → IsSameKeys (first_past logs required confirmed) (start_of first names base)
-keys-first logs required confirmed first names base = record { lease = lease-first logs required confirmed first names base; sync = refl; endless = tt }
+pub keys-first : (logs : Logs) (required : List Required) (confirmed : List (List (Option Lsn))) (first : Settings)
+    (names : List Name) (base : ℕ) → IsSameKeys (first_past logs required confirmed) (start_of first names base)
+keys-first logs required confirmed first names base =
+    record { lease = lease-first logs required confirmed first names base; sync = refl; endless = tt }
 
-lease-by : (past : Past) (facts : Facts) (kind : EventKind) → IsSpanned kind → IsSameStore (lease_keys past) facts → IsSameStore (lease_keys (past_after past kind)) (facts_after facts kind)
+lease-by : (past : Past) (facts : Facts) (kind : EventKind) → IsSpanned kind → IsSameStore (lease_keys past) facts
+    → IsSameStore (lease_keys (past_after past kind)) (facts_after facts kind)
 lease-by past facts kind span same =
     let s = same-by (lease_keys past) facts kind span same in
-    record { clock = s.clock; revision = s.revision; leader = s.leader; failsafe = s.failsafe; kept = s.kept; leased = s.leased; endless = s.endless; present = s.present }
+    record {
+      clock = s.clock;
+      revision = s.revision;
+      leader = s.leader;
+      failsafe = s.failsafe;
+      kept = s.kept;
+      leased = s.leased;
+      endless = s.endless;
+      present = s.present;
+    }
 
 -- ---- the sync key
 nobody-is : ◌≡◌ {A = ℕ → Bool} (λ n. false) (set_members nobody)
 nobody-is = fun_ext (λ n. sym (ap (λ (x : ℕ). x == 1) (bit_at-zero n)))
 
 -- and what a granted transaction says of its number the stored key says
-pub granted-sync : (revision : ℕ) (by : MemberId) (txn : Txn) (found : Option KeyEntry) → sync_after_grant by.number revision (sync_key_of found) txn ≡ sync_key_of (one_key.sync_after revision by txn found)
+pub granted-sync : (revision : ℕ) (by : MemberId) (txn : Txn) (found : Option KeyEntry)
+    → sync_after_grant by.number revision (sync_key_of found) txn
+    ≡ sync_key_of (one_key.sync_after revision by txn found)
 unfolding quorum_of quorum_written
-granted-sync revision by (txns.Claim compared sync) found = ap (λ (s : ℕ → Bool). Some (record { leader = by.number; standbys = s; quorum = strict_quorum; revision = revision })) nobody-is
+granted-sync revision by (txns.Claim compared sync) found = ap
+    (λ (s : ℕ → Bool). Some (record { leader = by.number; standbys = s; quorum = strict_quorum; revision = revision }))
+    nobody-is
 granted-sync revision by (txns.SetSync compared sync standbys) found = refl
 granted-sync revision by (txns.DropSync compared sync) found = refl
 granted-sync revision by _ found = refl
 
-pub granted-endless : (revision : ℕ) (by : MemberId) (txn : Txn) (found : Option KeyEntry) → IsEndless found → IsEndless (one_key.sync_after revision by txn found)
+pub granted-endless : (revision : ℕ) (by : MemberId) (txn : Txn) (found : Option KeyEntry) → IsEndless found
+    → IsEndless (one_key.sync_after revision by txn found)
 granted-endless revision by (txns.Claim compared sync) found e = refl
 granted-endless revision by (txns.SetSync compared sync standbys) found e = refl
 granted-endless revision by (txns.DropSync compared sync) found e = tt
 granted-endless revision by _ found e = e
 
-keys-granted : (past : Past) (facts : Facts) (number : ℕ) (by : Member) (txn : Txn) (standbys : List Name) → let kind = kinds.Store (stores.Granted number by txn standbys) in
+keys-granted : (past : Past) (facts : Facts) (number : ℕ) (by : Member) (txn : Txn) (standbys : List Name) → let kind =
+    kinds.Store (stores.Granted number by txn standbys) in
     IsSpanned kind → IsSameKeys past facts → IsSameKeys (past_after past kind) (facts_after facts kind)
 keys-granted past facts number by txn standbys = λ span same.
     let found = one_key.find_sync_after facts.keys facts.clock by.id txn in
@@ -72,14 +101,18 @@ keys-granted past facts number by txn standbys = λ span same.
           ∙ ap (λ (k : Option SyncKey). sync_after_grant by.id.number (facts.keys.revision + 1) k txn) same.sync
           ∙ granted-sync (facts.keys.revision + 1) by.id txn (find key_cmp keys.Sync facts.keys.pairs)
           ∙ ap sync_key_of (sym found);
-      endless = subst (λ (o : Option KeyEntry). IsEndless o) (sym found) (granted-endless (facts.keys.revision + 1) by.id txn (find key_cmp keys.Sync facts.keys.pairs) same.endless);
+      endless = subst (λ (o : Option KeyEntry). IsEndless o) (sym found)
+          (granted-endless (facts.keys.revision + 1) by.id txn (find key_cmp keys.Sync facts.keys.pairs) same.endless);
     }
 
 -- what is found at the sync key among what is present
-pub sync-present : (now : ℕ) (past : Past) (facts : Facts) → IsSameKeys past facts → find key_cmp keys.Sync (present_pairs now facts.keys.pairs) ≡ find key_cmp keys.Sync facts.keys.pairs
-sync-present now past facts same = find_present now keys.Sync facts.keys.pairs same.lease.kept.order ∙ present-endless now (find key_cmp keys.Sync facts.keys.pairs) same.endless
+pub sync-present : (now : ℕ) (past : Past) (facts : Facts) → IsSameKeys past facts
+    → find key_cmp keys.Sync (present_pairs now facts.keys.pairs) ≡ find key_cmp keys.Sync facts.keys.pairs
+sync-present now past facts same = find_present now keys.Sync facts.keys.pairs same.lease.kept.order
+    ∙ present-endless now (find key_cmp keys.Sync facts.keys.pairs) same.endless
 
-keys-tick : (past : Past) (facts : Facts) → IsSameKeys past facts → IsSameKeys (past_after past kinds.Tick) (facts_after facts kinds.Tick)
+keys-tick : (past : Past) (facts : Facts) → IsSameKeys past facts
+    → IsSameKeys (past_after past kinds.Tick) (facts_after facts kinds.Tick)
 keys-tick past facts same =
     let found = sync-present (facts.clock + 1) past facts same in
     record {
@@ -88,16 +121,39 @@ keys-tick past facts same =
       endless = subst (λ (o : Option KeyEntry). IsEndless o) (sym found) same.endless;
     }
 
-pub keys-by : (past : Past) (facts : Facts) (kind : EventKind) → IsSpanned kind → IsSameKeys past facts → IsSameKeys (past_after past kind) (facts_after facts kind)
+pub keys-by : (past : Past) (facts : Facts) (kind : EventKind) → IsSpanned kind → IsSameKeys past facts
+    → IsSameKeys (past_after past kind) (facts_after facts kind)
 keys-by past facts kinds.Tick span same = keys-tick past facts same
-keys-by past facts (kinds.Store (stores.Granted number by txn standbys)) span same = keys-granted past facts number by txn standbys span same
-keys-by past facts (kinds.Store (stores.Refused number by request key found)) span same = record { lease = lease-by past facts (kinds.Store (stores.Refused number by request key found)) tt same.lease; sync = same.sync; endless = same.endless }
-keys-by past facts (kinds.Store (stores.LeaderExpired holder)) span same = record { lease = lease-by past facts (kinds.Store (stores.LeaderExpired holder)) tt same.lease; sync = same.sync; endless = same.endless }
-keys-by past facts (kinds.Store (stores.Expired key)) span same = record { lease = lease-by past facts (kinds.Store (stores.Expired key)) tt same.lease; sync = same.sync; endless = same.endless }
+keys-by past facts (kinds.Store (stores.Granted number by txn standbys)) span same =
+    keys-granted past facts number by txn standbys span same
+keys-by past facts (kinds.Store (stores.Refused number by request key found)) span same = record {
+  lease = lease-by past facts (kinds.Store (stores.Refused number by request key found)) tt same.lease;
+  sync = same.sync;
+  endless = same.endless;
+}
+keys-by past facts (kinds.Store (stores.LeaderExpired holder)) span same = record {
+  lease = lease-by past facts (kinds.Store (stores.LeaderExpired holder)) tt same.lease;
+  sync = same.sync;
+  endless = same.endless;
+}
+keys-by past facts (kinds.Store (stores.Expired key)) span same = record {
+  lease = lease-by past facts (kinds.Store (stores.Expired key)) tt same.lease;
+  sync = same.sync;
+  endless = same.endless;
+}
 keys-by past facts kind span same =
     let s = same.lease in
     record {
-      lease = record { clock = s.clock; revision = s.revision; leader = s.leader; failsafe = s.failsafe; kept = s.kept; leased = s.leased; endless = s.endless; present = s.present };
+      lease = record {
+        clock = s.clock;
+        revision = s.revision;
+        leader = s.leader;
+        failsafe = s.failsafe;
+        kept = s.kept;
+        leased = s.leased;
+        endless = s.endless;
+        present = s.present;
+      };
       sync = same.sync;
       endless = same.endless;
     }

@@ -34,7 +34,8 @@ pub record IsSameSync (past : Past) (facts : Facts) : Type 0 where
   pub kept : IsKept facts.keys.pairs
   pub endless : IsEndless (find key_cmp keys.Sync facts.keys.pairs)
 
-sync-granted : (past : Past) (facts : Facts) (number : ℕ) (by : Member) (txn : Txn) (standbys : List Name) → let kind = kinds.Store (stores.Granted number by txn standbys) in
+sync-granted : (past : Past) (facts : Facts) (number : ℕ) (by : Member) (txn : Txn) (standbys : List Name) → let kind =
+    kinds.Store (stores.Granted number by txn standbys) in
     IsSameSync past facts → IsSameSync (past_after past kind) (facts_after facts kind)
 sync-granted past facts number by txn standbys = λ same.
     let found = one_key.find_sync_after facts.keys facts.clock by.id txn in
@@ -45,13 +46,16 @@ sync-granted past facts number by txn standbys = λ same.
           ∙ granted-sync (facts.keys.revision + 1) by.id txn (find key_cmp keys.Sync facts.keys.pairs)
           ∙ ap sync_key_of (sym found);
       kept = kept_after (facts.keys.revision + 1) facts.clock by.id txn facts.keys.pairs same.kept;
-      endless = subst (λ (o : Option KeyEntry). IsEndless o) (sym found) (granted-endless (facts.keys.revision + 1) by.id txn (find key_cmp keys.Sync facts.keys.pairs) same.endless);
+      endless = subst (λ (o : Option KeyEntry). IsEndless o) (sym found)
+          (granted-endless (facts.keys.revision + 1) by.id txn (find key_cmp keys.Sync facts.keys.pairs) same.endless);
     }
 
-sync-tick : (past : Past) (facts : Facts) → IsSameSync past facts → IsSameSync (past_after past kinds.Tick) (facts_after facts kinds.Tick)
+sync-tick : (past : Past) (facts : Facts) → IsSameSync past facts
+    → IsSameSync (past_after past kinds.Tick) (facts_after facts kinds.Tick)
 sync-tick past facts same =
     let now : ℕ = facts.clock + 1 in
-    let found = find_present now keys.Sync facts.keys.pairs same.kept.order ∙ present-endless now (find key_cmp keys.Sync facts.keys.pairs) same.endless in
+    let found = find_present now keys.Sync facts.keys.pairs same.kept.order
+    ∙ present-endless now (find key_cmp keys.Sync facts.keys.pairs) same.endless in
     record {
       revision = same.revision;
       sync = same.sync ∙ ap sync_key_of (sym found);
@@ -59,15 +63,21 @@ sync-tick past facts same =
       endless = subst (λ (o : Option KeyEntry). IsEndless o) (sym found) same.endless;
     }
 
-sync-by : (past : Past) (facts : Facts) (kind : EventKind) → IsSameSync past facts → IsSameSync (past_after past kind) (facts_after facts kind)
+sync-by : (past : Past) (facts : Facts) (kind : EventKind) → IsSameSync past facts
+    → IsSameSync (past_after past kind) (facts_after facts kind)
 sync-by past facts kinds.Tick same = sync-tick past facts same
-sync-by past facts (kinds.Store (stores.Granted number by txn standbys)) same = sync-granted past facts number by txn standbys same
-sync-by past facts (kinds.Store _) same = record { revision = same.revision; sync = same.sync; kept = same.kept; endless = same.endless }
-sync-by past facts _ same = record { revision = same.revision; sync = same.sync; kept = same.kept; endless = same.endless }
+sync-by past facts (kinds.Store (stores.Granted number by txn standbys)) same =
+    sync-granted past facts number by txn standbys same
+sync-by past facts (kinds.Store _) same =
+    record { revision = same.revision; sync = same.sync; kept = same.kept; endless = same.endless }
+sync-by past facts _ same =
+    record { revision = same.revision; sync = same.sync; kept = same.kept; endless = same.endless }
 
-pub sync-over : (past : Past) (facts : Facts) (book : List Event) → IsSameSync past facts → IsSameSync (past_over past book) (facts_over facts book)
+pub sync-over : (past : Past) (facts : Facts) (book : List Event) → IsSameSync past facts
+    → IsSameSync (past_over past book) (facts_over facts book)
 sync-over past facts [] same = same
-sync-over past facts (event ∷ book) same = sync-over (past_after past event.kind) (facts_after facts event.kind) book (sync-by past facts event.kind same)
+sync-over past facts (event ∷ book) same =
+    sync-over (past_after past event.kind) (facts_after facts event.kind) book (sync-by past facts event.kind same)
 
 -- ---- what is read of an entry
 -- a sync key that the law reads is the one that the entry has

@@ -49,13 +49,17 @@ ChangeOnce (event ∷ events) = (LeavesCommits event.kind × ChangeOnce events) 
 
 -- the events, and what no event says of the members after them, show the action: they are the state after it
 abbrev pub IsShown : Setup → Past → (ℕ → VolatileState) → Transition → Type 0
-IsShown setup past volatile_states transition = state_of setup (past_over past transition.events) transition.volatile_states ≡ act (state_of setup past volatile_states) transition.action
+IsShown setup past volatile_states transition =
+    state_of setup (past_over past transition.events) transition.volatile_states
+    ≡ act (state_of setup past volatile_states) transition.action
 
 -- each action is allowed, shown by its events, and at most one of these changes what commits being kept speaks of
 abbrev pub AreAllowed : Setup → Past → (ℕ → VolatileState) → List Transition → Type 0
 AreAllowed setup past volatile_states [] = Unit {0}
 AreAllowed setup past volatile_states (transition ∷ transitions) =
-    IsAllowed (state_of setup past volatile_states) transition.action × IsShown setup past volatile_states transition × ChangeOnce transition.events × AreAllowed setup (past_over past transition.events) transition.volatile_states transitions
+    IsAllowed (state_of setup past volatile_states) transition.action
+    × IsShown setup past volatile_states transition × ChangeOnce transition.events
+    × AreAllowed setup (past_over past transition.events) transition.volatile_states transitions
 
 -- the volatile states before the first event
 abbrev pub first_volatile_states : ℕ → VolatileState

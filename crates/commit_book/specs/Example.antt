@@ -23,7 +23,16 @@ claim_of = txns.Claim 2 Absent
 abbrev pub led_and_claimed : Member → MemberInfo → List Event
 led_and_claimed by info =
     asked_and_granted by info
-    ++ (record { tick = record { 0 = 0 }; kind = kinds.Message (messages.Sent 3 (record { from = ends.Member by; to = ends.Store; incarnation = 1; sequence = 2; body = bodies.Request claim_of })) }
+    ++ (record {
+      tick = record { 0 = 0 };
+      kind = kinds.Message (messages.Sent 3 (record {
+        from = ends.Member by;
+        to = ends.Store;
+        incarnation = 1;
+        sequence = 2;
+        body = bodies.Request claim_of;
+      }));
+    }
     ∷ granted_events (record { 0 = 0 }) 3 4 by 1 2 claim_of [])
 
 -- the grant of the claim that is in flight then

@@ -20,7 +20,8 @@ use Rattle.commit_actions.specs.Actions.{sync_key_by}
 use Rattle.commit_actions.specs.Past.{Past, Query, LeaseQuery, CarryQuery, SyncQuery, OtherQuery, first_past, flying_of, leader_revision, past_after, query_sent}
 use Rattle.commit_book.specs.Keys.{sync_key_of, IsSameKeys}
 
--- what commits read of a book as this message is sent: the keys of its snapshot, the revision of its grant, and these requests so far
+-- what commits read of a book as this message is sent: the keys of its
+-- snapshot, the revision of its grant, and these requests so far
 abbrev pub past_at_sending : (ℕ → Query) → InFlightFacts → Past
 past_at_sending asked carried = record (first_past [] [] []) {
   sync = sync_key_of (find key_cmp keys.Sync carried.snapshot);
@@ -32,7 +33,8 @@ past_at_sending asked carried = record (first_past [] [] []) {
 
 -- what commits read of a message that is in flight with this snapshot and this grant
 abbrev pub flying_carried : (ℕ → Query) → InFlightFacts → Option Flying
-flying_carried asked carried = flying_of (past_at_sending asked carried) carried.message.from carried.message.to carried.message.incarnation carried.message.sequence carried.message.body
+flying_carried asked carried = flying_of (past_at_sending asked carried) carried.message.from
+    carried.message.to carried.message.incarnation carried.message.sequence carried.message.body
 
 -- what commits read of a message that is in flight, if there is one
 abbrev pub flying_if : (ℕ → Query) → Option InFlightFacts → Option Flying
@@ -52,27 +54,32 @@ is_leasing (CarryQuery member revision) = true
 is_leasing (SyncQuery request) = is_creating request.aim
 is_leasing OtherQuery = false
 
--- as far as commits read the name of a request, it is this one: its sender, the sender's incarnation and its number in that one
+-- as far as commits read the name of a request, it is this one: its
+-- sender, the sender's incarnation and its number in that one
 abbrev pub IsNamed : ℕ → ℕ → ℕ → Query → Type 0
 IsNamed member incarnation sequence (CarryQuery by revision) = by ≡ member
-IsNamed member incarnation sequence (SyncQuery request) = (request.member ≡ member) × ((request.incarnation ≡ incarnation) × (request.sequence ≡ sequence))
+IsNamed member incarnation sequence (SyncQuery request) =
+    (request.member ≡ member) × ((request.incarnation ≡ incarnation) × (request.sequence ≡ sequence))
 IsNamed member incarnation sequence _ = Unit {0}
 
--- what a request that compares the sync key writes is there, under the last granted revision: the leader key, or the sync key
+-- what a request that compares the sync key writes is there, under the
+-- last granted revision: the leader key, or the sync key
 abbrev pub HasWritten : Past → SyncRequest → Aim → Type 0
 HasWritten past request CreateLeader = leader_revision past.leader ≡ Some past.revision
 HasWritten past request ClaimSync = past.sync ≡ Some (sync_key_by request.member past.revision ClaimSync)
-HasWritten past request (PublishStandbys standbys quorum) = past.sync ≡ Some (sync_key_by request.member past.revision (PublishStandbys standbys quorum))
+HasWritten past request (PublishStandbys standbys quorum) =
+    past.sync ≡ Some (sync_key_by request.member past.revision (PublishStandbys standbys quorum))
 
--- what any request writes, as far as commits read it, is there under the last granted revision: the leader key, or the sync key
+-- what any request writes, as far as commits read it, is there under
+-- the last granted revision: the leader key, or the sync key
 abbrev pub IsWritten : Past → Query → Type 0
 IsWritten past LeaseQuery = leader_revision past.leader ≡ Some past.revision
 IsWritten past (CarryQuery member revision) = leader_revision past.leader ≡ Some past.revision
 IsWritten past (SyncQuery request) = HasWritten past request request.aim
 IsWritten past OtherQuery = Unit {0}
 
--- the request of this number, which is one of those up to the last, was asked by this member, in this incarnation and under this number of a
--- question, for the lease or not; and it was granted last
+-- the request of this number, which is one of those up to the last, was asked by this member, in this
+-- incarnation and under this number of a question, for the lease or not; and it was granted last
 pub record IsAnswerTo (past : Past) (last member incarnation sequence request : ℕ) (leased : Bool) : Type 0 where
   pub before : request ≤ last
   pub named : IsNamed member incarnation sequence (past.asked request)
@@ -81,12 +88,14 @@ pub record IsAnswerTo (past : Past) (last member incarnation sequence request : 
 
 -- a grant that the key store sends this member answers a request that was asked, and granted last
 abbrev pub AnswersBody : Past → ℕ → ℕ → ℕ → ℕ → Body → Type 0
-AnswersBody past last member incarnation sequence (bodies.Granted request leased) = IsAnswerTo past last member incarnation sequence request leased
+AnswersBody past last member incarnation sequence (bodies.Granted request leased) =
+    IsAnswerTo past last member incarnation sequence request leased
 AnswersBody past last member incarnation sequence _ = Unit {0}
 
 -- where a message is a grant of the key store, it answers a request that was asked, and granted last
 abbrev pub Answers : Past → ℕ → LinkEnd → LinkEnd → ℕ → ℕ → Body → Type 0
-Answers past last ends.Store (ends.Member member) incarnation sequence body = AnswersBody past last member.id.number incarnation sequence body
+Answers past last ends.Store (ends.Member member) incarnation sequence body =
+    AnswersBody past last member.id.number incarnation sequence body
 Answers past last _ to incarnation sequence body = Unit {0}
 
 -- under each number the past has what commits read of the message that is in flight by the book
@@ -98,22 +107,28 @@ pub record IsSameFlight (past : Past) (facts : Facts) : Type 0 where
   pub asked : (i : ℕ) → facts.sent < i → past.asked i ≡ OtherQuery
   -- what is in flight was asked
   pub kept : (i : ℕ) (carried : InFlightFacts) → in_flight facts.flight i ≡ Some carried
-      → past.asked i ≡ query_sent carried.message.from carried.message.incarnation carried.message.sequence carried.message.body
-  -- an answer that grants carries the grant; it answers a request that was asked, and granted under the revision that it carries
-  pub grants : (i : ℕ) (carried : InFlightFacts) → in_flight facts.flight i ≡ Some carried → (revision : ℕ) × (carried.grant ≡ grant_for carried.message.body carried.message.to revision)
+      → past.asked i
+      ≡ query_sent carried.message.from carried.message.incarnation carried.message.sequence carried.message.body
+  -- an answer that grants carries the grant; it answers a request that
+  -- was asked, and granted under the revision that it carries
+  pub grants : (i : ℕ) (carried : InFlightFacts) → in_flight facts.flight i ≡ Some carried
+      → (revision : ℕ) × (carried.grant ≡ grant_for carried.message.body carried.message.to revision)
   pub answers : (i : ℕ) (carried : InFlightFacts) → in_flight facts.flight i ≡ Some carried
-      → Answers (past_at_sending past.asked carried) facts.sent carried.message.from carried.message.to carried.message.incarnation carried.message.sequence carried.message.body
+      → Answers (past_at_sending past.asked carried) facts.sent carried.message.from carried.message.to
+      carried.message.incarnation carried.message.sequence carried.message.body
 
--- causes come first: a message is sent under a number above those before it, and a grant only for a request that was asked, and
--- granted last
+-- causes come first: a message is sent under a number above those before
+-- it, and a grant only for a request that was asked, and granted last
 abbrev pub IsCausal : Past → Facts → EventKind → Type 0
-IsCausal past facts (kinds.Message (Sent number message)) = (facts.sent < number) × Answers past facts.sent message.from message.to message.incarnation message.sequence message.body
+IsCausal past facts (kinds.Message (Sent number message)) = (facts.sent < number)
+    × Answers past facts.sent message.from message.to message.incarnation message.sequence message.body
 IsCausal past facts _ = Unit {0}
 
 -- each of these events is causal, and no leader key is created that is absent at once
 abbrev pub AreCausal : Past → Facts → List Event → Type 0
 AreCausal past facts [] = Unit {0}
-AreCausal past facts (event ∷ events) = IsSpanned event.kind × (IsCausal past facts event.kind × AreCausal (past_after past event.kind) (facts_after facts event.kind) events)
+AreCausal past facts (event ∷ events) = IsSpanned event.kind
+    × (IsCausal past facts event.kind × AreCausal (past_after past event.kind) (facts_after facts event.kind) events)
 
 -- the past has the keys and the messages in flight as the book leaves them
 pub record IsSameBook (past : Past) (facts : Facts) : Type 0 where

@@ -13,20 +13,32 @@ use Rattle.commit_actions.specs.Past.{Past, past_over, leader_revision, is_keyle
 -- what lease_law gives: where both laws see the same servers live and the same agents Ready
 pub record LeaseGives : Type 0 where
   -- both laws read one leader key of a book
-  pub leader : (p : lease_past.Past) (past : Past) (book : List Event) → p.clock ≡ past.clock → p.revision ≡ past.revision → p.leader ≡ past.leader → (lease_past.past_over p book).leader ≡ (past_over past book).leader
+  pub leader : (p : lease_past.Past) (past : Past) (book : List Event) → p.clock ≡ past.clock
+      → p.revision ≡ past.revision → p.leader ≡ past.leader
+      → (lease_past.past_over p book).leader ≡ (past_over past book).leader
   -- a grant that is heard in time is the present leader key
-  pub present : (s : lease.State) (m : ℕ) (heard : Option ℕ) → lease_carried.IsSound s → (fed : Fed s m heard) → IsOnTime (s.declared.margin m) s.clock fed.grant.moment → leader_revision s.leader ≡ Some fed.grant.revision
+  pub present : (s : lease.State) (m : ℕ) (heard : Option ℕ) → lease_carried.IsSound s → (fed : Fed s m heard)
+      → IsOnTime (s.declared.margin m) s.clock fed.grant.moment → leader_revision s.leader ≡ Some fed.grant.revision
   -- where no hold is active, nobody acts beside who hears it
-  pub alone : (s : lease.State) (members : ℕ → Machine) (m : ℕ) (heard : Option ℕ) → lease_carried.IsSound s → (fed : Fed s m heard) → IsOnTime (s.declared.margin m) s.clock fed.grant.moment → (s.members m).hold ≤ s.clock
-      → ((n : ℕ) → (members n).live ≡ (s.members n).live) → ((n : ℕ) → is_ready (members n).agent ≡ lease.is_ready (s.members n).agent) → (n : ℕ) → Acts (members n) → n ≡ m
+  pub alone : (s : lease.State) (members : ℕ → Machine) (m : ℕ) (heard : Option ℕ) → lease_carried.IsSound s
+      → (fed : Fed s m heard) → IsOnTime (s.declared.margin m) s.clock fed.grant.moment → (s.members m).hold ≤ s.clock
+      → ((n : ℕ) → (members n).live ≡ (s.members n).live)
+      → ((n : ℕ) → is_ready (members n).agent ≡ lease.is_ready (s.members n).agent) → (n : ℕ) → Acts (members n) → n ≡ m
   -- and one failsafe key
-  pub failsafe : (p : lease_past.Past) (past : Past) (book : List Event) → p.revision ≡ past.revision → p.failsafe ≡ past.failsafe → (lease_past.past_over p book).failsafe ≡ (past_over past book).failsafe
+  pub failsafe : (p : lease_past.Past) (past : Past) (book : List Event) → p.revision ≡ past.revision
+      → p.failsafe ≡ past.failsafe → (lease_past.past_over p book).failsafe ≡ (past_over past book).failsafe
   -- without a leader key and a failsafe key nobody acts
-  pub keyless : (s : lease.State) (members : ℕ → Machine) → lease_carried.IsSound s → is_keyless s.leader s.failsafe ≡ true
-      → ((n : ℕ) → (members n).live ≡ (s.members n).live) → ((n : ℕ) → is_ready (members n).agent ≡ lease.is_ready (s.members n).agent) → (n : ℕ) → Acts (members n) → ⊥
+  pub keyless : (s : lease.State) (members : ℕ → Machine) → lease_carried.IsSound s
+      → is_keyless s.leader s.failsafe ≡ true
+      → ((n : ℕ) → (members n).live ≡ (s.members n).live)
+      → ((n : ℕ) → is_ready (members n).agent ≡ lease.is_ready (s.members n).agent) → (n : ℕ) → Acts (members n) → ⊥
   -- without a leader key nobody is Ready
   pub leaderless : (s : lease.State) (members : ℕ → Machine) → lease_carried.IsSound s → s.leader ≡ None
-      → ((n : ℕ) → is_ready (members n).agent ≡ lease.is_ready (s.members n).agent) → (n : ℕ) → is_ready (members n).agent ≡ true → ⊥
-  -- where a member that isn't live has no active hold, and the failsafe key lists it, whoever is live holds the leader key
-  pub holds : (s : lease.State) (members : ℕ → Machine) (m : ℕ) → lease_carried.IsSound s → (s.members m).hold ≤ s.clock → ((f : FailsafeKey) → s.failsafe ≡ Some f → f.members m ≡ true) → (s.members m).live ≡ false
-      → ((n : ℕ) → (members n).live ≡ (s.members n).live) → (n : ℕ) → (members n).live ≡ true → (k : LeaderKey) × (s.leader ≡ Some k) × (k.holder ≡ n)
+      → ((n : ℕ) → is_ready (members n).agent ≡ lease.is_ready (s.members n).agent) → (n : ℕ)
+      → is_ready (members n).agent ≡ true → ⊥
+  -- where a member that isn't live has no active hold, and the
+  -- failsafe key lists it, whoever is live holds the leader key
+  pub holds : (s : lease.State) (members : ℕ → Machine) (m : ℕ) → lease_carried.IsSound s → (s.members m).hold ≤ s.clock
+      → ((f : FailsafeKey) → s.failsafe ≡ Some f → f.members m ≡ true) → (s.members m).live ≡ false
+      → ((n : ℕ) → (members n).live ≡ (s.members n).live) → (n : ℕ) → (members n).live ≡ true
+      → (k : LeaderKey) × (s.leader ≡ Some k) × (k.holder ≡ n)

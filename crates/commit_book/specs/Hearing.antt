@@ -20,8 +20,10 @@ snapshot_in carried keyless leaderless = Some (SnapshotSent (record {
   failsafe_revision = failsafe_revision_of (failsafe_key_of (find key_cmp keys.Failsafe carried.snapshot));
 }))
 
--- the answer of this number grants the lease of the leader key, under the revision that it carries, with the sync key of its snapshot
-pub record CarriesLease (past : Past) (i : ℕ) (carried : InFlightFacts) (member : Member) (incarnation sequence : ℕ) : Type 0 where
+-- the answer of this number grants the lease of the leader key, under
+-- the revision that it carries, with the sync key of its snapshot
+pub record CarriesLease (past : Past) (i : ℕ) (carried : InFlightFacts) (member : Member)
+    (incarnation sequence : ℕ) : Type 0 where
   pub revision : ℕ
   pub grant : carried.grant ≡ Some (record { revision = revision; by = member.id; leased = true })
   pub flying : past.flight i ≡ Some (LeaseGranted (record {
@@ -32,9 +34,10 @@ pub record CarriesLease (past : Past) (i : ℕ) (carried : InFlightFacts) (membe
     sync = sync_key_of (find key_cmp keys.Sync carried.snapshot);
   }))
 
--- the answer of this number grants a claim or a write of the sync key: that key of its snapshot is what was asked for, under the revision
--- that it carries
-pub record CarriesWrite (past : Past) (i : ℕ) (carried : InFlightFacts) (member : Member) (incarnation sequence : ℕ) (aim : Aim) : Type 0 where
+-- the answer of this number grants a claim or a write of the sync key: that key
+-- of its snapshot is what was asked for, under the revision that it carries
+pub record CarriesWrite (past : Past) (i : ℕ) (carried : InFlightFacts) (member : Member)
+    (incarnation sequence : ℕ) (aim : Aim) : Type 0 where
   pub revision : ℕ
   pub grant : carried.grant ≡ Some (record { revision = revision; by = member.id; leased = false })
   pub key : sync_key_of (find key_cmp keys.Sync carried.snapshot) ≡ Some (sync_key_by member.id.number revision aim)

@@ -25,10 +25,15 @@ sync_key_of (Some found_key) = sync_value found_key.value found_key.revision
 
 -- the clock and the keys of the lease in what commits read of a book, as the law of one writer has them
 abbrev pub lease_keys : Past → lease_past.Past
-lease_keys past = record lease_past.first_past { clock = past.clock; leader = past.leader; failsafe = past.failsafe; revision = past.revision }
+lease_keys past = record lease_past.first_past {
+  clock = past.clock;
+  leader = past.leader;
+  failsafe = past.failsafe;
+  revision = past.revision;
+}
 
--- the past has clock, revision, leader key and failsafe key as the key store of the book has them, and the sync key too, which has no
--- expiry: where it has an entry, it is present
+-- the past has clock, revision, leader key and failsafe key as the key store of the book
+-- has them, and the sync key too, which has no expiry: where it has an entry, it is present
 pub record IsSameKeys (past : Past) (facts : Facts) : Type 0 where
   pub lease : IsSameStore (lease_keys past) facts
   pub sync : past.sync ≡ sync_key_of (find key_cmp keys.Sync facts.keys.pairs)

@@ -42,7 +42,8 @@ IsOtherTxn (txns.DropFailover revision) = Unit {0}
 IsOtherTxn (txns.SetConfig revision config) = Unit {0}
 IsOtherTxn _ = ⊥
 
--- an event that one input of this member's agent may bring, but for those of its server and its log, which are actions of their own
+-- an event that one input of this member's agent may bring, but for
+-- those of its server and its log, which are actions of their own
 abbrev pub IsOwn : ℕ → EventKind → Type 0
 IsOwn m (kinds.Message happening) = Unit {0}
 IsOwn m (kinds.Watchdog (watchdogs.Reset member)) = ⊥

@@ -51,17 +51,23 @@ if-some true found end is = is
 if-some false found end is = absurd (none-some end is)
 
 -- where a log ends
-log-ends : (s : State) (m : ℕ) (found : Option Lsn) (log : Option (List Entry)) (end : Lsn) → found ≡ Some end → (s.members m).log ≡ log → IsEndOf found log → LogEndsAt s m end
+log-ends : (s : State) (m : ℕ) (found : Option Lsn) (log : Option (List Entry)) (end : Lsn) → found ≡ Some end
+    → (s.members m).log ≡ log → IsEndOf found log → LogEndsAt s m end
 log-ends s m None log end is at ends = absurd (none-some end is)
 log-ends s m (Some found) None end is at ends = absurd ends
-log-ends s m (Some found) (Some log) end is at ends = record { log = record { entries = log; is = at }; end_is = ap (λ (e : Lsn). e.position) (sym (some-is found end is)) ∙ ends }
+log-ends s m (Some found) (Some log) end is at ends = record {
+  log = record { entries = log; is = at };
+  end_is = ap (λ (e : Lsn). e.position) (sym (some-is found end is)) ∙ ends;
+}
 
 -- members stay
-members-over : (cluster : Cluster) (events : List Event) → (cluster_over cluster events).facts.members ≡ cluster.facts.members
+members-over : (cluster : Cluster) (events : List Event)
+    → (cluster_over cluster events).facts.members ≡ cluster.facts.members
 members-over cluster [] = refl
 members-over cluster (event ∷ events) = members-over (cluster_after cluster event.kind) events
 
-module _ (head : HeadText) (book : List Event) (cluster : Cluster) (good : CommitsBridged head book cluster) (few : member_count head ≤ MOST_MEMBERS) (a : Acting head book cluster)
+module _ (head : HeadText) (book : List Event) (cluster : Cluster) (good : CommitsBridged head book cluster)
+    (few : member_count head ≤ MOST_MEMBERS) (a : Acting head book cluster)
     (from : MemberId) (incarnation sequence : ℕ) (asked : a.heard ≡ Asked from incarnation sequence) where
   abbrev M : ℕ
   M = a.member.id.number
@@ -86,7 +92,9 @@ module _ (head : HeadText) (book : List Event) (cluster : Cluster) (good : Commi
   Answer = outputs.Answer from incarnation sequence Reply
 
   abbrev whole : Stood.outputs ++ Answer ∷ [] ≡ Outs
-  whole = ap (λ heard. (step (moment_of cluster) (points_of cluster a.member) heard (Before head book cluster good a)).outputs) (sym asked)
+  whole = ap
+      (λ heard. (step (moment_of cluster) (points_of cluster a.member) heard (Before head book cluster good a)).outputs)
+      (sym asked)
 
   abbrev covered : All IsCovered Stood.outputs
   covered = before-covered (moment_of cluster) (Before head book cluster good a) (All-nil IsCovered)
@@ -95,16 +103,24 @@ module _ (head : HeadText) (book : List Event) (cluster : Cluster) (good : Commi
   of_table = all-front IsOfTable Stood.outputs (Answer ∷ []) Outs whole (table head book cluster good a)
 
   pub unasking-all : All (IsUnasking false) Outs
-  unasking-all = subst (λ (l : List Output). All (IsUnasking false) l) whole (All-push (IsUnasking false) Stood.outputs Answer (unasking false Stood.outputs (covered-quiet false Stood.outputs covered)) tt)
+  unasking-all = subst (λ (l : List Output). All (IsUnasking false) l) whole
+      (All-push (IsUnasking false) Stood.outputs Answer
+      (unasking false Stood.outputs (covered-quiet false Stood.outputs covered)) tt)
 
   requires-none : All RequiresNone Outs
-  requires-none = subst (λ (l : List Output). All RequiresNone l) whole (All-push RequiresNone Stood.outputs Answer (All-weaker IsCarried RequiresNone carried-requires Stood.outputs (carried Stood.outputs covered)) tt)
+  requires-none = subst (λ (l : List Output). All RequiresNone l) whole
+      (All-push RequiresNone Stood.outputs Answer
+      (All-weaker IsCarried RequiresNone carried-requires Stood.outputs (carried Stood.outputs covered)) tt)
 
   begins-none : All BeginsNone Outs
-  begins-none = subst (λ (l : List Output). All BeginsNone l) whole (All-push BeginsNone Stood.outputs Answer (All-weaker IsCarried BeginsNone carried-begins Stood.outputs (carried Stood.outputs covered)) tt)
+  begins-none = subst (λ (l : List Output). All BeginsNone l) whole
+      (All-push BeginsNone Stood.outputs Answer
+      (All-weaker IsCarried BeginsNone carried-begins Stood.outputs (carried Stood.outputs covered)) tt)
 
   passes-none : All PassesNone Outs
-  passes-none = subst (λ (l : List Output). All PassesNone l) whole (All-push PassesNone Stood.outputs Answer (All-weaker IsCovered PassesNone covered-passes Stood.outputs covered) tt)
+  passes-none = subst (λ (l : List Output). All PassesNone l) whole
+      (All-push PassesNone Stood.outputs Answer
+      (All-weaker IsCovered PassesNone covered-passes Stood.outputs covered) tt)
 
   abbrev Upto : List Event
   Upto = Page head book cluster good a Stood.outputs (carried Stood.outputs covered) of_table
@@ -120,29 +136,50 @@ module _ (head : HeadText) (book : List Event) (cluster : Cluster) (good : Commi
 
   whole-events : Events head book cluster good a ≡ Upto ++ Replying
   whole-events =
-      ap (λ (l : List Output). Open head book cluster good a ∷ each (Part head book cluster good a) (First head book cluster good a) l) (sym whole)
-      ∙ ap (λ (l : List Event). Open head book cluster good a ∷ l) (each-last (Part head book cluster good a) (First head book cluster good a) Stood.outputs Answer)
+      ap (λ (l : List Output).
+      Open head book cluster good a ∷ each (Part head book cluster good a) (First head book cluster good a) l)
+      (sym whole)
+      ∙ ap (λ (l : List Event). Open head book cluster good a ∷ l)
+      (each-last (Part head book cluster good a) (First head book cluster good a) Stood.outputs Answer)
 
   -- the law's state behind the input
   abbrev Later : State
   Later = state_of Law (past_over P Upto) (volatile_of Reached)
 
   later-is : act (state_of_run head book cluster) (Input M (Theirs head book cluster good a None)) ≡ Later
-  later-is = sym (page-shown head book cluster good a Upto None page) ∙ ap (state_of Law (past_over P Upto)) (states-behind head book cluster good a Upto None page (none-begins Outs begins-none))
+  later-is = sym (page-shown head book cluster good a Upto None page)
+      ∙ ap (state_of Law (past_over P Upto))
+      (states-behind head book cluster good a Upto None page (none-begins Outs begins-none))
 
-  numbered : (m : ℕ) → IsNumbered ((state_of_run head book cluster).members m) incarnation sequence → IsNumbered (Later.members m) incarnation sequence
+  numbered : (m : ℕ) → IsNumbered ((state_of_run head book cluster).members m) incarnation sequence
+      → IsNumbered (Later.members m) incarnation sequence
   numbered m is = subst (λ (s : State). IsNumbered (s.members m) incarnation sequence) later-is
-      (numbered-by (state_of_run head book cluster) (Input M (Theirs head book cluster good a None)) ((Lawful head book cluster good few a None page.sent).lawful, given-none head book cluster good few a page.sent) m incarnation sequence is)
+      (numbered-by (state_of_run head book cluster) (Input M (Theirs head book cluster good a None)) (
+        (Lawful head book cluster good few a None page.sent).lawful,
+        given-none head book cluster good few a page.sent,
+      ) m incarnation sequence is)
 
   ends : ForSome Reply.end (LogEndsAt Later M)
   ends = λ end is. log-ends Later M a.machine.server.end (Later.members M).log end
-      (ap (λ (s : ServerStatus). s.end) (sym (before-behind (moment_of cluster) (Before head book cluster good a)).server) ∙ if-some (runs Stood.machine.server.state) Stood.machine.server.end end is) refl
-      (subst (λ (l : Option (List Entry)). IsEndOf a.machine.server.end l) log-same (stands head book cluster good a).end)
+      (ap (λ (s : ServerStatus). s.end)
+      (sym (before-behind (moment_of cluster) (Before head book cluster good a)).server)
+      ∙ if-some (runs Stood.machine.server.state) Stood.machine.server.end end is)
+      refl
+      (subst (λ (l : Option (List Entry)). IsEndOf a.machine.server.end l) log-same
+      (stands head book cluster good a).end)
     where
       log-same : ((state_of_run head book cluster).members M).log ≡ (Later.members M).log
-      log-same = ap (λ (t : Told). log_found (slice_get t.logs M)) (sym (front-told head book cluster good a Stood.outputs (carried Stood.outputs covered) of_table))
+      log-same = ap (λ (t : Told). log_found (slice_get t.logs M))
+          (sym (front-told head book cluster good a Stood.outputs (carried Stood.outputs covered) of_table))
 
-  pub answers-moves : ((peer : Member) → slice_get cluster.facts.members from.number ≡ Some peer → IsNumbered ((state_of_run head book cluster).members peer.id.number) incarnation sequence) → Moves Law P cluster (Events head book cluster good a)
+  pub answers-moves : ((peer : Member) → slice_get cluster.facts.members from.number ≡ Some peer →
+      IsNumbered ((state_of_run head book cluster).members peer.id.number) incarnation sequence)
+      → Moves Law P cluster (Events head book cluster good a)
   answers-moves asks = subst (λ (l : List Event). Moves Law P cluster l) (sym whole-events)
-      (moves-then Law P cluster Upto Replying (page-moves head book cluster good a Upto None page (none-begins Outs begins-none) (given-none head book cluster good few a page.sent))
-      (λ fits. answer-moves Law a.member (past_over P Upto) Reached from incarnation sequence Reply fits (λ peer is. numbered peer.id.number (asks peer (ap (λ (members : List Member). slice_get members from.number) (sym (members-over cluster Upto)) ∙ is))) ends))
+      (moves-then Law P cluster Upto Replying
+      (page-moves head book cluster good a Upto None page (none-begins Outs begins-none)
+      (given-none head book cluster good few a page.sent))
+      (λ fits. answer-moves Law a.member (past_over P Upto) Reached from incarnation sequence Reply fits
+      (λ peer is. numbered peer.id.number (asks peer
+      (ap (λ (members : List Member). slice_get members from.number) (sym (members-over cluster Upto)) ∙ is)))
+      ends))

@@ -1,4 +1,5 @@
--- An input whose last output asks the key store: the law's input covers all up to that question, which may be lost at once.
+-- An input whose last output asks the key store: the law's input
+-- covers all up to that question, which may be lost at once.
 use Rattle.std.proofs.Common.{ℕ, ◌≡◌, ◌≤◌, ◌<◌, ◌+◌, ◌&&◌, ◌||◌, nat_le, Bool, true, false, List, [], ◌∷◌, ◌++◌, append_assoc, length, Option, Some, None, option_map, slice_get, All, refl, sym, ap, ◌∙◌, subst, arith}
 use Rattle.std.proofs.Math.Bool.{or-false}
 use Rattle.std.proofs.lemmas.List.Elements.{All-head, All-push, All-tail, All-weaker}
@@ -86,7 +87,9 @@ query-flying LeaseQuery = refl
 query-flying (CarryQuery member revision) = refl
 query-flying OtherQuery = refl
 
-body-flying : (member incarnation sequence : ℕ) (body : Body) → request_in_flight_of member incarnation sequence body ≡ option_map Requested (request_of_body member incarnation sequence body)
+body-flying : (member incarnation sequence : ℕ) (body : Body)
+    → request_in_flight_of member incarnation sequence body
+    ≡ option_map Requested (request_of_body member incarnation sequence body)
 body-flying member incarnation sequence (bodies.Request txn) = query-flying (query_of member incarnation sequence txn)
 body-flying member incarnation sequence _ = refl
 
@@ -94,59 +97,76 @@ body-flying member incarnation sequence _ = refl
 abbrev carries_in : Body → Bool
 carries_in body = is_carrying (outputs.Send targets.Store 0 body)
 
-live-renew : (was : Bool) (leader : Option LeaderKey) (m revision : ℕ) (info : MemberInfo) (ttl : Ticks) (status : Option Lsn) (row : Option HistoryRow) (failsafe : Option MemberSet)
-    → was_live_by_txn was leader m (txns.Renew revision info ttl status row failsafe) ≡ (was || (carries_in (bodies.Request (txns.Renew revision info ttl status row failsafe)) && is_holder leader m))
+live-renew : (was : Bool) (leader : Option LeaderKey) (m revision : ℕ) (info : MemberInfo) (ttl : Ticks)
+    (status : Option Lsn) (row : Option HistoryRow) (failsafe : Option MemberSet)
+    → was_live_by_txn was leader m (txns.Renew revision info ttl status row failsafe)
+    ≡ (was || (carries_in (bodies.Request (txns.Renew revision info ttl status row failsafe)) && is_holder leader m))
 live-renew was leader m revision info ttl status row None = sym (or-false was)
 live-renew was leader m revision info ttl status row (Some members) = refl
 
-live-txn : (was : Bool) (leader : Option LeaderKey) (m : ℕ) (txn : Txn) → was_live_by_txn was leader m txn ≡ (was || (carries_in (bodies.Request txn) && is_holder leader m))
-live-txn was leader m (txns.Renew revision info ttl status row failsafe) = live-renew was leader m revision info ttl status row failsafe
+live-txn : (was : Bool) (leader : Option LeaderKey) (m : ℕ) (txn : Txn)
+    → was_live_by_txn was leader m txn ≡ (was || (carries_in (bodies.Request txn) && is_holder leader m))
+live-txn was leader m (txns.Renew revision info ttl status row failsafe) =
+    live-renew was leader m revision info ttl status row failsafe
 live-txn was leader m _ = sym (or-false was)
 
-live-body : (was : Bool) (leader : Option LeaderKey) (by : Member) (body : Body) → was_live_by_message was leader (ends.Member by) body ≡ (was || (carries_in body && is_holder leader by.id.number))
+live-body : (was : Bool) (leader : Option LeaderKey) (by : Member) (body : Body)
+    → was_live_by_message was leader (ends.Member by) body ≡ (was || (carries_in body && is_holder leader by.id.number))
 live-body was leader by (bodies.Request txn) = live-txn was leader by.id.number txn
 live-body was leader by _ = sym (or-false was)
 
 -- under whatever number, behind outputs that ask for none
-carries-last : (front : List Output) (sequence : ℕ) (body : Body) → All (IsUnasking false) front → has_one is_carrying (front ++ outputs.Send targets.Store sequence body ∷ []) ≡ carries_in body
+carries-last : (front : List Output) (sequence : ℕ) (body : Body) → All (IsUnasking false) front
+    → has_one is_carrying (front ++ outputs.Send targets.Store sequence body ∷ []) ≡ carries_in body
 carries-last [] sequence (bodies.Request (txns.Renew revision info ttl status row None)) all = refl
 carries-last [] sequence (bodies.Request (txns.Renew revision info ttl status row (Some members))) all = refl
 carries-last [] sequence _ all = refl
 carries-last (output ∷ front) sequence body all =
-    ap (λ (b : Bool). b || has_one is_carrying (front ++ outputs.Send targets.Store sequence body ∷ [])) (uncarried output (All-head (IsUnasking false) output front all)) ∙ carries-last front sequence body (All-tail (IsUnasking false) output front all)
+    ap (λ (b : Bool). b || has_one is_carrying (front ++ outputs.Send targets.Store sequence body ∷ []))
+    (uncarried output (All-head (IsUnasking false) output front all))
+    ∙ carries-last front sequence body (All-tail (IsUnasking false) output front all)
 
 -- what is sent under a number, if it is a request that the law knows
 abbrev sending_under : ℕ → Option SyncRequest → Option Sending
-sending_under number request = option_map (λ (r : SyncRequest). let sending : Sending = record { number = number; request = r } in sending) request
+sending_under number request =
+    option_map (λ (r : SyncRequest). let sending : Sending = record { number = number; request = r } in sending) request
 
-sent-under : (number : ℕ) (request : Option SyncRequest) → IsSent (cons_option request []) (sending_under number request)
+sent-under : (number : ℕ) (request : Option SyncRequest)
+    → IsSent (cons_option request []) (sending_under number request)
 sent-under number None = refl
 sent-under number (Some request) = (number, refl)
 
-flight-under : (request : Option SyncRequest) (f g : ℕ → Option Flying) (number i : ℕ) → f number ≡ None → ((n : ℕ) → f n ≡ g n) → put_at f number (option_map Requested request) i ≡ send (sending_under number request) g i
+flight-under : (request : Option SyncRequest) (f g : ℕ → Option Flying) (number i : ℕ) → f number ≡ None
+    → ((n : ℕ) → f n ≡ g n) → put_at f number (option_map Requested request) i ≡ send (sending_under number request) g i
 flight-under None f g number i none same = put-none f number i none ∙ same i
 flight-under (Some request) f g number i none same =
-    put-all f number (Some (Requested request)) (λ n found. found ≡ put_at g number (Some (Requested request)) n) (sym (put-here g number (Some (Requested request))))
+    put-all f number (Some (Requested request)) (λ n found. found ≡ put_at g number (Some (Requested request)) n)
+    (sym (put-here g number (Some (Requested request))))
     (λ n other. same n ∙ sym (put-there g number (Some (Requested request)) n other)) i
 
 pub last-of : (P : Output → Type 0) (front : List Output) (last : Output) → All P (front ++ last ∷ []) → P last
 last-of P [] last all = All-head P last [] all
 last-of P (output ∷ front) last all = last-of P front last (All-tail P output (front ++ last ∷ []) all)
 
-lost-aside : (cluster : Cluster) (test : Bool) (number : ℕ) → AllLeaveOrder (events_of cluster (lost_at_once test number))
+lost-aside : (cluster : Cluster) (test : Bool) (number : ℕ)
+    → AllLeaveOrder (events_of cluster (lost_at_once test number))
 lost-aside cluster true number = (tt, tt)
 lost-aside cluster false number = tt
 
-lost-ordered : (past : Past) (cluster : Cluster) (test : Bool) (number : ℕ) → AllInOrder past cluster (events_of cluster (lost_at_once test number))
+lost-ordered : (past : Past) (cluster : Cluster) (test : Bool) (number : ℕ)
+    → AllInOrder past cluster (events_of cluster (lost_at_once test number))
 lost-ordered past cluster true number = (tt, tt)
 lost-ordered past cluster false number = tt
 
-lost-leave : (cluster : Cluster) (test : Bool) (number : ℕ) → AllLeaveCommits (events_of cluster (lost_at_once test number))
+lost-leave : (cluster : Cluster) (test : Bool) (number : ℕ)
+    → AllLeaveCommits (events_of cluster (lost_at_once test number))
 lost-leave cluster true number = (tt, tt)
 lost-leave cluster false number = tt
 
-module _ (head : HeadText) (book : List Event) (cluster : Cluster) (good : CommitsBridged head book cluster) (few : member_count head ≤ MOST_MEMBERS) (a : Acting head book cluster)
-    (front : List Output) (sequence : ℕ) (body : Body) (all : All IsCarried front) (whole : front ++ outputs.Send targets.Store sequence body ∷ [] ≡ (After head book cluster good a).outputs) where
+module _ (head : HeadText) (book : List Event) (cluster : Cluster) (good : CommitsBridged head book cluster)
+    (few : member_count head ≤ MOST_MEMBERS) (a : Acting head book cluster)
+    (front : List Output) (sequence : ℕ) (body : Body) (all : All IsCarried front)
+    (whole : front ++ outputs.Send targets.Store sequence body ∷ [] ≡ (After head book cluster good a).outputs) where
   abbrev M : ℕ
   M = a.member.id.number
 
@@ -184,7 +204,8 @@ module _ (head : HeadText) (book : List Event) (cluster : Cluster) (good : Commi
   Asked = event_of Reached Kind
 
   abbrev Lost : List Event
-  Lost = events_of (cluster_after Reached Kind) (lost_at_once (nat_le most_in_flight (length Reached.facts.flight)) Number)
+  Lost =
+      events_of (cluster_after Reached Kind) (lost_at_once (nat_le most_in_flight (length Reached.facts.flight)) Number)
 
   abbrev Covered : List Event
   Covered = Upto ++ Asked
@@ -195,22 +216,34 @@ module _ (head : HeadText) (book : List Event) (cluster : Cluster) (good : Commi
 
   asks-is : Part head book cluster good a Reached Question ≡ Asked ++ Lost
   asks-is =
-      ap (λ (o : Option AgentProcess). sending_events Reached a.member o (Some ends.Store) sequence body) (ap (λ (l : List AgentProcess). slice_get l M) (front-processes head book cluster good a front all of_table) ∙ knows.is)
-      ∙ ap (λ (incarnation : ℕ). send_events Reached (agent_message a.member ends.Store incarnation sequence body)) (sym knows.incarnation)
+      ap (λ (o : Option AgentProcess). sending_events Reached a.member o (Some ends.Store) sequence body)
+      (ap (λ (l : List AgentProcess). slice_get l M) (front-processes head book cluster good a front all of_table)
+      ∙ knows.is)
+      ∙ ap (λ (incarnation : ℕ). send_events Reached (agent_message a.member ends.Store incarnation sequence body))
+      (sym knows.incarnation)
 
   whole-events : Events head book cluster good a ≡ Covered ++ Lost
   whole-events =
-      ap (λ (l : List Output). Open head book cluster good a ∷ each (Part head book cluster good a) (First head book cluster good a) l) (sym whole)
-      ∙ ap (λ (l : List Event). Open head book cluster good a ∷ l) (each-last (Part head book cluster good a) (First head book cluster good a) front Question)
+      ap (λ (l : List Output).
+      Open head book cluster good a ∷ each (Part head book cluster good a) (First head book cluster good a) l)
+      (sym whole)
+      ∙ ap (λ (l : List Event). Open head book cluster good a ∷ l)
+      (each-last (Part head book cluster good a) (First head book cluster good a) front Question)
       ∙ ap (λ (l : List Event). Upto ++ l) asks-is
       ∙ sym (append_assoc Upto Asked Lost)
 
   -- ---- what the law knows of it
-  below : KnowsBelow (member_count head) a.heard (record { role = a.agent.role; knows = a.agent.knows; machine = a.machine; outputs = [] })
-  below = record { published = a.below; connected = connected-member head book cluster good few a.member a.machine a.machine_is }
+  below : KnowsBelow (member_count head) a.heard
+      (record { role = a.agent.role; knows = a.agent.knows; machine = a.machine; outputs = [] })
+  below = record {
+    published = a.below;
+    connected = connected-member head book cluster good few a.member a.machine a.machine_is;
+  }
 
   synchronous : IsSynchronousBody (member_count head) strict_quorum body
-  synchronous = last-of (IsSynchronousOutput (member_count head) strict_quorum) front Question (subst (λ (l : List Output). All (IsSynchronousOutput (member_count head) strict_quorum) l) (sym whole) ((stays-on head book cluster good a).sends (member_count head) below))
+  synchronous = last-of (IsSynchronousOutput (member_count head) strict_quorum) front Question
+      (subst (λ (l : List Output). All (IsSynchronousOutput (member_count head) strict_quorum) l) (sym whole)
+      ((stays-on head book cluster good a).sends (member_count head) below))
 
   abbrev Request : Option SyncRequest
   Request = request_of_body M a.agent.knows.incarnation sequence body
@@ -223,10 +256,12 @@ module _ (head : HeadText) (book : List Event) (cluster : Cluster) (good : Commi
 
   sent : IsSent (requests_of M a.agent.knows.incarnation Outs) Sends
   sent = subst (λ (l : List Output). IsSent (requests_of M a.agent.knows.incarnation l) Sends) whole
-      (subst (λ (l : List SyncRequest). IsSent l Sends) (sym (asks-last false M a.agent.knows.incarnation front Question still)) (sent-under Number Request))
+      (subst (λ (l : List SyncRequest). IsSent l Sends)
+      (sym (asks-last false M a.agent.knows.incarnation front Question still)) (sent-under Number Request))
 
   none-reached : NoneAbove (past_over P Upto) Reached
-  none-reached = none-later M _ (First head book cluster good a) _ (fronts head book cluster good a front all of_table) (first-none head book cluster good a front all of_table)
+  none-reached = none-later M _ (First head book cluster good a) _
+      (fronts head book cluster good a front all of_table) (first-none head book cluster good a front all of_table)
 
   past-both : past_over P Covered ≡ past_after (past_over P Upto) Kind
   past-both = past-append P Upto Asked
@@ -235,15 +270,19 @@ module _ (head : HeadText) (book : List Event) (cluster : Cluster) (good : Commi
   reached-both = over-append cluster Upto Asked
 
   requires-none : All RequiresNone Outs
-  requires-none = subst (λ (l : List Output). All RequiresNone l) whole (All-push RequiresNone front Question (All-weaker IsCarried RequiresNone carried-requires front all) tt)
+  requires-none = subst (λ (l : List Output). All RequiresNone l) whole
+      (All-push RequiresNone front Question (All-weaker IsCarried RequiresNone carried-requires front all) tt)
 
   begins-none : All BeginsNone Outs
-  begins-none = subst (λ (l : List Output). All BeginsNone l) whole (All-push BeginsNone front Question (All-weaker IsCarried BeginsNone carried-begins front all) tt)
+  begins-none = subst (λ (l : List Output). All BeginsNone l) whole
+      (All-push BeginsNone front Question (All-weaker IsCarried BeginsNone carried-begins front all) tt)
 
   flight-now : (i : ℕ) → (past_after (past_over P Upto) Kind).flight i ≡ send Sends (forget a.number P.flight) i
   flight-now i =
-      ap (λ (o : Option Flying). put_at (past_over P Upto).flight Number o i) (body-flying M a.agent.knows.incarnation sequence body)
-      ∙ flight-under Request (past_over P Upto).flight (forget a.number P.flight) Number i (none-reached Number (next Reached.facts.sent)) (front-flight head book cluster good a front all of_table)
+      ap (λ (o : Option Flying). put_at (past_over P Upto).flight Number o i)
+      (body-flying M a.agent.knows.incarnation sequence body)
+      ∙ flight-under Request (past_over P Upto).flight (forget a.number P.flight) Number i
+      (none-reached Number (next Reached.facts.sent)) (front-flight head book cluster good a front all of_table)
     where
       next : (n : ℕ) → n < n + 1
       next n = omega arith
@@ -261,50 +300,71 @@ module _ (head : HeadText) (book : List Event) (cluster : Cluster) (good : Commi
     leaves = asked-leaves;
     once = once-none Covered asked-aside;
     flight = λ i. ap (λ (p : Past). p.flight i) past-both ∙ flight-now i;
-    live = ap (λ (p : Past). p.holder_was_live) past-both ∙ live-body (past_over P Upto).holder_was_live (past_over P Upto).leader a.member body
-        ∙ ap (λ (was : Bool). was || (carries_in body && is_holder (past_over P Upto).leader M)) (front-live head book cluster good a front all of_table)
-        ∙ ap (λ (leader : Option LeaderKey). P.holder_was_live || (carries_in body && is_holder leader M)) (front-leads head book cluster good a front all of_table)
-        ∙ ap (λ (carries : Bool). P.holder_was_live || (carries && is_holder P.leader M)) (sym (carries-last front sequence body still) ∙ ap (has_one is_carrying) whole);
-    needs = ap (λ (p : Past). confirmers_of (slice_get p.required M)) past-both ∙ front-needs head book cluster good a front all of_table requires-none;
+    live = ap (λ (p : Past). p.holder_was_live) past-both
+        ∙ live-body (past_over P Upto).holder_was_live (past_over P Upto).leader a.member body
+        ∙ ap (λ (was : Bool). was || (carries_in body && is_holder (past_over P Upto).leader M))
+        (front-live head book cluster good a front all of_table)
+        ∙ ap (λ (leader : Option LeaderKey). P.holder_was_live || (carries_in body && is_holder leader M))
+        (front-leads head book cluster good a front all of_table)
+        ∙ ap (λ (carries : Bool). P.holder_was_live || (carries && is_holder P.leader M))
+        (sym (carries-last front sequence body still) ∙ ap (has_one is_carrying) whole);
+    needs = ap (λ (p : Past). confirmers_of (slice_get p.required M)) past-both
+        ∙ front-needs head book cluster good a front all of_table requires-none;
     acted = ap (λ (c : Cluster). c.agents) reached-both ∙ front-acted head book cluster good a front all of_table;
-    lives = λ n. ap (λ (c : Cluster). live_in c.facts.servers n) reached-both ∙ front-lives head book cluster good a front all of_table n;
+    lives = λ n. ap (λ (c : Cluster). live_in c.facts.servers n) reached-both
+        ∙ front-lives head book cluster good a front all of_table n;
     fits = λ states lives.
         subst (λ (p : Past). Fits p (cluster_over cluster Covered).facts states) (sym past-both)
         (subst (λ (c : Cluster). Fits (past_after (past_over P Upto) Kind) c.facts states) (sym reached-both)
-        (fits-aside (past_over P Upto) Reached.facts states Kind tt (front-fits head book cluster good a front all of_table states lives)));
+        (fits-aside (past_over P Upto) Reached.facts states Kind tt
+        (front-fits head book cluster good a front all of_table states lives)));
     sent = record { sent = sent; inside = inside };
   }
 
   -- what it brings changes nothing of which commits being kept speaks
   pub asks-leave : AllLeaveCommits (Events head book cluster good a)
-  asks-leave = subst (λ (l : List Event). AllLeaveCommits l) (sym whole-events) (leave-both Covered Lost asked-leaves (lost-leave (cluster_after Reached Kind) (nat_le most_in_flight (length Reached.facts.flight)) Number))
+  asks-leave = subst (λ (l : List Event). AllLeaveCommits l) (sym whole-events)
+      (leave-both Covered Lost asked-leaves
+      (lost-leave (cluster_after Reached Kind) (nat_le most_in_flight (length Reached.facts.flight)) Number))
 
   -- nor of which their order speaks
   pub asks-aside : AllLeaveOrder (Events head book cluster good a)
-  asks-aside = subst (λ (l : List Event). AllLeaveOrder l) (sym whole-events) (leave-then Covered Lost asked-aside (lost-aside (cluster_after Reached Kind) (nat_le most_in_flight (length Reached.facts.flight)) Number))
+  asks-aside = subst (λ (l : List Event). AllLeaveOrder l) (sym whole-events)
+      (leave-then Covered Lost asked-aside
+      (lost-aside (cluster_after Reached Kind) (nat_le most_in_flight (length Reached.facts.flight)) Number))
 
   -- ---- who asks to publish does so in order
   here-behind : slice_get Reached.agents M ≡ Some (agent_after (Some (After head book cluster good a)) (Some a.agent))
-  here-behind = ap (λ (known : List (Option AgentFacts)). slice_get known M) (front-acted head book cluster good a front all of_table) ∙ get-here cluster.agents M (agent_after (Some (After head book cluster good a))) ∙ ap (option_map (agent_after (Some (After head book cluster good a)))) a.here
+  here-behind =
+      ap (λ (known : List (Option AgentFacts)). slice_get known M)
+      (front-acted head book cluster good a front all of_table)
+      ∙ get-here cluster.agents M (agent_after (Some (After head book cluster good a)))
+      ∙ ap (option_map (agent_after (Some (After head book cluster good a)))) a.here
 
   seen-same : seen_of (past_over P Upto) ≡ seen_of P
   seen-same = all-aside P Upto (front-aside head book cluster good a front all of_table)
 
-  publishes-as : has_one is_claim_outside_sync Outs ≡ false → (revision : ℕ) (sync : Expected) (standbys : MemberSet) → bodies.Request (txns.SetSync revision sync standbys) ≡ body
-      → PublishesAwaited P M (noted_position (After head book cluster good a).knows.noted) (publish_request M a.agent.knows.incarnation sequence revision sync standbys) (set_members standbys)
+  publishes-as : has_one is_claim_outside_sync Outs ≡ false → (revision : ℕ) (sync : Expected) (standbys : MemberSet)
+      → bodies.Request (txns.SetSync revision sync standbys) ≡ body
+      → PublishesAwaited P M (noted_position (After head book cluster good a).knows.noted)
+      (publish_request M a.agent.knows.incarnation sequence revision sync standbys) (set_members standbys)
   publishes-as inside revision sync standbys is =
       let written : ℕ = quorum_written (txns.SetSync revision sync standbys) in
       let noted : ℕ = noted_position (After head book cluster good a).knows.noted in
       let request : SyncRequest = publish_request M a.agent.knows.incarnation sequence revision sync standbys in
-      let on : IsSynchronousTxn (member_count head) strict_quorum (txns.SetSync revision sync standbys) = subst (λ (b : Body). IsSynchronousBody (member_count head) strict_quorum b) (sym is) synchronous in
+      let on : IsSynchronousTxn (member_count head) strict_quorum (txns.SetSync revision sync standbys) =
+      subst (λ (b : Body). IsSynchronousBody (member_count head) strict_quorum b) (sym is) synchronous in
       strict-publication (member_count head) P M noted request (set_members standbys)
-      (subst (λ (quorum : ℕ). MayBePublished (member_count head) P M noted request (set_members standbys) quorum) (none-less written on.1)
-      (publication (setup_of head) P (volatile_of cluster) M (Theirs head book cluster good a Sends) (record { number = Number; request = request }) (set_members standbys) written
+      (subst (λ (quorum : ℕ). MayBePublished (member_count head) P M noted request (set_members standbys) quorum)
+      (none-less written on.1)
+      (publication (setup_of head) P (volatile_of cluster) M (Theirs head book cluster good a Sends)
+      (record { number = Number; request = request }) (set_members standbys) written
       good.sound good.noted (Lawful head book cluster good few a Sends (page inside).sent).lawful
       (ap (λ (b : Body). sending_under Number (request_of_body M a.agent.knows.incarnation sequence b)) (sym is)) refl))
       on.0
 
-  asked-ordered : has_one is_claim_outside_sync Outs ≡ false → (b : Body) → b ≡ body → AsksInOrder (past_over P Upto) Reached (ends.Member a.member) a.agent.knows.incarnation sequence b
+  asked-ordered : has_one is_claim_outside_sync Outs ≡ false → (b : Body) → b ≡ body
+      → AsksInOrder (past_over P Upto) Reached (ends.Member a.member) a.agent.knows.incarnation sequence b
   asked-ordered inside (bodies.Request (txns.SetSync revision sync standbys)) is =
       let at-first = publishes-as inside revision sync standbys is in
       record {
@@ -312,33 +372,49 @@ module _ (head : HeadText) (book : List Event) (cluster : Cluster) (good : Commi
         is = ap (λ (seen : Seen). seen.sync) seen-same ∙ at-first.is;
         compares = at-first.compares;
         awaited = λ standby named.
-            subst (λ (required : List Required). IsConfirmer (confirmers_of (slice_get required M)) standby) (sym (ap (λ (seen : Seen). seen.required) seen-same)) (at-first.awaited standby named);
+            subst (λ (required : List Required). IsConfirmer (confirmers_of (slice_get required M)) standby)
+            (sym (ap (λ (seen : Seen). seen.required) seen-same)) (at-first.awaited standby named);
         confirmed = λ standby named added.
-            subst (λ (noted : ℕ). Reaches noted (position_of (slice_get (past_over P Upto).confirmed M) standby)) (sym (ap noted_by here-behind))
-            (subst (λ (told : Told). Reaches (noted_position (After head book cluster good a).knows.noted) (position_of (slice_get told.confirmed M) standby)) (sym (front-told head book cluster good a front all of_table))
+            subst (λ (noted : ℕ). Reaches noted (position_of (slice_get (past_over P Upto).confirmed M) standby))
+            (sym (ap noted_by here-behind))
+            (subst (λ (told : Told). Reaches (noted_position (After head book cluster good a).knows.noted)
+            (position_of (slice_get told.confirmed M) standby))
+            (sym (front-told head book cluster good a front all of_table))
             (at-first.confirmed standby named added));
         since = λ standby named added.
-            subst (λ (grown : ℕ → ℕ). Reaches (grown M) (position_of (slice_get (past_over P Upto).confirmed M) standby)) (sym (ap (λ (seen : Seen). seen.grown) seen-same))
-            (subst (λ (told : Told). Reaches (P.grown M) (position_of (slice_get told.confirmed M) standby)) (sym (front-told head book cluster good a front all of_table))
+            subst (λ (grown : ℕ → ℕ).
+            Reaches (grown M) (position_of (slice_get (past_over P Upto).confirmed M) standby))
+            (sym (ap (λ (seen : Seen). seen.grown) seen-same))
+            (subst (λ (told : Told). Reaches (P.grown M) (position_of (slice_get told.confirmed M) standby))
+            (sym (front-told head book cluster good a front all of_table))
             (at-first.since standby named added));
       }
   asked-ordered inside _ is = tt
 
-  pub inside-ordered : has_one is_claim_outside_sync Outs ≡ false → AsksInOrder (past_over P Upto) Reached (ends.Member a.member) a.agent.knows.incarnation sequence body
+  pub inside-ordered : has_one is_claim_outside_sync Outs ≡ false
+      → AsksInOrder (past_over P Upto) Reached (ends.Member a.member) a.agent.knows.incarnation sequence body
   inside-ordered inside = asked-ordered inside body refl
 
-  pub asks-ordered : AsksInOrder (past_over P Upto) Reached (ends.Member a.member) a.agent.knows.incarnation sequence body → AllInOrder P cluster (Events head book cluster good a)
+  pub asks-ordered : AsksInOrder (past_over P Upto) Reached
+      (ends.Member a.member) a.agent.knows.incarnation sequence body
+      → AllInOrder P cluster (Events head book cluster good a)
   asks-ordered asked = subst (λ (l : List Event). AllInOrder P cluster l) (sym whole-events)
       (order-then P cluster Covered Lost
       (order-then P cluster Upto Asked (front-ordered head book cluster good a front all of_table) (asked, tt))
       (subst (λ (c : Cluster). AllInOrder (past_over P Covered) c Lost) (sym reached-both)
-      (lost-ordered (past_over P Covered) (cluster_after Reached Kind) (nat_le most_in_flight (length Reached.facts.flight)) Number)))
+      (lost-ordered (past_over P Covered) (cluster_after Reached Kind)
+      (nat_le most_in_flight (length Reached.facts.flight)) Number)))
 
   -- it is allowed actions, where the timed lease gives what it is to
   pub asks-moves : (inside : has_one is_claim_outside_sync Outs ≡ false)
-      → IsGivenByLease (state_of_run head book cluster) M (Theirs head book cluster good a Sends) (Lawful head book cluster good few a Sends (page inside).sent).lawful.was (Lawful head book cluster good few a Sends (page inside).sent).lawful.does
+      → IsGivenByLease (state_of_run head book cluster) M (Theirs head book cluster good a Sends)
+      (Lawful head book cluster good few a Sends (page inside).sent).lawful.was
+      (Lawful head book cluster good few a Sends (page inside).sent).lawful.does
       → Moves Law P cluster (Events head book cluster good a)
   asks-moves inside given = subst (λ (l : List Event). Moves Law P cluster l) (sym whole-events)
-      (moves-then Law P cluster Covered Lost (page-moves head book cluster good a Covered Sends (page inside) (none-begins Outs begins-none) given)
+      (moves-then Law P cluster Covered Lost
+      (page-moves head book cluster good a Covered Sends (page inside) (none-begins Outs begins-none) given)
       (λ fits. subst (λ (c : Cluster). Moves Law (past_over P Covered) c Lost) (sym reached-both)
-      (lost-moves Law (past_over P Covered) (cluster_after Reached Kind) (nat_le most_in_flight (length Reached.facts.flight)) Number (subst (λ (c : Cluster). Fits (past_over P Covered) c.facts (volatile_of c)) reached-both fits))))
+      (lost-moves Law (past_over P Covered) (cluster_after Reached Kind)
+      (nat_le most_in_flight (length Reached.facts.flight)) Number
+      (subst (λ (c : Cluster). Fits (past_over P Covered) c.facts (volatile_of c)) reached-both fits))))

@@ -29,13 +29,44 @@ pub record Opens (m : ℕ) (heard : Option ℕ) (past : Past) (cluster : Cluster
   pub processes : (cluster_after cluster kind).facts.processes ≡ cluster.facts.processes
   pub sent : (cluster_after cluster kind).facts.sent ≡ cluster.facts.sent
 
-pub opens : (m : ℕ) (heard : Option ℕ) (past : Past) (cluster : Cluster) (kind : EventKind) → IsOpening heard kind → Opens m heard past cluster kind
+pub opens : (m : ℕ) (heard : Option ℕ) (past : Past) (cluster : Cluster) (kind : EventKind)
+    → IsOpening heard kind → Opens m heard past cluster kind
 opens m heard past cluster (kinds.Agent (agents.Woken by)) is =
-    record { flight = λ i. ap (λ (h : Option ℕ). forget h past.flight i) (sym is); live = refl; leader = refl; told = refl; servers = refl; commits = refl; acknowledged = refl; processes = refl; sent = refl }
+    record {
+      flight = λ i. ap (λ (h : Option ℕ). forget h past.flight i) (sym is);
+      live = refl;
+      leader = refl;
+      told = refl;
+      servers = refl;
+      commits = refl;
+      acknowledged = refl;
+      processes = refl;
+      sent = refl;
+    }
 opens m heard past cluster (kinds.Agent (agents.Operated by action)) is =
-    record { flight = λ i. ap (λ (h : Option ℕ). forget h past.flight i) (sym is); live = refl; leader = refl; told = refl; servers = refl; commits = refl; acknowledged = refl; processes = refl; sent = refl }
+    record {
+      flight = λ i. ap (λ (h : Option ℕ). forget h past.flight i) (sym is);
+      live = refl;
+      leader = refl;
+      told = refl;
+      servers = refl;
+      commits = refl;
+      acknowledged = refl;
+      processes = refl;
+      sent = refl;
+    }
 opens m heard past cluster (kinds.Message (Delivered number)) is =
-    record { flight = λ i. ap (λ (h : Option ℕ). forget h past.flight i) (sym is); live = refl; leader = refl; told = refl; servers = refl; commits = refl; acknowledged = refl; processes = refl; sent = refl }
+    record {
+      flight = λ i. ap (λ (h : Option ℕ). forget h past.flight i) (sym is);
+      live = refl;
+      leader = refl;
+      told = refl;
+      servers = refl;
+      commits = refl;
+      acknowledged = refl;
+      processes = refl;
+      sent = refl;
+    }
 opens m heard past cluster _ is = absurd is
 
 forgot-none : (heard : Option ℕ) (flight : ℕ → Option Flying) (i : ℕ) → flight i ≡ None → forget heard flight i ≡ None
@@ -46,11 +77,15 @@ forgot-none (Some number) flight i is = by (i == number)
     by true = refl
     by false = is
 
-pub opened-none : (m : ℕ) (heard : Option ℕ) (past : Past) (cluster : Cluster) (kind : EventKind) → Opens m heard past cluster kind → NoneAbove past cluster → NoneAbove (past_after past kind) (cluster_after cluster kind)
-opened-none m heard past cluster kind open_is none i above = open_is.flight i ∙ forgot-none heard past.flight i (none i (subst (λ (n : ℕ). n < i) open_is.sent above))
+pub opened-none : (m : ℕ) (heard : Option ℕ) (past : Past) (cluster : Cluster) (kind : EventKind)
+    → Opens m heard past cluster kind → NoneAbove past cluster
+    → NoneAbove (past_after past kind) (cluster_after cluster kind)
+opened-none m heard past cluster kind open_is none i above =
+    open_is.flight i ∙ forgot-none heard past.flight i (none i (subst (λ (n : ℕ). n < i) open_is.sent above))
 
 -- ---- it is its agent's own, and in order
-pub opening-own : (m : ℕ) (heard : Option ℕ) (cluster : Cluster) (kind : EventKind) → IsOpening heard kind → AreOwn m (event_of cluster kind) × AllLeaveCommits (event_of cluster kind)
+pub opening-own : (m : ℕ) (heard : Option ℕ) (cluster : Cluster) (kind : EventKind) → IsOpening heard kind
+    → AreOwn m (event_of cluster kind) × AllLeaveCommits (event_of cluster kind)
 opening-own m heard cluster (kinds.Agent (agents.Woken by)) is = ((tt, tt), (tt, tt))
 opening-own m heard cluster (kinds.Agent (agents.Operated by action)) is = ((tt, tt), (tt, tt))
 opening-own m heard cluster (kinds.Message (Delivered number)) is = ((tt, tt), (tt, tt))
@@ -62,7 +97,8 @@ opening-aside heard cluster (kinds.Agent (agents.Operated by action)) is = tt
 opening-aside heard cluster (kinds.Message (Delivered number)) is = tt
 opening-aside heard cluster _ is = absurd is
 
-pub opening-ordered : (past : Past) (cluster : Cluster) (heard : Option ℕ) (kind : EventKind) → IsOpening heard kind → HappensInOrder past cluster kind
+pub opening-ordered : (past : Past) (cluster : Cluster) (heard : Option ℕ) (kind : EventKind)
+    → IsOpening heard kind → HappensInOrder past cluster kind
 opening-ordered past cluster heard (kinds.Agent (agents.Woken by)) is = tt
 opening-ordered past cluster heard (kinds.Agent (agents.Operated by action)) is = tt
 opening-ordered past cluster heard (kinds.Message (Delivered number)) is = tt

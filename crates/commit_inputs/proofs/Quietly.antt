@@ -36,27 +36,39 @@ covered-quietly (outputs.Send to sequence body) covered = covered
 covered-quietly _ covered = tt
 
 -- what members ask one another asks for none
-ask-ordered : (past : Past) (cluster : Cluster) (by : Member) (incarnation sequence : ℕ) (body : Body) → IsAsk body → AsksInOrder past cluster (ends.Member by) incarnation sequence body
+ask-ordered : (past : Past) (cluster : Cluster) (by : Member) (incarnation sequence : ℕ) (body : Body)
+    → IsAsk body → AsksInOrder past cluster (ends.Member by) incarnation sequence body
 ask-ordered past cluster by incarnation sequence bodies.Ask ask = tt
 ask-ordered past cluster by incarnation sequence (bodies.FailsafeRequest ttl) ask = tt
 ask-ordered past cluster by incarnation sequence _ ask = absurd ask
 
-module _ (member : Member) (incarnation heard : ℕ) (Q : Output → Type 0) (quiet : (output : Output) → Q output → AsksQuietly output) where
-  message-ordered : (past : Past) (cluster : Cluster) (message : Message) → IsMessageOf member incarnation Q message → AsksInOrder past cluster message.from message.incarnation message.sequence message.body
+module _ (member : Member) (incarnation heard : ℕ) (Q : Output → Type 0)
+    (quiet : (output : Output) → Q output → AsksQuietly output) where
+  message-ordered : (past : Past) (cluster : Cluster) (message : Message) → IsMessageOf member incarnation Q message
+      → AsksInOrder past cluster message.from message.incarnation message.sequence message.body
   message-ordered past cluster message (Asks question) =
-      subst (λ (x : Message). AsksInOrder past cluster x.from x.incarnation x.sequence x.body) (sym question.is) (quiet-ordered past cluster member incarnation question.sequence question.body (quiet _ question.from))
+      subst (λ (x : Message). AsksInOrder past cluster x.from x.incarnation x.sequence x.body) (sym question.is)
+      (quiet-ordered past cluster member incarnation question.sequence question.body (quiet _ question.from))
   message-ordered past cluster message (AsksPeer peer id sequence body asks is from) =
-      subst (λ (x : Message). AsksInOrder past cluster x.from x.incarnation x.sequence x.body) (sym is) (ask-ordered past cluster member incarnation sequence body asks)
-  message-ordered past cluster message (AnswersPeer peer id asked sequence answer is from) = subst (λ (x : Message). AsksInOrder past cluster x.from x.incarnation x.sequence x.body) (sym is) tt
-  message-ordered past cluster message (AnswersRequest peer id asked sequence accepted at is from) = subst (λ (x : Message). AsksInOrder past cluster x.from x.incarnation x.sequence x.body) (sym is) tt
+      subst (λ (x : Message). AsksInOrder past cluster x.from x.incarnation x.sequence x.body) (sym is)
+      (ask-ordered past cluster member incarnation sequence body asks)
+  message-ordered past cluster message (AnswersPeer peer id asked sequence answer is from) =
+      subst (λ (x : Message). AsksInOrder past cluster x.from x.incarnation x.sequence x.body) (sym is) tt
+  message-ordered past cluster message (AnswersRequest peer id asked sequence accepted at is from) =
+      subst (λ (x : Message). AsksInOrder past cluster x.from x.incarnation x.sequence x.body) (sym is) tt
 
-  kind-ordered : (past : Past) (cluster : Cluster) (kind : EventKind) → IsOfInput member incarnation heard Q kind → HappensInOrder past cluster kind
+  kind-ordered : (past : Past) (cluster : Cluster) (kind : EventKind)
+      → IsOfInput member incarnation heard Q kind → HappensInOrder past cluster kind
   kind-ordered past cluster (kinds.Message (Sent number message)) is = message-ordered past cluster message is
   kind-ordered past cluster (kinds.Message (Delivered number)) is = absurd is
   kind-ordered past cluster (kinds.Message (Lost number)) is = tt
   kind-ordered past cluster (kinds.Store happening) is = absurd is
   kind-ordered past cluster _ is = tt
 
-  pub quietly-ordered : (past : Past) (cluster : Cluster) (events : List Event) → AllAre (IsOfInput member incarnation heard Q) events → AllInOrder past cluster events
+  pub quietly-ordered : (past : Past) (cluster : Cluster) (events : List Event)
+      → AllAre (IsOfInput member incarnation heard Q) events → AllInOrder past cluster events
   quietly-ordered past cluster [] all = tt
-  quietly-ordered past cluster (event ∷ events) all = (kind-ordered past cluster event.kind all.0, quietly-ordered (past_after past event.kind) (cluster_after cluster event.kind) events all.1)
+  quietly-ordered past cluster (event ∷ events) all = (
+    kind-ordered past cluster event.kind all.0,
+    quietly-ordered (past_after past event.kind) (cluster_after cluster event.kind) events all.1,
+  )

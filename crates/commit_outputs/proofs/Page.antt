@@ -98,19 +98,26 @@ pub alone-passes : (output : Output) → StandsAlone output → PassesNone outpu
 alone-passes outputs.ClaimsOutsideSync alone = alone
 alone-passes _ alone = tt
 
-stays-by : (now : Ticks) (machine : Machine) (output : Output) → RequiresNone output → (machine_after_output now machine output).replication ≡ machine.replication
+stays-by : (now : Ticks) (machine : Machine) (output : Output) → RequiresNone output
+    → (machine_after_output now machine output).replication ≡ machine.replication
 stays-by now machine (outputs.Require required) none = absurd none
 stays-by now machine _ none = refl
 
-pub required-stays : (now : Ticks) (machine : Machine) (outs : List Output) → All RequiresNone outs → (machine_after_outputs now machine outs).replication ≡ machine.replication
+pub required-stays : (now : Ticks) (machine : Machine) (outs : List Output) → All RequiresNone outs
+    → (machine_after_outputs now machine outs).replication ≡ machine.replication
 required-stays now machine [] none = refl
 required-stays now machine (output ∷ more) none =
-    required-stays now (machine_after_output now machine output) more (All-tail RequiresNone output more none) ∙ stays-by now machine output (All-head RequiresNone output more none)
+    required-stays now (machine_after_output now machine output) more (All-tail RequiresNone output more none)
+    ∙ stays-by now machine output (All-head RequiresNone output more none)
 
 -- behind others one sets it
-pub required-set : (now : Ticks) (machine : Machine) (front : List Output) (required : Required) (behind : List Output) → All RequiresNone behind → (machine_after_outputs now machine (front ++ outputs.Require required ∷ behind)).replication.required ≡ required
-required-set now machine [] required behind none = ap (λ r. r.required) (required-stays now (machine_after_output now machine (outputs.Require required)) behind none)
-required-set now machine (output ∷ front) required behind none = required-set now (machine_after_output now machine output) front required behind none
+pub required-set : (now : Ticks) (machine : Machine) (front : List Output) (required : Required) (behind : List Output)
+    → All RequiresNone behind
+    → (machine_after_outputs now machine (front ++ outputs.Require required ∷ behind)).replication.required ≡ required
+required-set now machine [] required behind none =
+    ap (λ r. r.required) (required-stays now (machine_after_output now machine (outputs.Require required)) behind none)
+required-set now machine (output ∷ front) required behind none =
+    required-set now (machine_after_output now machine output) front required behind none
 
 unbegun : (output : Output) → BeginsNone output → is_begin output ≡ false
 unbegun outputs.Begin none = absurd none
@@ -120,9 +127,12 @@ unpassed : (output : Output) → PassesNone output → is_claim_outside_sync out
 unpassed outputs.ClaimsOutsideSync none = absurd none
 unpassed _ none = refl
 
-none-meets : (test : Output → Bool) (P : Output → Type 0) → ((output : Output) → P output → test output ≡ false) → (outs : List Output) → All P outs → has_one test outs ≡ false
+none-meets : (test : Output → Bool) (P : Output → Type 0) → ((output : Output) → P output → test output ≡ false)
+    → (outs : List Output) → All P outs → has_one test outs ≡ false
 none-meets test P fails [] none = refl
-none-meets test P fails (output ∷ more) none = ap (λ (b : Bool). b || has_one test more) (fails output (All-head P output more none)) ∙ none-meets test P fails more (All-tail P output more none)
+none-meets test P fails (output ∷ more) none =
+    ap (λ (b : Bool). b || has_one test more) (fails output (All-head P output more none))
+    ∙ none-meets test P fails more (All-tail P output more none)
 
 pub none-begins : (outs : List Output) → All BeginsNone outs → has_one is_begin outs ≡ false
 none-begins outs none = none-meets is_begin BeginsNone unbegun outs none
@@ -134,18 +144,29 @@ none-passes outs none = none-meets is_claim_outside_sync PassesNone unpassed out
 told-logs : (a b : Told) → a ≡ b → a.logs ≡ b.logs
 told-logs a b e = ap (λ (t : Told). t.logs) e
 
-pub fits-told : (past later : Past) (before after : Facts) (states next : ℕ → VolatileState) → told_of later ≡ told_of past → after.servers ≡ before.servers → after.commits ≡ before.commits → after.acknowledged ≡ before.acknowledged
+pub fits-told : (past later : Past) (before after : Facts) (states next : ℕ → VolatileState)
+    → told_of later ≡ told_of past → after.servers ≡ before.servers → after.commits ≡ before.commits
+    → after.acknowledged ≡ before.acknowledged
     → ((n : ℕ) → (next n).live ≡ (states n).live) → Fits past before states → Fits later after next
 fits-told past later before after states next told servers commits acknowledged live fits = record {
   same = record {
-    logs = ap (λ (t : Told). t.logs) told ∙ fits.same.logs ∙ ap (λ (known : List ServerFacts). logs_in known) (sym servers);
-    required = ap (λ (t : Told). t.required) told ∙ fits.same.required ∙ ap (λ (known : List ServerFacts). required_in known) (sym servers);
-    confirmed = ap (λ (t : Told). t.confirmed) told ∙ fits.same.confirmed ∙ ap (λ (known : List ServerFacts). confirmed_in known) (sym servers);
-    writes = λ m. ap (λ (t : Told). t.writes m) told ∙ fits.same.writes m ∙ ap (λ (known : List ServerFacts). writes_in known m) (sym servers);
+    logs = ap (λ (t : Told). t.logs) told ∙ fits.same.logs
+        ∙ ap (λ (known : List ServerFacts). logs_in known) (sym servers);
+    required = ap (λ (t : Told). t.required) told ∙ fits.same.required
+        ∙ ap (λ (known : List ServerFacts). required_in known) (sym servers);
+    confirmed = ap (λ (t : Told). t.confirmed) told ∙ fits.same.confirmed
+        ∙ ap (λ (known : List ServerFacts). confirmed_in known) (sym servers);
+    writes = λ m. ap (λ (t : Told). t.writes m) told ∙ fits.same.writes m
+        ∙ ap (λ (known : List ServerFacts). writes_in known m) (sym servers);
     acknowledged = ap (λ (t : Told). t.acknowledged) told ∙ fits.same.acknowledged ∙ sym acknowledged;
   };
-  live = record { live = λ m. live m ∙ fits.live.live m ∙ ap (λ (known : List ServerFacts). live_in known m) (sym servers) };
-  sound = record { each = λ m s is. subst (λ (n : ℕ). IsServerSound n s) (sym commits) (fits.sound.each m s (ap (λ (known : List ServerFacts). slice_get known m) (sym servers) ∙ is)) };
+  live = record {
+    live = λ m. live m ∙ fits.live.live m ∙ ap (λ (known : List ServerFacts). live_in known m) (sym servers);
+  };
+  sound = record {
+    each = λ m s is. subst (λ (n : ℕ). IsServerSound n s) (sym commits)
+        (fits.sound.each m s (ap (λ (known : List ServerFacts). slice_get known m) (sym servers) ∙ is));
+  };
 }
 
 -- ---- whom commits wait for is set
@@ -153,13 +174,15 @@ fits-told past later before after states next told servers commits acknowledged 
 apart : (n : ℕ) → n ≡ n + 1 → ⊥
 apart n e = omega (arith, e)
 
-module _ (past : Past) (cluster : Cluster) (member : Member) (states : ℕ → VolatileState) (fits : Fits past cluster.facts states) (required : Required) (waits : WaitsForMembers required) (s : ServerFacts)
+module _ (past : Past) (cluster : Cluster) (member : Member) (states : ℕ → VolatileState)
+    (fits : Fits past cluster.facts states) (required : Required) (waits : WaitsForMembers required) (s : ServerFacts)
     (found : slice_get cluster.facts.servers member.id.number ≡ Some s) where
   abbrev M : ℕ
   M = member.id.number
 
   abbrev Setting : EventKind
-  Setting = kinds.Replication (replications.RequiredSet (server_of member) required (required_names cluster.facts.members required))
+  Setting = kinds.Replication
+      (replications.RequiredSet (server_of member) required (required_names cluster.facts.members required))
 
   abbrev Set : List Event
   Set = events_of cluster (kinds_of (require_of cluster.facts.members member required s))
@@ -187,15 +210,44 @@ module _ (past : Past) (cluster : Cluster) (member : Member) (states : ℕ → V
   }
 
   set-confirmers : confirmers_of (slice_get (past_after past Setting).required M) ≡ confirmers_in required
-  set-confirmers = ap confirmers_of (get-here past.required M (λ before. required) ∙ ap (option_map (λ (before : Required). required)) (required-at past cluster.facts fits.same M s found))
+  set-confirmers = ap confirmers_of
+      (get-here past.required M (λ before. required)
+      ∙ ap (option_map (λ (before : Required). required)) (required-at past cluster.facts fits.same M s found))
 
   sets-new : Sets (event_of cluster Setting)
-  sets-new = record { own = (refl, tt); leaves = (tt, tt); once = inr tt; flight = refl; live = refl; fits_behind = set-fits; needs = set-confirmers; agents_same = refl; lives = λ n. others-by cluster.facts Setting (n + 1) n tt (apart n); server = requiring required s; server_is = get-here cluster.facts.servers M (requiring required) ∙ ap (option_map (requiring required)) found; state_same = refl }
+  sets-new = record {
+    own = (refl, tt);
+    leaves = (tt, tt);
+    once = inr tt;
+    flight = refl;
+    live = refl;
+    fits_behind = set-fits;
+    needs = set-confirmers;
+    agents_same = refl;
+    lives = λ n. others-by cluster.facts Setting (n + 1) n tt (apart n);
+    server = requiring required s;
+    server_is = get-here cluster.facts.servers M (requiring required) ∙ ap (option_map (requiring required)) found;
+    state_same = refl;
+  }
 
   sets-old : confirmers_in s.required ≡ confirmers_in required → Sets []
-  sets-old same = record { own = tt; leaves = tt; once = tt; flight = refl; live = refl; fits_behind = fits; needs = ap confirmers_of (required-at past cluster.facts fits.same M s found) ∙ same; agents_same = refl; lives = λ n. refl; server = s; server_is = found; state_same = refl }
+  sets-old same = record {
+    own = tt;
+    leaves = tt;
+    once = tt;
+    flight = refl;
+    live = refl;
+    fits_behind = fits;
+    needs = ap confirmers_of (required-at past cluster.facts fits.same M s found) ∙ same;
+    agents_same = refl;
+    lives = λ n. refl;
+    server = s;
+    server_is = found;
+    state_same = refl;
+  }
 
-  sets-by : (same : Bool) → (same ≡ true → confirmers_in s.required ≡ confirmers_in required) → Sets (events_of cluster (kinds_of (if same then None else Some Setting)))
+  sets-by : (same : Bool) → (same ≡ true → confirmers_in s.required ≡ confirmers_in required)
+      → Sets (events_of cluster (kinds_of (if same then None else Some Setting)))
   sets-by true is = sets-old (is refl)
   sets-by false is = sets-new
 
@@ -205,7 +257,9 @@ module _ (past : Past) (cluster : Cluster) (member : Member) (states : ℕ → V
   same-confirmers : (a b : Required) → is_same_required a b ≡ true → confirmers_in a ≡ confirmers_in b
   same-confirmers requireds.Nobody requireds.Nobody e = refl
   same-confirmers requireds.AnyOne requireds.AnyOne e = refl
-  same-confirmers (requireds.All first) (requireds.All second) e = ap (λ (bits : ℕ). let set : MemberSet = record { bits = bits } in confirmers_in (requireds.All set)) (same-bits first.bits second.bits e)
+  same-confirmers (requireds.All first) (requireds.All second) e =
+      ap (λ (bits : ℕ). let set : MemberSet = record { bits = bits } in confirmers_in (requireds.All set))
+      (same-bits first.bits second.bits e)
   same-confirmers requireds.Nobody requireds.AnyOne e = absurd (both e)
   same-confirmers requireds.Nobody (requireds.All second) e = absurd (both e)
   same-confirmers requireds.AnyOne requireds.Nobody e = absurd (both e)

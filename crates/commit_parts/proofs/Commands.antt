@@ -48,25 +48,39 @@ use Rattle.commit_parts.proofs.Transitions.{composable, kept-now}
 use Rattle.pat_base.specs.declared.member_id.TheConstants.{MOST_MEMBERS}
 
 -- ---- a message is lost
-pub goes-loss : (setup : Setup) (cluster : Cluster) (number : ℕ) → GoesFrom setup cluster (event_of cluster (kinds.Message (Lost number)))
+pub goes-loss : (setup : Setup) (cluster : Cluster) (number : ℕ)
+    → GoesFrom setup cluster (event_of cluster (kinds.Message (Lost number)))
 goes-loss setup cluster number named past fits =
     let kind : EventKind = kinds.Message (Lost number) in
     let later : Cluster = cluster_after cluster kind in
     record {
       moves = record {
-        transitions = record { action = Lose number; events = event_of cluster kind; volatile_states = volatile_of cluster } ∷ [];
+        transitions =
+            record { action = Lose number; events = event_of cluster kind; volatile_states = volatile_of cluster } ∷ [];
         whole = refl;
-        allowed = (tt, lost-shown setup past (volatile_of cluster) (record { 0 = later.facts.clock }) number, change-once (record { 0 = later.facts.clock }) kind, tt);
+        allowed = (
+          tt,
+          lost-shown setup past (volatile_of cluster) (record { 0 = later.facts.clock }) number,
+          change-once (record { 0 = later.facts.clock }) kind,
+          tt,
+        );
         once = (inr tt, tt);
         last = refl;
         fits = fits-aside past cluster.facts (volatile_of cluster) kind tt fits;
       };
-      left = record { leave = record { agents = λ m agent is. is; asked = λ i question is. (is, refl) }; causal = (tt, (tt, tt)); asks = λ s. (tt, tt); ordered = (tt, tt) };
+      left = record {
+        leave = record { agents = λ m agent is. is; asked = λ i question is. (is, refl) };
+        causal = (tt, (tt, tt));
+        asks = λ s. (tt, tt);
+        ordered = (tt, tt);
+      };
     }
 
-pub upholds-loss : (head : HeadText) (number : ℕ) → UpholdsAlways (kept_commits head) (λ cluster. event_of cluster (kinds.Message (Lost number)))
+pub upholds-loss : (head : HeadText) (number : ℕ)
+    → UpholdsAlways (kept_commits head) (λ cluster. event_of cluster (kinds.Message (Lost number)))
 upholds-loss head number book cluster good =
-    upheld-goes head book cluster (event_of cluster (kinds.Message (Lost number))) good (goes-loss (setup_of head) cluster number) (kept-loss head book cluster number good.lease)
+    upheld-goes head book cluster (event_of cluster (kinds.Message (Lost number))) good
+    (goes-loss (setup_of head) cluster number) (kept-loss head book cluster number good.lease)
 
 -- ---- what a command brings that ends nothing may happen
 commands-may : (cluster : Cluster) → HoldsOfCommands (MayHappen cluster.facts) cluster
@@ -80,69 +94,96 @@ commands-may cluster = record {
   links = λ change. tt;
 }
 
-command-may : (cluster : Cluster) (command : Command) → EndsNothing command → HoldsIf (MayHappen cluster.facts) (command_kind cluster command)
+command-may : (cluster : Cluster) (command : Command) → EndsNothing command
+    → HoldsIf (MayHappen cluster.facts) (command_kind cluster command)
 command-may cluster command is = command-holds (MayHappen cluster.facts) cluster (commands-may cluster) command is
 
 -- ---- commands that bring one event at most
-module _ (head : HeadText) (few : length (names_of head) ≤ MOST_MEMBERS) (book : List Event) (cluster : Cluster) (good : CommitsBridged head book cluster) where
+module _ (head : HeadText) (few : length (names_of head) ≤ MOST_MEMBERS) (book : List Event)
+    (cluster : Cluster) (good : CommitsBridged head book cluster) where
   none : Upholds (kept_commits head) book cluster []
   none = upheld-none (kept_commits head) (composable head) book cluster good
 
-  kill-by : (m : Member) (running : Bool) → m.id.number < member_count head → Upholds (kept_commits head) book cluster (events_of cluster (kinds_of (cond running (Some (kinds.Agent (agents.Killed m))) None)))
+  kill-by : (m : Member) (running : Bool) → m.id.number < member_count head
+      → Upholds (kept_commits head) book cluster
+      (events_of cluster (kinds_of (cond running (Some (kinds.Agent (agents.Killed m))) None)))
   kill-by m true small = upheld-kill head book cluster m small good
   kill-by m false small = none
 
-  kill-found : (m : Member) (process : Option AgentProcess) → m.id.number < member_count head → Upholds (kept_commits head) book cluster (events_of cluster (kinds_of (option_and_then (kill_of m) process)))
+  kill-found : (m : Member) (process : Option AgentProcess) → m.id.number < member_count head
+      → Upholds (kept_commits head) book cluster (events_of cluster (kinds_of (option_and_then (kill_of m) process)))
   kill-found m None small = none
   kill-found m (Some process) small = kill-by m process.running small
 
   kill-declared : (found : Option Member) → ((m : Member) → found ≡ Some m → m.id.number < member_count head)
-      → Upholds (kept_commits head) book cluster (events_of cluster (kinds_of (option_and_then (λ m. option_and_then (kill_of m) (slice_get cluster.facts.processes m.id.number)) found)))
+      → Upholds (kept_commits head) book cluster
+      (events_of cluster
+      (kinds_of (option_and_then (λ m. option_and_then (kill_of m) (slice_get cluster.facts.processes m.id.number))
+      found)))
   kill-declared None small = none
   kill-declared (Some m) small = kill-found m (slice_get cluster.facts.processes m.id.number) (small m refl)
 
-  crash-by : (m : Member) (gone : Bool) → Upholds (kept_commits head) book cluster (events_of cluster (kinds_of (cond gone None (Some (kinds.Server (servers.Crashed (server_of m)))))))
+  crash-by : (m : Member) (gone : Bool)
+      → Upholds (kept_commits head) book cluster
+      (events_of cluster (kinds_of (cond gone None (Some (kinds.Server (servers.Crashed (server_of m)))))))
   crash-by m true = none
   crash-by m false = upholds-crash head book cluster (server_of m) good
 
-  crash-found : (m : Member) (s : Option ServerFacts) → Upholds (kept_commits head) book cluster (events_of cluster (kinds_of (option_and_then (crash_of m) s)))
+  crash-found : (m : Member) (s : Option ServerFacts)
+      → Upholds (kept_commits head) book cluster (events_of cluster (kinds_of (option_and_then (crash_of m) s)))
   crash-found m None = none
   crash-found m (Some s) = crash-by m (is_gone s.state)
 
-  crash-declared : (found : Option Member) → Upholds (kept_commits head) book cluster (events_of cluster (kinds_of (option_and_then (λ m. option_and_then (crash_of m) (slice_get cluster.facts.servers m.id.number)) found)))
+  crash-declared : (found : Option Member)
+      → Upholds (kept_commits head) book cluster
+      (events_of cluster
+      (kinds_of (option_and_then (λ m. option_and_then (crash_of m) (slice_get cluster.facts.servers m.id.number))
+      found)))
   crash-declared None = none
   crash-declared (Some m) = crash-found m (slice_get cluster.facts.servers m.id.number)
 
   small-now : (id : MemberId) (m : Member) → declared cluster id ≡ Some m → m.id.number < member_count head
   small-now id m is = declared-within head few m (declared-now head few cluster good.lease.matched.members id m is)
 
-  pub upheld-command : (command : Command) → Upholds (kept_commits head) book cluster (events_of cluster (kinds_of (command_kind cluster command)))
+  pub upheld-command : (command : Command)
+      → Upholds (kept_commits head) book cluster (events_of cluster (kinds_of (command_kind cluster command)))
   upheld-command (commands.Kill id) = kill-declared (declared cluster id) (small-now id)
   upheld-command (commands.Crash id) = crash-declared (declared cluster id)
-  upheld-command command = upheld-quiet-if head book cluster (command_kind cluster command) good (command-quiet cluster command tt) (command-may cluster command tt)
+  upheld-command command = upheld-quiet-if head book cluster (command_kind cluster command) good
+      (command-quiet cluster command tt) (command-may cluster command tt)
 
-  pub upheld-restarts : (id : MemberId) → Upholds (kept_commits head) book cluster (for_some (declared cluster id) (agent_start_events cluster))
+  pub upheld-restarts : (id : MemberId)
+      → Upholds (kept_commits head) book cluster (for_some (declared cluster id) (agent_start_events cluster))
   upheld-restarts id =
-      upheld-for_some (kept_commits head) (composable head) book cluster (declared cluster id) (agent_start_events cluster) good (λ m is. upheld-restart head book cluster m (small-now id m is) good)
+      upheld-for_some (kept_commits head) (composable head) book cluster (declared cluster id)
+      (agent_start_events cluster) good (λ m is. upheld-restart head book cluster m (small-now id m is) good)
 
 -- ---- an operator's promotion breaks a premise
-upheld-breach : (head : HeadText) (book : List Event) (cluster : Cluster) (event : Event) (events : List Event) → (IsHandsOffKind event.kind → ⊥) → CommitsBridged head book cluster
+upheld-breach : (head : HeadText) (book : List Event) (cluster : Cluster) (event : Event) (events : List Event)
+    → (IsHandsOffKind event.kind → ⊥) → CommitsBridged head book cluster
     → Upholds (kept_commits head) book cluster (event ∷ events)
 upheld-breach head book cluster event events breach good = record {
   inside = inside;
   behind = λ meets. absurd (breach (hands-off-back book (event ∷ events) meets.timely.hands_off.events).0);
 }
   where
-    inside : (front rest : List Event) → front ++ rest ≡ event ∷ events → MeetsMode head (book ++ front) → KeepsInOrder head (book ++ front)
-    inside [] rest e meets = subst (λ (l : List Event). KeepsInOrder head l) (sym (none-more book)) (kept-now head book cluster good)
+    inside : (front rest : List Event) → front ++ rest ≡ event ∷ events → MeetsMode head (book ++ front)
+        → KeepsInOrder head (book ++ front)
+    inside [] rest e meets =
+        subst (λ (l : List Event). KeepsInOrder head l) (sym (none-more book)) (kept-now head book cluster good)
     inside (x ∷ front) rest e meets =
-        absurd (breach (subst (λ (z : Event). IsHandsOffKind z.kind) (head-is x event (front ++ rest) events e) (hands-off-back book (x ∷ front) meets.timely.hands_off.events).0))
+        absurd (breach (subst (λ (z : Event). IsHandsOffKind z.kind) (head-is x event (front ++ rest) events e)
+        (hands-off-back book (x ∷ front) meets.timely.hands_off.events).0))
 
-promote-by : (head : HeadText) (book : List Event) (cluster : Cluster) (m : Member) (more : List EventKind) (replica : Bool) → CommitsBridged head book cluster
-    → Upholds (kept_commits head) book cluster (events_of cluster (cond replica (kinds.Server (servers.Promoted (server_of m)) ∷ more) []))
+promote-by : (head : HeadText) (book : List Event) (cluster : Cluster) (m : Member) (more : List EventKind)
+    (replica : Bool) → CommitsBridged head book cluster
+    → Upholds (kept_commits head) book cluster
+    (events_of cluster (cond replica (kinds.Server (servers.Promoted (server_of m)) ∷ more) []))
 promote-by head book cluster m more true good = upheld-breach head book cluster _ _ (λ no. no) good
 promote-by head book cluster m more false good = upheld-none (kept_commits head) (composable head) book cluster good
 
-pub upholds-promote : (head : HeadText) (m : Member) → UpholdsAlways (kept_commits head) (λ cluster. promote_events cluster m)
+pub upholds-promote : (head : HeadText) (m : Member)
+    → UpholdsAlways (kept_commits head) (λ cluster. promote_events cluster m)
 upholds-promote head m book cluster good =
-    upheld-for_some (kept_commits head) (composable head) book cluster (slice_get cluster.facts.servers m.id.number) _ good (λ s is. promote-by head book cluster m _ (is_replica s.state) good)
+    upheld-for_some (kept_commits head) (composable head) book cluster (slice_get cluster.facts.servers m.id.number)
+    _ good (λ s is. promote-by head book cluster m _ (is_replica s.state) good)

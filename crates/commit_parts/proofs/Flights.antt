@@ -19,7 +19,8 @@ abbrev pub HoldsAsSent : (InFlightFacts → Type 0) → Facts → EventKind → 
 HoldsAsSent H facts (kinds.Message (Sent number message)) = H (launched facts.clock facts.keys message)
 HoldsAsSent H facts _ = Unit {0}
 
-put-one : (H : InFlightFacts → Type 0) (test : Bool) (new old : Option InFlightFacts) (carried : InFlightFacts) → ((c : InFlightFacts) → new ≡ Some c → H c) → ((c : InFlightFacts) → old ≡ Some c → H c)
+put-one : (H : InFlightFacts → Type 0) (test : Bool) (new old : Option InFlightFacts) (carried : InFlightFacts)
+    → ((c : InFlightFacts) → new ≡ Some c → H c) → ((c : InFlightFacts) → old ≡ Some c → H c)
     → cond test new old ≡ Some carried → H carried
 put-one H true new old carried first rest is = first carried is
 put-one H false new old carried first rest is = rest carried is
@@ -27,11 +28,14 @@ put-one H false new old carried first rest is = rest carried is
 module _ (H : InFlightFacts → Type 0) (facts : Facts) (order : Rises 0 facts.flight) (all : AllIn H facts.flight) where
   without : (number : ℕ) → AllIn H (facts_after facts (kinds.Message (Lost number))).flight
   without number i carried is =
-      put-one H (i == number) None (in_flight facts.flight i) carried (λ c e. absurd (none-some c e)) (all i) (sym (in-without 0 facts.flight number i order) ∙ is)
+      put-one H (i == number) None (in_flight facts.flight i) carried (λ c e. absurd (none-some c e)) (all i)
+      (sym (in-without 0 facts.flight number i order) ∙ is)
 
-  with : (number : ℕ) (message : Message) → H (launched facts.clock facts.keys message) → AllIn H (facts_after facts (kinds.Message (Sent number message))).flight
+  with : (number : ℕ) (message : Message) → H (launched facts.clock facts.keys message)
+      → AllIn H (facts_after facts (kinds.Message (Sent number message))).flight
   with number message new i carried is =
-      put-one H (i == number) (Some (launched facts.clock facts.keys message)) (in_flight facts.flight i) carried (λ c e. subst H (some-is (launched facts.clock facts.keys message) c e) new) (all i)
+      put-one H (i == number) (Some (launched facts.clock facts.keys message)) (in_flight facts.flight i) carried
+      (λ c e. subst H (some-is (launched facts.clock facts.keys message) c e) new) (all i)
       (sym (in-with facts.flight number (launched facts.clock facts.keys message) i) ∙ is)
 
   pub all-after : (kind : EventKind) → HoldsAsSent H facts kind → AllIn H (facts_after facts kind).flight

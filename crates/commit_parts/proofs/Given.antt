@@ -32,33 +32,55 @@ module _ (head : HeadText) (book : List Event) (cluster : Cluster) (good : Commi
   abbrev Numbered : ℕ → ℕ → ℕ → Type 0
   Numbered m incarnation sequence = IsNumbered ((state_of_run head book cluster).members m) incarnation sequence
 
-  counted-by : (i : ℕ) (question : Question) (found : Option (Option AgentFacts)) (agent : Agent) → (lease_past.past_of book).asked i ≡ Some question → slice_get cluster.agents question.member ≡ found
+  counted-by : (i : ℕ) (question : Question) (found : Option (Option AgentFacts)) (agent : Agent)
+      → (lease_past.past_of book).asked i ≡ Some question → slice_get cluster.agents question.member ≡ found
       → agent_now found ≡ Some agent → agent.incarnation ≡ question.incarnation → question.sequence ≤ agent.last
   counted-by i question None agent asked is seen in_run =
       absurd (beyond (good.fits.agents.members i question asked))
     where
       beyond : question.member < member_count head → ⊥
       beyond small =
-          let within : question.member < length cluster.agents = subst (λ (n : ℕ). question.member < n) (sym good.lease.matched.agents_sized) small in
+          let within : question.member < length cluster.agents =
+          subst (λ (n : ℕ). question.member < n) (sym good.lease.matched.agents_sized) small in
           let one = there cluster.agents question.member within in
           none-some one.0 (sym is ∙ one.1)
   counted-by i question (Some None) agent asked is seen in_run = absurd (none-some agent seen)
   counted-by i question (Some (Some known)) agent asked is seen in_run =
       let same = some-is (committer_seen known.role known.knows) agent seen in
       subst (λ (a : Agent). question.sequence ≤ a.last) same
-      ((good.lease.matched.waiting.agents question.member known is).last i question asked refl (sym in_run ∙ ap (λ (a : Agent). a.incarnation) (sym same)))
+      ((good.lease.matched.waiting.agents question.member known is).last i question asked refl
+      (sym in_run ∙ ap (λ (a : Agent). a.incarnation) (sym same)))
 
-  numbered-question : (i : ℕ) (question : Question) → (lease_past.past_of book).asked i ≡ Some question → Numbered question.member question.incarnation question.sequence
+  numbered-question : (i : ℕ) (question : Question) → (lease_past.past_of book).asked i ≡ Some question
+      → Numbered question.member question.incarnation question.sequence
   numbered-question i question asked = record {
-    run_old = subst (λ (n : ℕ). question.incarnation ≤ n) (sym (runs-now head book cluster good question.member)) (good.lease.matched.waiting.runs question.member i question asked refl);
-    sequence_old = λ agent is in_run. counted-by i question (slice_get cluster.agents question.member) agent asked refl is in_run;
+    run_old = subst (λ (n : ℕ). question.incarnation ≤ n) (sym (runs-now head book cluster good question.member))
+        (good.lease.matched.waiting.runs question.member i question asked refl);
+    sequence_old =
+        λ agent is in_run. counted-by i question (slice_get cluster.agents question.member) agent asked refl is in_run;
   }
 
-  pub numbered-request : (i : ℕ) (carried : InFlightFacts) (by : Member) (incarnation sequence : ℕ) (txn : Txn) → in_flight cluster.facts.flight i ≡ Some carried
-      → carried.message ≡ record { from = ends.Member by; to = ends.Store; incarnation = incarnation; sequence = sequence; body = bodies.Request txn } → Numbered by.id.number incarnation sequence
+  pub numbered-request : (i : ℕ) (carried : InFlightFacts) (by : Member) (incarnation sequence : ℕ) (txn : Txn)
+      → in_flight cluster.facts.flight i ≡ Some carried
+      → carried.message ≡ record {
+        from = ends.Member by;
+        to = ends.Store;
+        incarnation = incarnation;
+        sequence = sequence;
+        body = bodies.Request txn;
+      }
+      → Numbered by.id.number incarnation sequence
   numbered-request i carried by incarnation sequence txn here is =
-      numbered-question i (record { member = by.id.number; incarnation = incarnation; sequence = sequence; sent = carried.sent.0; query = lease_past.query_of txn })
-      (good.lease.matched.flight.kept i _ (heard-asked (lease_past.past_of book) cluster.facts i carried by incarnation sequence txn good.lease.matched.flight here is))
+      numbered-question i (record {
+        member = by.id.number;
+        incarnation = incarnation;
+        sequence = sequence;
+        sent = carried.sent.0;
+        query = lease_past.query_of txn;
+      })
+      (good.lease.matched.flight.kept i _
+      (heard-asked (lease_past.past_of book) cluster.facts i carried by incarnation sequence txn
+      good.lease.matched.flight here is))
 
   -- ---- a snapshot without a leader key
   abbrev Lease : lease.State
@@ -70,7 +92,8 @@ module _ (head : HeadText) (book : List Event) (cluster : Cluster) (good : Commi
   failsafes : (lease_past.past_of book).failsafe ≡ (past_of head book).failsafe
   failsafes = same-failsafe lease_past.first_past (past_of head []) book refl refl
 
-  pub ready-by : (found : Option (Option AgentFacts)) → is_ready (agent_now found) ≡ lease.is_ready (run_volatile.agent_now found)
+  pub ready-by : (found : Option (Option AgentFacts))
+      → is_ready (agent_now found) ≡ lease.is_ready (run_volatile.agent_now found)
   ready-by None = refl
   ready-by (Some None) = refl
   ready-by (Some (Some agent)) = refl
@@ -79,13 +102,20 @@ module _ (head : HeadText) (book : List Event) (cluster : Cluster) (good : Commi
   free-leader None is = refl
   free-leader (Some key) is = absurd (both is)
 
-  pub snapshot-allowed : (number : ℕ) → IsAllowed (state_of_run head book cluster) (SendSnapshot (is_keyless (past_of head book).leader (past_of head book).failsafe) (is_leaderless (past_of head book).leader) number)
+  pub snapshot-allowed : (number : ℕ)
+      → IsAllowed (state_of_run head book cluster)
+      (SendSnapshot (is_keyless (past_of head book).leader (past_of head book).failsafe)
+      (is_leaderless (past_of head book).leader) number)
   snapshot-allowed number = (
     (λ keyless n acts.
         grant-free Lease (state_of_run head book cluster).members good.lease.carried.sound
-        (ap (λ (l : Option LeaderKey). is_keyless l (lease_past.past_of book).failsafe) leaders ∙ ap (λ (f : Option FailsafeKey). is_keyless (past_of head book).leader f) failsafes ∙ keyless)
+        (ap (λ (l : Option LeaderKey). is_keyless l (lease_past.past_of book).failsafe) leaders
+        ∙ ap (λ (f : Option FailsafeKey). is_keyless (past_of head book).leader f) failsafes ∙ keyless)
         (λ n. refl) (λ n. ready-by (slice_get cluster.agents n)) n acts),
     (λ leaderless.
-        let none = free-leader (past_of head book).leader leaderless in
-        (ap leader_revision none, λ n ready. grant-absent Lease (state_of_run head book cluster).members good.lease.carried.sound (leaders ∙ none) (λ n. ready-by (slice_get cluster.agents n)) n ready)),
+        let none = free-leader (past_of head book).leader leaderless in (
+          ap leader_revision none,
+          λ n ready. grant-absent Lease (state_of_run head book cluster).members good.lease.carried.sound
+              (leaders ∙ none) (λ n. ready-by (slice_get cluster.agents n)) n ready,
+        )),
   )

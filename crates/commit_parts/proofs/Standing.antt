@@ -40,11 +40,14 @@ pub record IsMadeOf (s : ServerFacts) (replication : Replication) (machine : Mac
   pub end : machine.server.end ≡ end_in s.log
   pub replication_is : machine.replication ≡ replication
 
-pub made-of : (receives by_failsafe : Bool) (replication : Replication) (options : Option MemberOptions) (deadline hold : Option (Option Ticks)) (s : ServerFacts) (machine : Machine)
-    → machine_from receives by_failsafe (Some replication) options deadline hold (Some s) ≡ Some machine → IsMadeOf s replication machine
+pub made-of : (receives by_failsafe : Bool) (replication : Replication) (options : Option MemberOptions)
+    (deadline hold : Option (Option Ticks)) (s : ServerFacts) (machine : Machine)
+    → machine_from receives by_failsafe (Some replication) options deadline hold (Some s) ≡ Some machine
+    → IsMadeOf s replication machine
 made-of receives by_failsafe replication None deadline hold s machine is = absurd (none-some machine is)
 made-of receives by_failsafe replication (Some options) None hold s machine is = absurd (none-some machine is)
-made-of receives by_failsafe replication (Some options) (Some deadline) None s machine is = absurd (none-some machine is)
+made-of receives by_failsafe replication (Some options) (Some deadline) None s machine is =
+    absurd (none-some machine is)
 made-of receives by_failsafe replication (Some options) (Some deadline) (Some hold) s machine is =
     let same = some-is _ machine is in
     record {
@@ -58,7 +61,8 @@ end-is None small = tt
 end-is (Some log) small = lsn_at-position (end_of log) small
 
 -- ---- who is connected has confirmed
-pub none-confirmed : (count n : ℕ) (end : Lsn) → slice_get (replicate count (let none : Option Lsn = None in none)) n ≡ Some (Some end) → ⊥
+pub none-confirmed : (count n : ℕ) (end : Lsn)
+    → slice_get (replicate count (let none : Option Lsn = None in none)) n ≡ Some (Some end) → ⊥
 none-confirmed zero n end is = none-some (Some end) is
 none-confirmed (suc count) zero end is = none-some end (some-is None (Some end) is)
 none-confirmed (suc count) (suc n) end is = none-confirmed count n end is
@@ -70,32 +74,44 @@ cond-some false found end is = absurd (none-some end is)
 from-none : (n : ℕ) → 0 + n ≡ n
 from-none n = omega arith
 
-pub at-number : (f : ℕ → Option Lsn) (n : ℕ) (end : Lsn) → slice_get (map f (range_with_len 0 MOST_MEMBERS)) n ≡ Some (Some end) → f n ≡ Some end
+pub at-number : (f : ℕ → Option Lsn) (n : ℕ) (end : Lsn)
+    → slice_get (map f (range_with_len 0 MOST_MEMBERS)) n ≡ Some (Some end) → f n ≡ Some end
 at-number f n end is =
     let ends : List (Option Lsn) = map f (range_with_len 0 MOST_MEMBERS) in
     let few : n < length ends = slice_get_within ends n (Some end) is in
     let small : n < MOST_MEMBERS = subst (λ (k : ℕ). n < k) (length-map-range_with_len f 0 16) few in
-    sym (get_or-map-range_with_len f 0 16 n n None small (from-none n)) ∙ some-is (get_or ends n None) (Some end) (sym (slice_get-get_or ends n None few) ∙ is)
+    sym (get_or-map-range_with_len f 0 16 n n None small (from-none n))
+    ∙ some-is (get_or ends n None) (Some end) (sym (slice_get-get_or ends n None few) ∙ is)
 
-connected-end : (members : List Member) (servers : List ServerFacts) (cuts : CutLinks) (member : Member) (s : ServerFacts) (writing : Bool) (n : ℕ) (end : Lsn)
-    → slice_get (cond writing (connected_ends members servers cuts member s.confirmed) nothing_confirmed) n ≡ Some (Some end) → (writing ≡ true) × (slice_index_or s.confirmed n None ≡ Some end)
+connected-end : (members : List Member) (servers : List ServerFacts) (cuts : CutLinks) (member : Member)
+    (s : ServerFacts) (writing : Bool) (n : ℕ) (end : Lsn)
+    → slice_get (cond writing (connected_ends members servers cuts member s.confirmed) nothing_confirmed) n
+    ≡ Some (Some end)
+    → (writing ≡ true) × (slice_index_or s.confirmed n None ≡ Some end)
 unfolding connected_ends
-connected-end members servers cuts member s true n end is =
-    (refl, cond-some (is_connected members servers cuts member (slice_get members n)) (slice_index_or s.confirmed n None) end (at-number (connected_end members servers cuts member s.confirmed) n end is))
+connected-end members servers cuts member s true n end is = (
+  refl,
+  cond-some (is_connected members servers cuts member (slice_get members n)) (slice_index_or s.confirmed n None) end
+      (at-number (connected_end members servers cuts member s.confirmed) n end is),
+)
 connected-end members servers cuts member s false n end is = absurd (none-confirmed 16 n end is)
 
-known-position : (confirmed : List (Option Lsn)) (n : ℕ) (end : Lsn) → slice_index_or confirmed n None ≡ Some end → position_in (slice_get confirmed n) ≡ Some end.position
+known-position : (confirmed : List (Option Lsn)) (n : ℕ) (end : Lsn)
+    → slice_index_or confirmed n None ≡ Some end → position_in (slice_get confirmed n) ≡ Some end.position
 known-position [] n end is = absurd (none-some end is)
 known-position (one ∷ confirmed) zero end is = ap (λ (o : Option Lsn). position_in (Some o)) is
 known-position (one ∷ confirmed) (suc n) end is = known-position confirmed n end is
 
-module _ (head : HeadText) (book : List Event) (cluster : Cluster) (good : CommitsBridged head book cluster) (member : Member) (agent : AgentFacts) (s : ServerFacts)
-    (there : slice_get cluster.agents member.id.number ≡ Some (Some agent)) (found : slice_get cluster.facts.servers member.id.number ≡ Some s) where
+module _ (head : HeadText) (book : List Event) (cluster : Cluster) (good : CommitsBridged head book cluster)
+    (member : Member) (agent : AgentFacts) (s : ServerFacts)
+    (there : slice_get cluster.agents member.id.number ≡ Some (Some agent))
+    (found : slice_get cluster.facts.servers member.id.number ≡ Some s) where
   abbrev Seen : Replication
   Seen = replication_of cluster.facts.members cluster.facts.servers cluster.facts.cuts member s
 
   stands : (machine : Machine) → IsMadeOf s Seen machine → member.id.number < member_count head
-      → StandsToCommit (state_of_run head book cluster) member.id.number strict_quorum (outcome_from agent.role agent.knows machine [])
+      → StandsToCommit (state_of_run head book cluster) member.id.number strict_quorum
+      (outcome_from agent.role agent.knows machine [])
   stands machine made_is small =
       let k : ℕ = member.id.number in
       let past : Past = past_of head book in
@@ -105,14 +121,21 @@ module _ (head : HeadText) (book : List Event) (cluster : Cluster) (good : Commi
       record {
         agent = ap agent_now there;
         live = ap live_now found ∙ ap live (sym made_is.state);
-        required = ap confirmers_of (required-at past cluster.facts same k s found) ∙ ap (λ (r : Replication). confirmers_in r.required) (sym made_is.replication_is);
-        end = subst (λ (e : Option Lsn). IsEndOf e (log_found (slice_get past.logs k))) (sym made_is.end) (subst (λ (l : Option (List Entry)). IsEndOf (end_in s.log) l) (sym log) (end-is s.log sound.end));
+        required = ap confirmers_of (required-at past cluster.facts same k s found)
+            ∙ ap (λ (r : Replication). confirmers_in r.required) (sym made_is.replication_is);
+        end = subst (λ (e : Option Lsn). IsEndOf e (log_found (slice_get past.logs k))) (sym made_is.end)
+            (subst (λ (l : Option (List Entry)). IsEndOf (end_in s.log) l) (sym log) (end-is s.log sound.end));
         has_log = λ with_data. subst HasLog (sym log) (sound.log (ap has_data (sym made_is.state) ∙ with_data));
         connected = λ n end is.
-            let at = connected-end cluster.facts.members cluster.facts.servers cluster.facts.cuts member s (writes s.state) n end (ap (λ (r : Replication). slice_get r.confirmed_positions n) (sym made_is.replication_is) ∙ is) in
+            let at =
+            connected-end cluster.facts.members cluster.facts.servers cluster.facts.cuts member s (writes s.state) n end
+            (ap (λ (r : Replication). slice_get r.confirmed_positions n) (sym made_is.replication_is) ∙ is) in
             record {
               writes = writes-at past cluster.facts same k s found ∙ at.0;
-              confirmed = ap (λ (o : Option (List (Option Lsn))). position_of o n) (confirmed-at past cluster.facts same k s found) ∙ known-position s.confirmed n end at.1;
+              confirmed =
+                  ap (λ (o : Option (List (Option Lsn))). position_of o n)
+                  (confirmed-at past cluster.facts same k s found)
+                  ∙ known-position s.confirmed n end at.1;
             };
         me = (good.lease.matched.agents k agent there).me;
         counts = small;
@@ -120,17 +143,29 @@ module _ (head : HeadText) (book : List Event) (cluster : Cluster) (good : Commi
       }
 
 -- a member's agent stands to commit with the machine that it finds
-module _ (head : HeadText) (book : List Event) (cluster : Cluster) (good : CommitsBridged head book cluster) (member : Member) (agent : AgentFacts)
-    (there : slice_get cluster.agents member.id.number ≡ Some (Some agent)) (small : member.id.number < member_count head) where
-  stands-by : (machine : Machine) (receives by_failsafe : Bool) (found : Option ServerFacts) → slice_get cluster.facts.servers member.id.number ≡ found
-      → machine_from receives by_failsafe (option_map (replication_of cluster.facts.members cluster.facts.servers cluster.facts.cuts member) found) (slice_get cluster.options member.id.number)
-      (slice_get cluster.facts.deadlines member.id.number) (slice_get cluster.facts.holds member.id.number) found ≡ Some machine
-      → StandsToCommit (state_of_run head book cluster) member.id.number strict_quorum (outcome_from agent.role agent.knows machine [])
+module _ (head : HeadText) (book : List Event) (cluster : Cluster) (good : CommitsBridged head book cluster)
+    (member : Member) (agent : AgentFacts)
+    (there : slice_get cluster.agents member.id.number ≡ Some (Some agent))
+    (small : member.id.number < member_count head) where
+  stands-by : (machine : Machine) (receives by_failsafe : Bool) (found : Option ServerFacts)
+      → slice_get cluster.facts.servers member.id.number ≡ found
+      → machine_from receives by_failsafe
+      (option_map (replication_of cluster.facts.members cluster.facts.servers cluster.facts.cuts member) found)
+      (slice_get cluster.options member.id.number)
+      (slice_get cluster.facts.deadlines member.id.number) (slice_get cluster.facts.holds member.id.number) found
+      ≡ Some machine
+      → StandsToCommit (state_of_run head book cluster) member.id.number strict_quorum
+      (outcome_from agent.role agent.knows machine [])
   stands-by machine receives by_failsafe None found is = absurd (none-some machine is)
   stands-by machine receives by_failsafe (Some s) found is =
       stands head book cluster good member agent s there found machine
-      (made-of receives by_failsafe (replication_of cluster.facts.members cluster.facts.servers cluster.facts.cuts member s) (slice_get cluster.options member.id.number) (slice_get cluster.facts.deadlines member.id.number) (slice_get cluster.facts.holds member.id.number) s machine is)
+      (made-of receives by_failsafe
+      (replication_of cluster.facts.members cluster.facts.servers cluster.facts.cuts member s)
+      (slice_get cluster.options member.id.number) (slice_get cluster.facts.deadlines member.id.number)
+      (slice_get cluster.facts.holds member.id.number) s machine is)
       small
 
-  pub agent-stands : (machine : Machine) → machine_of cluster member ≡ Some machine → StandsToCommit (state_of_run head book cluster) member.id.number strict_quorum (outcome_from agent.role agent.knows machine [])
+  pub agent-stands : (machine : Machine) → machine_of cluster member ≡ Some machine
+      → StandsToCommit (state_of_run head book cluster) member.id.number strict_quorum
+      (outcome_from agent.role agent.knows machine [])
   agent-stands machine is = stands-by machine _ _ (slice_get cluster.facts.servers member.id.number) refl is

@@ -54,28 +54,40 @@ use Rattle.commit_parts.proofs.Servers.{leave-follow, moves-follow, upheld-still
 use Rattle.commit_parts.proofs.Transitions.{composable, state_behind}
 
 -- both laws read the same runs of agents
-runs-by : (known other : ℕ → ℕ) (kind : EventKind) → known ≡ other → runs_after known kind ≡ lease_premises.runs_after other kind
-runs-by known other (kinds.Agent (agents.Started agent incarnation)) same = ap (λ (runs : ℕ → ℕ). put_at runs agent.id.number incarnation) same
+runs-by : (known other : ℕ → ℕ) (kind : EventKind) → known ≡ other
+    → runs_after known kind ≡ lease_premises.runs_after other kind
+runs-by known other (kinds.Agent (agents.Started agent incarnation)) same =
+    ap (λ (runs : ℕ → ℕ). put_at runs agent.id.number incarnation) same
 runs-by known other _ same = same
 
-runs-over : (past : Past) (named : lease_past.Past) (book : List Event) → past.runs ≡ named.runs → (past_over past book).runs ≡ (lease_past.past_over named book).runs
+runs-over : (past : Past) (named : lease_past.Past) (book : List Event) → past.runs ≡ named.runs
+    → (past_over past book).runs ≡ (lease_past.past_over named book).runs
 runs-over past named [] same = same
-runs-over past named (event ∷ book) same = runs-over (past_after past event.kind) (lease_past.past_after named event.kind) book (runs-by past.runs named.runs event.kind same)
+runs-over past named (event ∷ book) same = runs-over (past_after past event.kind)
+    (lease_past.past_after named event.kind) book (runs-by past.runs named.runs event.kind same)
 
-pub runs-now : (head : HeadText) (book : List Event) (cluster : Cluster) → CommitsBridged head book cluster → (m : ℕ) → (past_of head book).runs m ≡ run_in cluster.facts.processes m
+pub runs-now : (head : HeadText) (book : List Event) (cluster : Cluster) → CommitsBridged head book cluster
+    → (m : ℕ) → (past_of head book).runs m ≡ run_in cluster.facts.processes m
 runs-now head book cluster good m =
-    ap (λ (runs : ℕ → ℕ). runs m) (runs-over (past_of head []) lease_past.first_past book refl) ∙ good.lease.matched.machines.runs m
+    ap (λ (runs : ℕ → ℕ). runs m) (runs-over (past_of head []) lease_past.first_past book refl)
+    ∙ good.lease.matched.machines.runs m
 
 -- ---- what is seen of an agent that starts
-starts-at : (known : List (Option AgentFacts)) (k : ℕ) (started : AgentFacts) (agent : Agent) → k < length known → agent_now (Some (Some started)) ≡ Some agent
+starts-at : (known : List (Option AgentFacts)) (k : ℕ) (started : AgentFacts) (agent : Agent)
+    → k < length known → agent_now (Some (Some started)) ≡ Some agent
     → agent_now (option_map (λ (a : Option AgentFacts). Some started) (slice_get known k)) ≡ Some agent
-starts-at known k started agent small seen = ap (λ (o : Option (Option AgentFacts)). agent_now (option_map (λ (a : Option AgentFacts). Some started) o)) (there known k small).1 ∙ seen
+starts-at known k started agent small seen =
+    ap (λ (o : Option (Option AgentFacts)). agent_now (option_map (λ (a : Option AgentFacts). Some started) o))
+    (there known k small).1
+    ∙ seen
 
 -- an agent behind a start is the one that starts, or was there
-started-there : (k : ℕ) (started : AgentFacts) (test : Bool) (found : Option (Option AgentFacts)) (agent : AgentFacts) (P : AgentFacts → Type 0) → P started → (found ≡ Some (Some agent) → P agent)
+started-there : (k : ℕ) (started : AgentFacts) (test : Bool) (found : Option (Option AgentFacts))
+    (agent : AgentFacts) (P : AgentFacts → Type 0) → P started → (found ≡ Some (Some agent) → P agent)
     → cond test (option_map (λ (a : Option AgentFacts). Some started) found) found ≡ Some (Some agent) → P agent
 started-there k started true None agent P new old is = absurd (none-some (Some agent) is)
-started-there k started true (Some one) agent P new old is = subst P (some-is started agent (some-is (Some started) (Some agent) is)) new
+started-there k started true (Some one) agent P new old is =
+    subst P (some-is started agent (some-is (Some started) (Some agent) is)) new
 started-there k started false found agent P new old is = old is
 
 module _ (cluster : Cluster) (member : Member) (incarnation : ℕ) where
@@ -83,34 +95,51 @@ module _ (cluster : Cluster) (member : Member) (incarnation : ℕ) where
   Kind = kinds.Agent (agents.Started member incarnation)
 
   abbrev Started : AgentFacts
-  Started = starting_agent (who_of cluster.scope cluster.options cluster.facts.members member) cluster.facts.clock incarnation
+  Started =
+      starting_agent (who_of cluster.scope cluster.options cluster.facts.members member) cluster.facts.clock incarnation
 
-  pub moves-start : (setup : Setup) (past : Past) → incarnation ≡ past.runs member.id.number + 1 → member.id.number < length cluster.agents → Fits past cluster.facts (volatile_of cluster)
+  pub moves-start : (setup : Setup) (past : Past) → incarnation ≡ past.runs member.id.number + 1
+      → member.id.number < length cluster.agents → Fits past cluster.facts (volatile_of cluster)
       → Moves setup past cluster (event_of cluster Kind)
   moves-start setup past next small fits =
       let later : Cluster = cluster_after cluster Kind in
       let k : ℕ = member.id.number in
-      let states : (ℕ → VolatileState) = put_at (volatile_of cluster) k (record (volatile_of cluster k) { agent = Some (fresh_agent (past.runs k + 1)) }) in
+      let states : (ℕ → VolatileState) = put_at (volatile_of cluster) k
+      (record (volatile_of cluster k) { agent = Some (fresh_agent (past.runs k + 1)) }) in
       let same : states ≡ volatile_of later =
       volatile-put (volatile_of cluster) (volatile_of later) k (Some (fresh_agent (past.runs k + 1))) (λ m. refl)
-      (ap agent_now (get-here cluster.agents k _) ∙ starts-at cluster.agents k Started (fresh_agent (past.runs k + 1)) small (ap (λ (r : ℕ). Some (fresh_agent r)) next))
+      (ap agent_now (get-here cluster.agents k _) ∙ starts-at cluster.agents k Started
+      (fresh_agent (past.runs k + 1)) small (ap (λ (r : ℕ). Some (fresh_agent r)) next))
       (λ m other. ap agent_now (get-elsewhere cluster.agents k m _ other)) in
       record {
         transitions = record { action = Start k; events = event_of cluster Kind; volatile_states = states } ∷ [];
         whole = refl;
-        allowed = (tt, start-shown setup past (volatile_of cluster) (record { 0 = later.facts.clock }) member incarnation next, change-once (record { 0 = later.facts.clock }) Kind, tt);
+        allowed = (
+          tt,
+          start-shown setup past (volatile_of cluster) (record { 0 = later.facts.clock }) member incarnation next,
+          change-once (record { 0 = later.facts.clock }) Kind,
+          tt,
+        );
         once = (inr tt, tt);
         last = same;
         fits = subst (λ (v : ℕ → VolatileState). Fits (past_after past Kind) later.facts v) same
-            (fits-agents (past_after past Kind) later.facts (volatile_of cluster) k (Some (fresh_agent (past.runs k + 1))) (fits-aside past cluster.facts (volatile_of cluster) Kind tt fits));
+            (fits-agents (past_after past Kind) later.facts (volatile_of cluster) k
+            (Some (fresh_agent (past.runs k + 1))) (fits-aside past cluster.facts (volatile_of cluster) Kind tt fits));
       }
 
   -- it waits for nothing
-  pub agents-start : (count : ℕ) (named : lease_past.Past) (past : Past) → AreAgentsSynchronous count named.asked past.asked cluster.agents
-      → AreAgentsSynchronous count (lease_past.past_after named Kind).asked (past_after past Kind).asked (cluster_after cluster Kind).agents
+  pub agents-start : (count : ℕ) (named : lease_past.Past) (past : Past)
+      → AreAgentsSynchronous count named.asked past.asked cluster.agents
+      → AreAgentsSynchronous count (lease_past.past_after named Kind).asked (past_after past Kind).asked
+      (cluster_after cluster Kind).agents
   agents-start count named past all = record {
-    each = λ m agent is. started-there member.id.number Started (m == member.id.number) (slice_get cluster.agents m) agent (IsAgentSynchronous named.asked past.asked m)
-        (record { on = fresh-asks (who_of cluster.scope cluster.options cluster.facts.members member) (record { 0 = cluster.facts.clock + 1 }) incarnation; writes = λ waited waits. absurd (none-some waited waits) })
+    each = λ m agent is. started-there member.id.number Started (m == member.id.number)
+        (slice_get cluster.agents m) agent (IsAgentSynchronous named.asked past.asked m)
+        (record {
+          on = fresh-asks (who_of cluster.scope cluster.options cluster.facts.members member)
+              (record { 0 = cluster.facts.clock + 1 }) incarnation;
+          writes = λ waited waits. absurd (none-some waited waits);
+        })
         (all.each m agent) (sym (get-changed cluster.agents member.id.number m _) ∙ is);
     members = all.members;
   }
@@ -120,22 +149,30 @@ record IsDisarm (facts : Facts) (kind : EventKind) : Type 0 where
   still : IsStill kind
   may : MayHappen facts kind
 
-disarms-by : (facts : Facts) (member : Member) (is_live : Bool) (deadline : Option Ticks) → HoldsIf (IsDisarm facts) (cond is_live None (disarm_if member deadline))
+disarms-by : (facts : Facts) (member : Member) (is_live : Bool) (deadline : Option Ticks)
+    → HoldsIf (IsDisarm facts) (cond is_live None (disarm_if member deadline))
 disarms-by facts member true deadline = tt
 disarms-by facts member false None = tt
 disarms-by facts member false (Some deadline) = record { still = tt; may = tt }
 
-disarms : (facts : Facts) (member : Member) (machine : Option Machine) → HoldsIf (IsDisarm facts) (disarm_of member machine)
+disarms : (facts : Facts) (member : Member) (machine : Option Machine)
+    → HoldsIf (IsDisarm facts) (disarm_of member machine)
 disarms facts member None = tt
 disarms facts member (Some machine) = disarms-by facts member (live machine.server.state) machine.watchdog.deadline
 
-disarm-still : (cluster : Cluster) (found : Option EventKind) → HoldsIf (IsDisarm cluster.facts) found → AllAre IsStill (events_of cluster (kinds_of found)) × MayFollow cluster.facts (events_of cluster (kinds_of found))
+disarm-still : (cluster : Cluster) (found : Option EventKind) → HoldsIf (IsDisarm cluster.facts) found
+    → AllAre IsStill (events_of cluster (kinds_of found)) × MayFollow cluster.facts (events_of cluster (kinds_of found))
 disarm-still cluster None is = (tt, tt)
 disarm-still cluster (Some kind) is = ((is.still, tt), (is.may, tt))
 
-module _ (head : HeadText) (book : List Event) (cluster : Cluster) (member : Member) (small : member.id.number < member_count head) (good : CommitsBridged head book cluster) where
-  upheld-start : (incarnation : ℕ) (found : Option EventKind) → incarnation ≡ run_in cluster.facts.processes member.id.number + 1 → HoldsIf (IsDisarm (cluster_after cluster (kinds.Agent (agents.Started member incarnation))).facts) found
-      → IsKept head book cluster (events_of cluster (kinds.Agent (agents.Started member incarnation) ∷ kinds_of found)) → Upholds (kept_commits head) book cluster (events_of cluster (kinds.Agent (agents.Started member incarnation) ∷ kinds_of found))
+module _ (head : HeadText) (book : List Event) (cluster : Cluster) (member : Member)
+    (small : member.id.number < member_count head) (good : CommitsBridged head book cluster) where
+  upheld-start : (incarnation : ℕ) (found : Option EventKind)
+      → incarnation ≡ run_in cluster.facts.processes member.id.number + 1
+      → HoldsIf (IsDisarm (cluster_after cluster (kinds.Agent (agents.Started member incarnation))).facts) found
+      → IsKept head book cluster (events_of cluster (kinds.Agent (agents.Started member incarnation) ∷ kinds_of found))
+      → Upholds (kept_commits head) book cluster
+      (events_of cluster (kinds.Agent (agents.Started member incarnation) ∷ kinds_of found))
   upheld-start incarnation found next is kept =
       let kind : EventKind = kinds.Agent (agents.Started member incarnation) in
       let started : Cluster = cluster_after cluster kind in
@@ -146,24 +183,39 @@ module _ (head : HeadText) (book : List Event) (cluster : Cluster) (member : Mem
       let left = leave-follow (member_count head) strict_quorum named past started rest parts.0 parts.1 in
       upheld-moves head book cluster (event_of cluster kind ++ rest) good
       (moves-then (setup_of head) (past_of head book) cluster (event_of cluster kind) rest
-      (moves-start cluster member incarnation (setup_of head) (past_of head book) (next ∙ ap (λ (r : ℕ). r + 1) (sym (runs-now head book cluster good member.id.number)))
+      (moves-start cluster member incarnation (setup_of head) (past_of head book)
+      (next ∙ ap (λ (r : ℕ). r + 1) (sym (runs-now head book cluster good member.id.number)))
       (subst (λ (n : ℕ). member.id.number < n) (sym good.lease.matched.agents_sized) small) good.fits.servers)
       (λ later. moves-follow (setup_of head) past started rest later parts.0 parts.1))
-      kept (tt, (tt, left.causal)) (tt, left.asks (state_behind head book cluster (event_of cluster kind ++ rest))) (tt, left.ordered)
-      (agents-leave (member_count head) named past started (lease_past.past_over named rest) (past_over past rest) (cluster_over started rest) left.leave
-      (agents-start cluster member incarnation (member_count head) (lease_past.past_of book) (past_of head book) good.fits.agents))
+      kept (tt, (tt, left.causal))
+      (tt, left.asks (state_behind head book cluster (event_of cluster kind ++ rest))) (tt, left.ordered)
+      (agents-leave (member_count head) named past started (lease_past.past_over named rest)
+      (past_over past rest) (cluster_over started rest) left.leave
+      (agents-start cluster member incarnation (member_count head) (lease_past.past_of book)
+      (past_of head book) good.fits.agents))
 
-  upheld-restart-by : (process : AgentProcess) (running : Bool) → slice_get cluster.facts.processes member.id.number ≡ Some process
-      → IsKept head book cluster (events_of cluster (cond running (kinds.Note (AlreadyRunning member)) (kinds.Agent (agents.Started member (process.incarnation + 1))) ∷ kinds_of (cond running None (disarm_of member (machine_of cluster member)))))
-      → Upholds (kept_commits head) book cluster (events_of cluster (cond running (kinds.Note (AlreadyRunning member)) (kinds.Agent (agents.Started member (process.incarnation + 1))) ∷ kinds_of (cond running None (disarm_of member (machine_of cluster member)))))
-  upheld-restart-by process true is kept = upheld-still head book cluster (kinds.Note (AlreadyRunning member)) good tt tt kept
+  upheld-restart-by : (process : AgentProcess) (running : Bool)
+      → slice_get cluster.facts.processes member.id.number ≡ Some process
+      → IsKept head book cluster
+      (events_of cluster
+      (cond running (kinds.Note (AlreadyRunning member)) (kinds.Agent (agents.Started member (process.incarnation + 1)))
+      ∷ kinds_of (cond running None (disarm_of member (machine_of cluster member)))))
+      → Upholds (kept_commits head) book cluster
+      (events_of cluster
+      (cond running (kinds.Note (AlreadyRunning member)) (kinds.Agent (agents.Started member (process.incarnation + 1)))
+      ∷ kinds_of (cond running None (disarm_of member (machine_of cluster member)))))
+  upheld-restart-by process true is kept =
+      upheld-still head book cluster (kinds.Note (AlreadyRunning member)) good tt tt kept
   upheld-restart-by process false is kept =
-      upheld-start (process.incarnation + 1) (disarm_of member (machine_of cluster member)) (ap (λ (o : Option AgentProcess). run_now o + 1) (sym is)) (disarms _ member (machine_of cluster member)) kept
+      upheld-start (process.incarnation + 1) (disarm_of member (machine_of cluster member))
+      (ap (λ (o : Option AgentProcess). run_now o + 1) (sym is)) (disarms _ member (machine_of cluster member)) kept
 
-  upheld-restart-of : (found : Option AgentProcess) → slice_get cluster.facts.processes member.id.number ≡ found → IsKept head book cluster (for_some found (agent_start_events_of cluster member))
+  upheld-restart-of : (found : Option AgentProcess) → slice_get cluster.facts.processes member.id.number ≡ found
+      → IsKept head book cluster (for_some found (agent_start_events_of cluster member))
       → Upholds (kept_commits head) book cluster (for_some found (agent_start_events_of cluster member))
   upheld-restart-of None is kept = upheld-none (kept_commits head) (composable head) book cluster good
   upheld-restart-of (Some process) is kept = upheld-restart-by process process.running is kept
 
   pub upheld-restart : Upholds (kept_commits head) book cluster (agent_start_events cluster member)
-  upheld-restart = upheld-restart-of (slice_get cluster.facts.processes member.id.number) refl (kept-restart head book cluster member small good.lease)
+  upheld-restart = upheld-restart-of (slice_get cluster.facts.processes member.id.number) refl
+      (kept-restart head book cluster member small good.lease)

@@ -25,37 +25,47 @@ use Rattle.commit_book.specs.Order.{NamesMembers}
 
 -- each request in flight is as synchronous mode has it, among so many members, of which so many may lack a commit
 abbrev pub AreSynchronous : ℕ → ℕ → Flight → Type 0
-AreSynchronous count quorum flight = (i : ℕ) (carried : InFlightFacts) → in_flight flight i ≡ Some carried → IsSynchronousBody count quorum carried.message.body
+AreSynchronous count quorum flight = (i : ℕ) (carried : InFlightFacts) → in_flight flight i ≡ Some carried
+    → IsSynchronousBody count quorum carried.message.body
 
 -- this request that compares the sync key asks for what the question says, whatever its revision comes to be
 pub record IsWriteOf (question : Question) (request : SyncRequest) : Type 0 where
   pub writes : is_creating request.aim ≡ false
   pub standbys : (revision : ℕ) → IsAskedBy question (sync_key_by request.member revision request.aim)
 
--- a request of this member with the run and the number of what is waited for is the write of the sync key that is waited for
+-- a request of this member with the run and the number of what is
+-- waited for is the write of the sync key that is waited for
 abbrev pub IsWriteAsked : (ℕ → Option Asked) → (ℕ → Query) → ℕ → ℕ → PendingQuestion → Type 0
-IsWriteAsked named asked m incarnation waited = (i : ℕ) (question : Asked) → named i ≡ Some question → question.member ≡ m → question.incarnation ≡ incarnation → question.sequence ≡ waited.sequence
+IsWriteAsked named asked m incarnation waited = (i : ℕ) (question : Asked) → named i ≡ Some question
+    → question.member ≡ m → question.incarnation ≡ incarnation → question.sequence ≡ waited.sequence
     → (request : SyncRequest) × (asked i ≡ SyncQuery request) × IsWriteOf waited.question request
 
--- what an agent of this member waits for it asked with the mode on; and so it was asked, if it asks for a write of the sync key
+-- what an agent of this member waits for it asked with the mode on;
+-- and so it was asked, if it asks for a write of the sync key
 pub record IsAgentSynchronous (named : ℕ → Option Asked) (asked : ℕ → Query) (m : ℕ) (agent : AgentFacts) : Type 0 where
   pub on : AsksInSynchronousMode agent.knows
-  pub writes : ForSome agent.knows.waited (λ waited. asks_sync waited.question ≡ true → IsWriteAsked named asked m agent.knows.incarnation waited)
+  pub writes : ForSome agent.knows.waited
+      (λ waited. asks_sync waited.question ≡ true → IsWriteAsked named asked m agent.knows.incarnation waited)
 
 -- each agent that is there is such, and each question was asked by one of so many members
-pub record AreAgentsSynchronous (count : ℕ) (named : ℕ → Option Asked) (asked : ℕ → Query) (agents : List (Option AgentFacts)) : Type 0 where
-  pub each : (m : ℕ) (agent : AgentFacts) → slice_get agents m ≡ Some (Some agent) → IsAgentSynchronous named asked m agent
+pub record AreAgentsSynchronous (count : ℕ) (named : ℕ → Option Asked) (asked : ℕ → Query)
+    (agents : List (Option AgentFacts)) : Type 0 where
+  pub each : (m : ℕ) (agent : AgentFacts) → slice_get agents m ≡ Some (Some agent)
+      → IsAgentSynchronous named asked m agent
   pub members : (i : ℕ) (question : Asked) → named i ≡ Some question → question.member < count
 
 -- each snapshot in flight has a sync key of members alone, of which at most so many may lack a commit, or none
 abbrev pub TellsMembers : ℕ → ℕ → Flight → Type 0
-TellsMembers count quorum flight = (i : ℕ) (carried : InFlightFacts) → in_flight flight i ≡ Some carried → NamesMembers count quorum (sync_key_of (find key_cmp keys.Sync carried.snapshot))
+TellsMembers count quorum flight = (i : ℕ) (carried : InFlightFacts) → in_flight flight i ≡ Some carried
+    → NamesMembers count quorum (sync_key_of (find key_cmp keys.Sync carried.snapshot))
 
 -- what one member asks another has an incarnation and a number that its agents gave
 abbrev pub IsAskNumbered : State → LinkEnd → ℕ → ℕ → Body → Type 0
-IsAskNumbered s (ends.Member by) incarnation sequence bodies.Ask = IsNumbered (s.members by.id.number) incarnation sequence
+IsAskNumbered s (ends.Member by) incarnation sequence bodies.Ask =
+    IsNumbered (s.members by.id.number) incarnation sequence
 IsAskNumbered s _ incarnation sequence _ = Unit {0}
 
 -- each ask of one member to another in flight has an incarnation and a number that its agents gave
 abbrev pub AsksAreNumbered : State → Flight → Type 0
-AsksAreNumbered s flight = (i : ℕ) (carried : InFlightFacts) → in_flight flight i ≡ Some carried → IsAskNumbered s carried.message.from carried.message.incarnation carried.message.sequence carried.message.body
+AsksAreNumbered s flight = (i : ℕ) (carried : InFlightFacts) → in_flight flight i ≡ Some carried
+    → IsAskNumbered s carried.message.from carried.message.incarnation carried.message.sequence carried.message.body

@@ -24,8 +24,8 @@ use Rattle.commit_parts.specs.Modes.{IsSynchronous}
 use Rattle.commit_parts.specs.Ordered.{AllInOrder, StaysInOrder}
 use Rattle.commit_parts.specs.Reading.{past_of, state_of_run, volatile_of}
 
--- what commits and the law of one writer read of a book fits a cluster of so many members, in whose sync key at most so many standbys may lack
--- a commit
+-- what commits and the law of one writer read of a book fits a cluster of so
+-- many members, in whose sync key at most so many standbys may lack a commit
 pub record FitsBy (count quorum : ℕ) (past : Past) (named : lease_past.Past) (cluster : Cluster) : Type 0 where
   pub store : IsSameBook past cluster.facts
   pub servers : Fits past cluster.facts (volatile_of cluster)
@@ -37,7 +37,8 @@ pub record FitsBy (count quorum : ℕ) (past : Past) (named : lease_past.Past) (
 
 -- a book fits a cluster of this head, of whose standbys none may lack a commit
 abbrev pub FitsCommits : HeadText → List Event → Cluster → Type 0
-FitsCommits head book cluster = FitsBy (member_count head) strict_quorum (past_of head book) (lease_past.past_of book) cluster
+FitsCommits head book cluster =
+    FitsBy (member_count head) strict_quorum (past_of head book) (lease_past.past_of book) cluster
 
 -- a book and a cluster that it leaves, between two actions: what both laws carry holds of them
 pub record CommitsBridged (head : HeadText) (book : List Event) (cluster : Cluster) : Type 0 where
@@ -54,7 +55,8 @@ pub record MeetsMode (head : HeadText) (book : List Event) : Type 0 where
   pub timely : MeetsPremises head book
   pub mode : KeepMode true book
 
--- what is promised of each moment: each server that accepts writes holds each acknowledged commit, and required lists and sync key are in order
+-- what is promised of each moment: each server that accepts writes holds
+-- each acknowledged commit, and required lists and sync key are in order
 pub record KeepsInOrder (head : HeadText) (book : List Event) : Type 0 where
   pub kept : KeepsNow (past_of head book)
   pub order : StaysInOrder head book

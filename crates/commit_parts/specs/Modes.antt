@@ -37,4 +37,5 @@ IsSynchronousTold _ pairs = Unit {0}
 pub record IsSynchronous (facts : Facts) : Type 0 where
   pub kept : IsKept facts.keys.pairs
   pub store : IsSynchronousIn facts.keys.pairs
-  pub flight : (i : ℕ) (carried : InFlightFacts) → in_flight facts.flight i ≡ Some carried → IsSynchronousTold carried.message.body carried.snapshot
+  pub flight : (i : ℕ) (carried : InFlightFacts) → in_flight facts.flight i ≡ Some carried
+      → IsSynchronousTold carried.message.body carried.snapshot

@@ -14,15 +14,17 @@ abbrev pub volatile_last : (ℕ → VolatileState) → List Transition → ℕ �
 volatile_last volatile_states [] = volatile_states
 volatile_last volatile_states (transition ∷ transitions) = volatile_last transition.volatile_states transitions
 
--- these events are allowed actions, one after another, which they show, from these volatile states on; and servers, and what no event says of
--- members, fit behind them
-pub record MovesFrom (setup : Setup) (past : Past) (states : ℕ → VolatileState) (cluster : Cluster) (events : List Event) : Type 0 where
+-- these events are allowed actions, one after another, which they show, from these
+-- volatile states on; and servers, and what no event says of members, fit behind them
+pub record MovesFrom (setup : Setup) (past : Past) (states : ℕ → VolatileState) (cluster : Cluster)
+    (events : List Event) : Type 0 where
   pub transitions : List Transition
   pub whole : book_of transitions ≡ events
   pub allowed : AreAllowed setup past states transitions
   pub once : EachChangesOnce transitions
   pub last : volatile_last states transitions ≡ volatile_of (cluster_over cluster events)
-  pub fits : Fits (past_over past events) (cluster_over cluster events).facts (volatile_of (cluster_over cluster events))
+  pub fits : Fits (past_over past events) (cluster_over cluster events).facts
+      (volatile_of (cluster_over cluster events))
 
 -- the same from where servers and agents stand
 abbrev pub Moves : Setup → Past → Cluster → List Event → Type 0

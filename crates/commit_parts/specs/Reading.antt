@@ -33,7 +33,8 @@ agent_now (Some agent) = option_map (λ (a : AgentFacts). committer_seen a.role 
 
 -- what no event says of a member, by a cluster: whether its server is live, and its agent
 abbrev pub volatile_of : Cluster → ℕ → VolatileState
-volatile_of cluster m = record { live = live_in cluster.facts.servers m; agent = agent_now (slice_get cluster.agents m) }
+volatile_of cluster m =
+    record { live = live_in cluster.facts.servers m; agent = agent_now (slice_get cluster.agents m) }
 
 -- the state of the law behind this book and cluster
 abbrev pub state_of_run : HeadText → List Event → Cluster → State

@@ -1,4 +1,5 @@
--- Commits are kept, and required lists and sync key in order, at each moment of each run in synchronous mode up to which the premises are met.
+-- Commits are kept, and required lists and sync key in order, at each
+-- moment of each run in synchronous mode up to which the premises are met.
 use Rattle.std.proofs.Common.{List, []}
 use Rattle.cluster_model.specs.declared.step.Step.{Step}
 use Rattle.script_model.specs.Script.{HeadText, IsHead}
@@ -36,13 +37,20 @@ parts head is = record {
   commands = λ command book cluster good. upheld-command head (few-names head is) book cluster good command;
 }
 
-promised : (head : HeadText) → IsHead head → (steps : List Step) → InSynchronousMode head (run_events (cluster_of head) steps) (KeepsInOrder head)
+promised : (head : HeadText) → IsHead head → (steps : List Step)
+    → InSynchronousMode head (run_events (cluster_of head) steps) (KeepsInOrder head)
 promised head is steps on front rest whole met mode =
-    (upholds-run (IsDeclared head) (kept_commits head) (composable head) (parts head is) steps [] (cluster_of head) (commits-first head is on met.hands_off.unpaused)).inside front rest whole
+    (upholds-run (IsDeclared head) (kept_commits head) (composable head) (parts head is) steps []
+    (cluster_of head) (commits-first head is on met.hands_off.unpaused)).inside
+    front rest whole
     (record { timely = met; mode = mode })
 
-pub runs-keep : (head : HeadText) → IsHead head → (steps : List Step) → KeepsCommitsIn head (run_events (cluster_of head) steps)
-runs-keep head is steps on front rest whole met mode = held-by-book head front (promised head is steps on front rest whole met mode).kept
+pub runs-keep : (head : HeadText) → IsHead head → (steps : List Step)
+    → KeepsCommitsIn head (run_events (cluster_of head) steps)
+runs-keep head is steps on front rest whole met mode =
+    held-by-book head front (promised head is steps on front rest whole met mode).kept
 
-pub runs-in-order : (head : HeadText) → IsHead head → (steps : List Step) → KeepsOrderIn head (run_events (cluster_of head) steps)
-runs-in-order head is steps on front rest whole met mode = order-by-book head front (promised head is steps on front rest whole met mode).order
+pub runs-in-order : (head : HeadText) → IsHead head → (steps : List Step)
+    → KeepsOrderIn head (run_events (cluster_of head) steps)
+runs-in-order head is steps on front rest whole met mode =
+    order-by-book head front (promised head is steps on front rest whole met mode).order

@@ -16,18 +16,23 @@ use Rattle.commit_runs.specs.Runs.{first_logs}
 pub book-logs : (head : HeadText) (book : List Event) → (past_of head book).logs ≡ logs_over (first_logs head) book
 book-logs head book = past-logs (past_of head []) book
 
-pub book-writes : (head : HeadText) (book : List Event) (n : ℕ) → (past_of head book).writes n ≡ writes_over (λ m. false) book n
+pub book-writes : (head : HeadText) (book : List Event) (n : ℕ)
+    → (past_of head book).writes n ≡ writes_over (λ m. false) book n
 book-writes head book n = ap (λ (w : ℕ → Bool). w n) (past-writes (past_of head []) book)
 
 pub book-acknowledged : (head : HeadText) (book : List Event) → (past_of head book).acknowledged ≡ acknowledged_in book
 book-acknowledged head book = past-shown (past_of head []) book
 
-pub held-by-book : (head : HeadText) (book : List Event) → KeepsNow (past_of head book) → KeepsCommits (first_logs head) book
+pub held-by-book : (head : HeadText) (book : List Event) → KeepsNow (past_of head book)
+    → KeepsCommits (first_logs head) book
 held-by-book head book hold server writes commit told =
     subst (λ (l : Logs). has_serial (entries_at l server) commit ≡ true) (book-logs head book)
-    (hold server (book-writes head book server ∙ writes) commit (subst (λ (l : List ℕ). Contains l commit) (sym (book-acknowledged head book)) told))
+    (hold server (book-writes head book server ∙ writes) commit
+    (subst (λ (l : List ℕ). Contains l commit) (sym (book-acknowledged head book)) told))
 
-pub held-by-past : (head : HeadText) (book : List Event) → KeepsCommits (first_logs head) book → KeepsNow (past_of head book)
+pub held-by-past : (head : HeadText) (book : List Event) → KeepsCommits (first_logs head) book
+    → KeepsNow (past_of head book)
 held-by-past head book hold server writes commit told =
     subst (λ (l : Logs). has_serial (entries_at l server) commit ≡ true) (sym (book-logs head book))
-    (hold server (sym (book-writes head book server) ∙ writes) commit (subst (λ (l : List ℕ). Contains l commit) (book-acknowledged head book) told))
+    (hold server (sym (book-writes head book server) ∙ writes) commit
+    (subst (λ (l : List ℕ). Contains l commit) (book-acknowledged head book) told))

@@ -74,119 +74,181 @@ follow-none member (Some leader) = tt
 
 stop-none : (member : Member) (s : ServerFacts) → HoldsIf LosesNone (stop_of member s)
 stop-none member s =
-    holds-if LosesNone (is_up s.state) (stop_kind member s.state s.stop_delay) (kind-cond (is_primary s.state && s.stop_delay.0 == 0) (kinds.Server (servers.Ended (server_of member))) (kinds.Server (servers.Stops (server_of member))) tt tt)
+    holds-if LosesNone (is_up s.state) (stop_kind member s.state s.stop_delay)
+    (kind-cond (is_primary s.state && s.stop_delay.0 == 0) (kinds.Server (servers.Ended (server_of member)))
+    (kinds.Server (servers.Stops (server_of member))) tt tt)
 
-order-none : (cluster : Cluster) (member : Member) (order : ServerFacts → Option EventKind) → ((s : ServerFacts) → HoldsIf LosesNone (order s)) → AllAre LosesNone (server_order_events cluster member order)
-order-none cluster member order all = none-if cluster (option_and_then order (server_at cluster member)) (holds-then LosesNone order (server_at cluster member) all)
+order-none : (cluster : Cluster) (member : Member) (order : ServerFacts → Option EventKind)
+    → ((s : ServerFacts) → HoldsIf LosesNone (order s)) → AllAre LosesNone (server_order_events cluster member order)
+order-none cluster member order all = none-if cluster (option_and_then order (server_at cluster member))
+    (holds-then LosesNone order (server_at cluster member) all)
 
-sending-none : (cluster : Cluster) (member : Member) (found : Option AgentProcess) (to : Option LinkEnd) (sequence : ℕ) (body : Body) → AllAre LosesNone (sending_events cluster member found to sequence body)
+sending-none : (cluster : Cluster) (member : Member) (found : Option AgentProcess) (to : Option LinkEnd)
+    (sequence : ℕ) (body : Body) → AllAre LosesNone (sending_events cluster member found to sequence body)
 sending-none cluster member None to sequence body = tt
 sending-none cluster member (Some process) None sequence body = tt
-sending-none cluster member (Some process) (Some to) sequence body = sends-none cluster (agent_message member to process.incarnation sequence body)
+sending-none cluster member (Some process) (Some to) sequence body =
+    sends-none cluster (agent_message member to process.incarnation sequence body)
 
-replying-none : (cluster : Cluster) (member : Member) (to : Option LinkEnd) (incarnation sequence : ℕ) (body : Body) → AllAre LosesNone (replying_events cluster member to incarnation sequence body)
+replying-none : (cluster : Cluster) (member : Member) (to : Option LinkEnd) (incarnation sequence : ℕ) (body : Body)
+    → AllAre LosesNone (replying_events cluster member to incarnation sequence body)
 replying-none cluster member None incarnation sequence body = tt
-replying-none cluster member (Some to) incarnation sequence body = sends-none cluster (agent_message member to incarnation sequence body)
+replying-none cluster member (Some to) incarnation sequence body =
+    sends-none cluster (agent_message member to incarnation sequence body)
 
 started-none : (cluster : Cluster) (member : Member) (leader : Option Member) (test : Bool)
-    → AllAre LosesNone (events_of cluster (cond test (kinds.Server (servers.StartsAsReplica (server_of member)) ∷ kinds_of (following_of member leader)) []))
+    → AllAre LosesNone
+    (events_of cluster
+    (cond test (kinds.Server (servers.StartsAsReplica (server_of member)) ∷ kinds_of (following_of member leader)) []))
 started-none cluster member leader true = (tt, none-if _ (following_of member leader) (follow-none member leader))
 started-none cluster member leader false = tt
 
 module _ (head : HeadText) where
-  begins-upheld : (book : List Event) (cluster : Cluster) (member : Member) (s : ServerFacts) (found : Option Beginning) → TellsSoFar head book cluster → slice_get cluster.facts.servers member.id.number ≡ Some s
-      → Upholds (losses_told head) book cluster (events_of cluster (kinds_by member cluster.facts.acknowledged s.log found))
+  begins-upheld : (book : List Event) (cluster : Cluster) (member : Member) (s : ServerFacts) (found : Option Beginning)
+      → TellsSoFar head book cluster → slice_get cluster.facts.servers member.id.number ≡ Some s
+      → Upholds (losses_told head) book cluster
+      (events_of cluster (kinds_by member cluster.facts.acknowledged s.log found))
   begins-upheld book cluster member s None good is = upheld-none (losses_told head) (composable head) book cluster good
-  begins-upheld book cluster member s (Some (beginnings.AtOnce timeline)) good is = upheld-begun head book cluster good member timeline s is
-  begins-upheld book cluster member s (Some beginnings.WithItsStart) good is = upheld-loseless head book cluster _ good (tt, tt)
+  begins-upheld book cluster member s (Some (beginnings.AtOnce timeline)) good is =
+      upheld-begun head book cluster good member timeline s is
+  begins-upheld book cluster member s (Some beginnings.WithItsStart) good is =
+      upheld-loseless head book cluster _ good (tt, tt)
 
-  repaired-upheld : (book : List Event) (cluster : Cluster) (found : Option EventKind) → TellsSoFar head book cluster → HoldsIf IsRepair found → MayFollow cluster.facts (events_of cluster (kinds_of found))
+  repaired-upheld : (book : List Event) (cluster : Cluster) (found : Option EventKind) → TellsSoFar head book cluster
+      → HoldsIf IsRepair found → MayFollow cluster.facts (events_of cluster (kinds_of found))
       → Upholds (losses_told head) book cluster (events_of cluster (kinds_of found))
   repaired-upheld book cluster None good is may = upheld-none (losses_told head) (composable head) book cluster good
   repaired-upheld book cluster (Some kind) good is may = upheld-repair head book cluster kind good is may.0
 
   -- a server that is wiped accepts no writes
-  wiped-by : (book : List Event) (cluster : Cluster) (member : Member) (s : ServerFacts) (test : Bool) → TellsSoFar head book cluster → slice_get cluster.facts.servers member.id.number ≡ Some s → (is_creating s.state || live s.state) ≡ test
-      → Upholds (losses_told head) book cluster (events_of cluster (kinds_of (if test then None else Some (kinds.Log (logs.Wiped (server_of member))))))
+  wiped-by : (book : List Event) (cluster : Cluster) (member : Member) (s : ServerFacts) (test : Bool)
+      → TellsSoFar head book cluster → slice_get cluster.facts.servers member.id.number ≡ Some s
+      → (is_creating s.state || live s.state) ≡ test
+      → Upholds (losses_told head) book cluster
+      (events_of cluster (kinds_of (if test then None else Some (kinds.Log (logs.Wiped (server_of member))))))
   wiped-by book cluster member s true good is stays = upheld-none (losses_told head) (composable head) book cluster good
   wiped-by book cluster member s false good is goes =
-      upheld-then (losses_told head) (composable head) book cluster (event_of cluster (kinds.Log (logs.Wiped (server_of member)))) []
-      (upheld-repair head book cluster (kinds.Log (logs.Wiped (server_of member))) good tt (record { server = s; is = is; not_live = not-or (is_creating s.state) (live s.state) goes }))
+      upheld-then (losses_told head) (composable head) book cluster
+      (event_of cluster (kinds.Log (logs.Wiped (server_of member)))) []
+      (upheld-repair head book cluster (kinds.Log (logs.Wiped (server_of member))) good tt
+      (record { server = s; is = is; not_live = not-or (is_creating s.state) (live s.state) goes }))
       (λ later. upheld-none (losses_told head) (composable head) _ _ later)
 
-  wiped-upheld : (book : List Event) (cluster : Cluster) (member : Member) (found : Option ServerFacts) → TellsSoFar head book cluster → slice_get cluster.facts.servers member.id.number ≡ found
+  wiped-upheld : (book : List Event) (cluster : Cluster) (member : Member) (found : Option ServerFacts)
+      → TellsSoFar head book cluster → slice_get cluster.facts.servers member.id.number ≡ found
       → Upholds (losses_told head) book cluster (events_of cluster (kinds_of (option_and_then (wipe_of member) found)))
   wiped-upheld book cluster member None good is = upheld-none (losses_told head) (composable head) book cluster good
-  wiped-upheld book cluster member (Some s) good is = wiped-by book cluster member s (is_creating s.state || live s.state) good is refl
+  wiped-upheld book cluster member (Some s) good is =
+      wiped-by book cluster member s (is_creating s.state || live s.state) good is refl
 
   -- a server that starts again tells what it lacks as one that begins does
-  again-upheld : (book : List Event) (cluster : Cluster) (member : Member) (s : ServerFacts) (state : State) → TellsSoFar head book cluster → slice_get cluster.facts.servers member.id.number ≡ Some s
-      → Upholds (losses_told head) book cluster (events_of cluster (server_restart_in member cluster.facts.acknowledged state s))
+  again-upheld : (book : List Event) (cluster : Cluster) (member : Member) (s : ServerFacts) (state : State)
+      → TellsSoFar head book cluster → slice_get cluster.facts.servers member.id.number ≡ Some s
+      → Upholds (losses_told head) book cluster
+      (events_of cluster (server_restart_in member cluster.facts.acknowledged state s))
   again-upheld book cluster member s states.Primary good is =
       let ends : EventKind = kinds.Server (servers.Ended (server_of member)) in
       let found : Option Beginning = Some (again_by s.timeline s.start_delay) in
-      upheld-then (losses_told head) (composable head) book cluster (event_of cluster ends) (events_of (cluster_after cluster ends) (kinds_by member cluster.facts.acknowledged s.log found)) (upheld-loseless head book cluster _ good (tt, tt))
-      (λ later. begins-upheld (book ++ event_of cluster ends) (cluster_after cluster ends) member (stopped s) found later (item-here cluster.facts.servers member.id.number stopped s is))
+      upheld-then (losses_told head) (composable head) book cluster (event_of cluster ends)
+      (events_of (cluster_after cluster ends) (kinds_by member cluster.facts.acknowledged s.log found))
+      (upheld-loseless head book cluster _ good (tt, tt))
+      (λ later. begins-upheld (book ++ event_of cluster ends) (cluster_after cluster ends) member
+      (stopped s) found later (item-here cluster.facts.servers member.id.number stopped s is))
   again-upheld book cluster member s states.Replica good is = upheld-loseless head book cluster _ good (tt, tt)
   again-upheld book cluster member s _ good is = upheld-none (losses_told head) (composable head) book cluster good
 
   -- an output
-  upholds-output : (member : Member) (heard : HeardMessage) (output : Output) → UpholdsAlways (losses_told head) (λ cluster. output_events member heard cluster output)
+  upholds-output : (member : Member) (heard : HeardMessage) (output : Output)
+      → UpholdsAlways (losses_told head) (λ cluster. output_events member heard cluster output)
   upholds-output member heard (outputs.Send to sequence body) book cluster good =
-      upheld-loseless head book cluster _ good (sending-none cluster member (slice_get cluster.facts.processes member.id.number) (receiver_of cluster.facts.members to) sequence body)
+      upheld-loseless head book cluster _ good
+      (sending-none cluster member (slice_get cluster.facts.processes member.id.number)
+      (receiver_of cluster.facts.members to) sequence body)
   upholds-output member heard (outputs.Answer to incarnation sequence answer) book cluster good =
-      upheld-loseless head book cluster _ good (replying-none cluster member (receiver_of cluster.facts.members (targets.Member to)) incarnation sequence (bodies.Answer answer))
+      upheld-loseless head book cluster _ good
+      (replying-none cluster member
+      (receiver_of cluster.facts.members (targets.Member to)) incarnation sequence (bodies.Answer answer))
   upholds-output member heard (outputs.FailsafeAnswer to incarnation sequence accepted) book cluster good =
-      upheld-loseless head book cluster _ good (replying-none cluster member (receiver_of cluster.facts.members (targets.Member to)) incarnation sequence (bodies.FailsafeAnswer accepted))
+      upheld-loseless head book cluster _ good
+      (replying-none cluster member (receiver_of cluster.facts.members (targets.Member to)) incarnation sequence
+      (bodies.FailsafeAnswer accepted))
   upholds-output member heard outputs.Begin book cluster good =
-      upheld-for_some (losses_told head) (composable head) book cluster (server_at cluster member) _ good (λ s is. begins-upheld book cluster member s (beginning_of s) good is)
+      upheld-for_some (losses_told head) (composable head) book cluster (server_at cluster member) _ good
+      (λ s is. begins-upheld book cluster member s (beginning_of s) good is)
   upholds-output member heard (outputs.StartReplica leader) book cluster good =
-      upheld-for_some (losses_told head) (composable head) book cluster (server_at cluster member) (λ s. events_of cluster (replica_start_kinds member (declared_member cluster.facts.members leader) s)) good
-      (λ s is. upheld-loseless head book cluster _ good (started-none cluster member (declared_member cluster.facts.members leader) (is_down s.state)))
+      upheld-for_some (losses_told head) (composable head) book cluster (server_at cluster member)
+      (λ s. events_of cluster (replica_start_kinds member (declared_member cluster.facts.members leader) s)) good
+      (λ s is. upheld-loseless head book cluster _ good
+      (started-none cluster member (declared_member cluster.facts.members leader) (is_down s.state)))
   upholds-output member heard (outputs.Stop reason) book cluster good =
-      upheld-for_some (losses_told head) (composable head) book cluster (server_at cluster member) (λ s. events_of cluster (stop_kinds member reason s)) good
+      upheld-for_some (losses_told head) (composable head) book cluster (server_at cluster member)
+      (λ s. events_of cluster (stop_kinds member reason s)) good
       (λ s is. upheld-loseless head book cluster _ good (tt, none-if _ (stop_of member s) (stop-none member s)))
-  upholds-output member heard outputs.ShutDown book cluster good = upheld-loseless head book cluster _ good (order-none cluster member (stop_of member) (stop-none member))
+  upholds-output member heard outputs.ShutDown book cluster good =
+      upheld-loseless head book cluster _ good (order-none cluster member (stop_of member) (stop-none member))
   upholds-output member heard (outputs.Restart as_primary) book cluster good =
-      upheld-for_some (losses_told head) (composable head) book cluster (server_at cluster member) _ good (λ s is. again-upheld book cluster member s s.state good is)
-  upholds-output member heard outputs.Wipe book cluster good = wiped-upheld book cluster member (server_at cluster member) good refl
+      upheld-for_some (losses_told head) (composable head) book cluster (server_at cluster member) _ good
+      (λ s is. again-upheld book cluster member s s.state good is)
+  upholds-output member heard outputs.Wipe book cluster good =
+      wiped-upheld book cluster member (server_at cluster member) good refl
   upholds-output member heard (outputs.Follow leader) book cluster good =
       let found = slice_get cluster.facts.members leader.number in
       upheld-loseless head book cluster _ good
-      (order-none cluster member (upstream_of member found) (λ s. holds-cond (is_replica s.state) (following_of member found) None (follow-none member found) tt))
+      (order-none cluster member (upstream_of member found)
+      (λ s. holds-cond (is_replica s.state) (following_of member found) None (follow-none member found) tt))
   upholds-output member heard (outputs.Repair leader repair) book cluster good =
       let found = slice_get cluster.facts.members leader.number in
-      repaired-upheld book cluster (option_and_then (repair_over cluster.facts.cuts cluster.facts.servers member repair) found) good
-      (repaired-holds IsRepair cluster.facts.cuts cluster.facts.servers member repair found (λ other r. tt) (λ other. tt)) (repair-follow cluster member repair found)
+      repaired-upheld book cluster
+      (option_and_then (repair_over cluster.facts.cuts cluster.facts.servers member repair) found) good
+      (repaired-holds IsRepair cluster.facts.cuts cluster.facts.servers member repair found (λ other r. tt)
+      (λ other. tt))
+      (repair-follow cluster member repair found)
   upholds-output member heard (outputs.Require required) book cluster good =
-      upheld-loseless head book cluster _ good (order-none cluster member (require_of cluster.facts.members member required) (λ s. holds-cond (is_same_required s.required required) None _ tt tt))
-  upholds-output member heard (outputs.Armed until) book cluster good = upheld-loseless head book cluster _ good (tt, (tt, tt))
-  upholds-output member heard (outputs.Fed until) book cluster good = upheld-loseless head book cluster _ good (tt, (tt, tt))
-  upholds-output member heard (outputs.FedByFailsafe until members sequence since) book cluster good = upheld-loseless head book cluster _ good (tt, (tt, tt))
+      upheld-loseless head book cluster _ good
+      (order-none cluster member (require_of cluster.facts.members member required)
+      (λ s. holds-cond (is_same_required s.required required) None _ tt tt))
+  upholds-output member heard (outputs.Armed until) book cluster good =
+      upheld-loseless head book cluster _ good (tt, (tt, tt))
+  upholds-output member heard (outputs.Fed until) book cluster good =
+      upheld-loseless head book cluster _ good (tt, (tt, tt))
+  upholds-output member heard (outputs.FedByFailsafe until members sequence since) book cluster good =
+      upheld-loseless head book cluster _ good (tt, (tt, tt))
   upholds-output member heard (outputs.Told request told) book cluster good =
       let agent = agent_at cluster.agents member.id.number in
-      upheld-loseless head book cluster _ good (none-if cluster (told_kind member agent told) (told-holds LosesNone member agent told (λ reply. tt)))
+      upheld-loseless head book cluster _ good
+      (none-if cluster (told_kind member agent told) (told-holds LosesNone member agent told (λ reply. tt)))
   upholds-output member heard (outputs.HoldTaken until from sequence) book cluster good =
       let found = slice_get cluster.facts.members from.number in
       let hold = hold_taken member until heard.incarnation sequence in
-      upheld-loseless head book cluster _ good (none-if cluster (option_map hold found) (holds-mapped found hold (λ m. tt)))
+      upheld-loseless head book cluster _ good
+      (none-if cluster (option_map hold found) (holds-mapped found hold (λ m. tt)))
   upholds-output member heard _ book cluster good = upheld-loseless head book cluster _ good (tt, tt)
 
   -- what an agent does behind an event
-  input-upheld : (book : List Event) (cluster : Cluster) (kind : EventKind) (member : Member) (heard : HeardMessage) (outcome : Option Outcome) → TellsSoFar head book cluster → LosesNone kind
-      → Upholds (losses_told head) book cluster (event_of cluster kind ++ input_events (cluster_after cluster kind) member heard outcome)
+  input-upheld : (book : List Event) (cluster : Cluster) (kind : EventKind) (member : Member)
+      (heard : HeardMessage) (outcome : Option Outcome) → TellsSoFar head book cluster → LosesNone kind
+      → Upholds (losses_told head) book cluster
+      (event_of cluster kind ++ input_events (cluster_after cluster kind) member heard outcome)
   input-upheld book cluster kind member heard outcome good none =
-      upheld-then (losses_told head) (composable head) book cluster (event_of cluster kind) (input_events (cluster_after cluster kind) member heard outcome) (upheld-loseless head book cluster _ good (none, tt))
-      (upholds-all (losses_told head) (composable head) (output_events member heard) (upholds-output member heard) (outputs_of outcome) (book ++ event_of cluster kind) (cluster_after cluster kind))
+      upheld-then (losses_told head) (composable head) book cluster (event_of cluster kind)
+      (input_events (cluster_after cluster kind) member heard outcome)
+      (upheld-loseless head book cluster _ good (none, tt))
+      (upholds-all (losses_told head) (composable head) (output_events member heard) (upholds-output member heard)
+      (outputs_of outcome) (book ++ event_of cluster kind) (cluster_after cluster kind))
 
   parts : length (names_of head) ≤ MOST_MEMBERS → PartsUphold (IsDeclared head) (losses_told head)
   parts few = record {
     members = λ book cluster good. declared-in head few cluster good.members;
     inputs = record {
-      wakes = λ book cluster member process good is found acts. input-upheld book cluster (kinds.Agent (Woken member)) member no_message (outcome_of cluster member Wake) good tt;
-      hears = λ book cluster number message member good found to through. input-upheld book cluster (kinds.Message (Delivered number)) member (heard_message number message) (outcome_of_heard cluster member (heard_from cluster message)) good tt;
+      wakes = λ book cluster member process good is found acts. input-upheld book cluster
+          (kinds.Agent (Woken member)) member no_message (outcome_of cluster member Wake) good tt;
+      hears = λ book cluster number message member good found to through.
+          input-upheld book cluster (kinds.Message (Delivered number)) member (heard_message number message)
+          (outcome_of_heard cluster member (heard_from cluster message)) good tt;
       operates = λ book cluster member process o request asked good is found acts stands answers.
-          let action : OperatorAction = action_of o asked in input-upheld book cluster (kinds.Agent (Operated member action)) member no_message (outcome_of cluster member (HearsOperator action)) good tt;
+          let action : OperatorAction = action_of o asked in
+          input-upheld book cluster (kinds.Agent (Operated member action)) member no_message
+          (outcome_of cluster member (HearsOperator action)) good tt;
     };
     arrivals = λ book cluster number message good found to. upheld-arrival head book cluster number message good;
     losses = λ number book cluster good. upheld-loseless head book cluster _ good (tt, tt);
@@ -200,7 +262,16 @@ module _ (head : HeadText) where
   }
 
   tells-first : TellsSoFar head [] (cluster_of head)
-  tells-first = record { told = tt; same = same-first head.config (names_of head) head.base; members = refl; sized = length-replicate (length (names_of head)) (fresh head.base) }
+  tells-first = record {
+    told = tt;
+    same = same-first head.config (names_of head) head.base;
+    members = refl;
+    sized = length-replicate (length (names_of head)) (fresh head.base);
+  }
 
-  pub runs-tell : IsHead head → (steps : List Step) → TellLosses (first_logs head) [] (run_events (cluster_of head) steps)
-  runs-tell is steps = ((upholds-run (IsDeclared head) (losses_told head) (composable head) (parts (few-names head is)) steps [] (cluster_of head) tells-first).behind tt).told
+  pub runs-tell : IsHead head → (steps : List Step)
+      → TellLosses (first_logs head) [] (run_events (cluster_of head) steps)
+  runs-tell is steps =
+      ((upholds-run (IsDeclared head) (losses_told head) (composable head)
+      (parts (few-names head is)) steps [] (cluster_of head) tells-first).behind
+      tt).told

@@ -24,7 +24,8 @@ first_logs head = logs_in (start_in head).servers
 abbrev pub noted_in : HeadText → List Event → ℕ → ℕ
 noted_in head book member = noted_by (slice_get (cluster_over (cluster_of head) book).agents member)
 
--- where the head has synchronous mode on, this is so of each front of the book that meets the premises of one writer and in which the mode stays on
+-- where the head has synchronous mode on, this is so of each front of the
+-- book that meets the premises of one writer and in which the mode stays on
 abbrev pub InSynchronousMode : HeadText → List Event → (List Event → Type 0) → Type 0
 InSynchronousMode head book claim =
     head.config.config.synchronous_mode ≡ true → WhereMet head book (λ front. KeepMode true front → claim front)

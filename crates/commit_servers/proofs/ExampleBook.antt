@@ -44,7 +44,8 @@ one-one = omega arith
 -- the first of two members waits for the second, and begins
 abbrev beginning : Name → Name → List Event
 beginning name other =
-    at_start (kinds.Replication (replications.RequiredSet (server_of (member_at 0 zero-one name)) (requireds.All (record { bits = 2 })) (other ∷ [])))
+    at_start (kinds.Replication (replications.RequiredSet (server_of (member_at 0 zero-one name))
+    (requireds.All (record { bits = 2 })) (other ∷ [])))
     ∷ at_start (kinds.Server (servers.Began (server_of (member_at 0 zero-one name)) 2))
     ∷ []
 
@@ -62,21 +63,49 @@ committing name other =
     ∷ at_start (kinds.Replication (replications.Acknowledged (server_of a) 1))
     ∷ []
 
-example-follows : (first : Settings) (name other : Name) → MayFollow (facts_over (start_of first (name ∷ other ∷ []) 8) (beginning name other)) (committing name other)
+example-follows : (first : Settings) (name other : Name)
+    → MayFollow (facts_over (start_of first (name ∷ other ∷ []) 8) (beginning name other)) (committing name other)
 unfolding lsn_at
 example-follows first name other = (
   record { server = _; is = refl; is_writer = refl; next = refl; bytes = omega arith; room = omega arith },
   (
-    record { takes = record { server = _; is = refl; not_live = refl; source = _; source_is = refl; is_writer = refl }; with_data = refl; prefix = record { rest = commit_entry ∷ []; whole = refl } },
+    record {
+      takes = record { server = _; is = refl; not_live = refl; source = _; source_is = refl; is_writer = refl };
+      with_data = refl;
+      prefix = record { rest = commit_entry ∷ []; whole = refl };
+    },
     (
-      record { server = _; is = refl; is_writer = refl; standby = _; standby_is = refl; with_data = refl; prefix = record { rest = []; whole = refl }; end_is = refl },
-      (record { server = _; is = refl; is_writer = refl; first = _; more = []; waiting = refl; commit_is = refl; met = refl }, tt),
+      record {
+        server = _;
+        is = refl;
+        is_writer = refl;
+        standby = _;
+        standby_is = refl;
+        with_data = refl;
+        prefix = record { rest = []; whole = refl };
+        end_is = refl;
+      },
+      (
+        record {
+          server = _;
+          is = refl;
+          is_writer = refl;
+          first = _;
+          more = [];
+          waiting = refl;
+          commit_is = refl;
+          met = refl;
+        },
+        tt,
+      ),
     ),
   ),
 )
 
 first-waits : (first : Settings) (name other : Name) → let start = start_of first (name ∷ other ∷ []) 8 in
-    Fits (past_over (first_past (logs_in start.servers) (required_in start.servers) (confirmed_in start.servers)) (beginning name other)) (facts_over start (beginning name other))
+    Fits (past_over (first_past (logs_in start.servers) (required_in start.servers) (confirmed_in start.servers))
+    (beginning name other))
+    (facts_over start (beginning name other))
     (λ m. record { live = live_in (facts_over start (beginning name other)).servers m; agent = None })
 first-waits first name other =
     let start : Facts = start_of first (name ∷ other ∷ []) 8 in
@@ -88,16 +117,26 @@ first-waits first name other =
     let begins : EventKind = kinds.Server (servers.Began server 2) in
     let required : Facts = facts_after start waits in
     record {
-      same = same-by (past_after past waits) required begins (omega arith) (same-by past start waits tt (same-first first (name ∷ names) 8));
+      same = same-by (past_after past waits) required begins (omega arith)
+          (same-by past start waits tt (same-first first (name ∷ names) 8));
       live = record { live = λ m. refl };
-      sound = sound-by required begins (record { server = _; is = refl; with_data = refl }) (sound-by start waits (set-within set (omega arith)) (sound-first first (name ∷ names) 8 (omega arith)));
+      sound = sound-by required begins (record { server = _; is = refl; with_data = refl })
+          (sound-by start waits (set-within set (omega arith)) (sound-first first (name ∷ names) 8 (omega arith)));
     }
 
 pub example : (first : Settings) (name other : Name) → let start = start_of first (name ∷ other ∷ []) 8 in
     (before : List Event) × (volatile_states : ℕ → VolatileState) × (events : List Event)
-    × Fits (past_over (first_past (logs_in start.servers) (required_in start.servers) (confirmed_in start.servers)) before) (facts_over start before) volatile_states
+    × Fits (past_over (first_past (logs_in start.servers) (required_in start.servers) (confirmed_in start.servers))
+    before)
+    (facts_over start before) volatile_states
     × MayFollow (facts_over start before) events
     × ((facts_over (facts_over start before) events).acknowledged ≡ 1 ∷ [])
 example first name other =
-    let start : Facts = start_of first (name ∷ other ∷ []) 8 in
-    (beginning name other, (λ m. record { live = live_in (facts_over start (beginning name other)).servers m; agent = None }), committing name other, first-waits first name other, example-follows first name other, refl)
+    let start : Facts = start_of first (name ∷ other ∷ []) 8 in (
+      beginning name other,
+      (λ m. record { live = live_in (facts_over start (beginning name other)).servers m; agent = None }),
+      committing name other,
+      first-waits first name other,
+      example-follows first name other,
+      refl,
+    )

@@ -9,11 +9,14 @@ use Rattle.cluster_model.specs.Parts.{events_of, for_some}
 use Rattle.cluster_model.specs.State.{Cluster}
 use Rattle.commit_servers.specs.Happening.{MayHappen, MayFollow}
 
-pub follow-if : (cluster : Cluster) (found : Option EventKind) → ((kind : EventKind) → found ≡ Some kind → MayHappen cluster.facts kind) → MayFollow cluster.facts (events_of cluster (kinds_of found))
+pub follow-if : (cluster : Cluster) (found : Option EventKind)
+    → ((kind : EventKind) → found ≡ Some kind → MayHappen cluster.facts kind)
+    → MayFollow cluster.facts (events_of cluster (kinds_of found))
 follow-if cluster None may = tt
 follow-if cluster (Some kind) may = (may kind refl, tt)
 
-pub follow-for_some : {X : Type 0} (facts : Facts) (found : Option X) (part : X → List Event) → ((x : X) → found ≡ Some x → MayFollow facts (part x)) → MayFollow facts (for_some found part)
+pub follow-for_some : {X : Type 0} (facts : Facts) (found : Option X) (part : X → List Event)
+    → ((x : X) → found ≡ Some x → MayFollow facts (part x)) → MayFollow facts (for_some found part)
 follow-for_some facts None part may = tt
 follow-for_some facts (Some x) part may = may x refl
 
@@ -23,6 +26,7 @@ unless-some true o x e = absurd (none-some x e)
 unless-some false o x e = e
 
 -- what is found and then changed
-pub mapped-some : {X Y : Type 0} (f : X → Y) (o : Option X) (P : Y → Type 0) (y : Y) → option_map f o ≡ Some y → ((x : X) → o ≡ Some x → P (f x)) → P y
+pub mapped-some : {X Y : Type 0} (f : X → Y) (o : Option X) (P : Y → Type 0) (y : Y) → option_map f o ≡ Some y
+    → ((x : X) → o ≡ Some x → P (f x)) → P y
 mapped-some f None P y e each = absurd (none-some y e)
 mapped-some f (Some x) P y e each = subst P (same_Some (f x) y e) (each x refl)

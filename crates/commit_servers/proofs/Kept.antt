@@ -31,24 +31,38 @@ pub change-once : (tick : Ticks) (kind : EventKind) → ChangeOnce (event_at tic
 change-once tick kind = inr tt
 
 -- the action of one event
-transition-of : (setup : Setup) (past : Past) (facts : Facts) (volatile_states : ℕ → VolatileState) (event : Event) → Leads setup past facts volatile_states event.kind (volatile_after volatile_states event.kind) → Transition
-transition-of setup past facts volatile_states event leads = record { action = leads.action.action; events = event_at event.tick event.kind; volatile_states = volatile_after volatile_states event.kind }
+transition-of : (setup : Setup) (past : Past) (facts : Facts) (volatile_states : ℕ → VolatileState) (event : Event)
+    → Leads setup past facts volatile_states event.kind (volatile_after volatile_states event.kind) → Transition
+transition-of setup past facts volatile_states event leads = record {
+  action = leads.action.action;
+  events = event_at event.tick event.kind;
+  volatile_states = volatile_after volatile_states event.kind;
+}
 
-sound-one : (setup : Setup) (past : Past) (facts : Facts) (volatile_states : ℕ → VolatileState) (event : Event) → Leads setup past facts volatile_states event.kind (volatile_after volatile_states event.kind) → IsSound (state_of setup past volatile_states)
+sound-one : (setup : Setup) (past : Past) (facts : Facts) (volatile_states : ℕ → VolatileState) (event : Event)
+    → Leads setup past facts volatile_states event.kind (volatile_after volatile_states event.kind)
+    → IsSound (state_of setup past volatile_states)
     → IsSound (state_of setup (past_after past event.kind) (volatile_after volatile_states event.kind))
 unfolding transition-of
 sound-one setup past facts volatile_states event leads sound =
-    kept-after setup past volatile_states (transition-of setup past facts volatile_states event leads) sound leads.action.allowed (leads.action.shown event.tick)
+    kept-after setup past volatile_states (transition-of setup past facts volatile_states event leads) sound
+    leads.action.allowed (leads.action.shown event.tick)
 
-pub sound-over : (setup : Setup) (past : Past) (facts : Facts) (volatile_states : ℕ → VolatileState) (events : List Event) → AreActions setup past facts volatile_states events → IsSound (state_of setup past volatile_states)
+pub sound-over : (setup : Setup) (past : Past) (facts : Facts) (volatile_states : ℕ → VolatileState)
+    (events : List Event) → AreActions setup past facts volatile_states events
+    → IsSound (state_of setup past volatile_states)
     → IsSound (state_of setup (past_over past events) (volatile_over volatile_states events))
 sound-over setup past facts volatile_states [] all sound = sound
 sound-over setup past facts volatile_states (event ∷ events) all sound =
-    sound-over setup (past_after past event.kind) (facts_after facts event.kind) (volatile_after volatile_states event.kind) events all.1 (sound-one setup past facts volatile_states event all.0 sound)
+    sound-over setup (past_after past event.kind) (facts_after facts event.kind)
+    (volatile_after volatile_states event.kind) events all.1
+    (sound-one setup past facts volatile_states event all.0 sound)
 
 -- where the law's state is carried, commits are kept
-pub keeps-now : (setup : Setup) (past : Past) (volatile_states : ℕ → VolatileState) → IsSound (state_of setup past volatile_states) → KeepsNow past
-keeps-now setup past volatile_states sound = kept-inside setup past volatile_states (record { action = Note; events = []; volatile_states = volatile_states }) [] [] sound tt refl tt refl
+pub keeps-now : (setup : Setup) (past : Past) (volatile_states : ℕ → VolatileState)
+    → IsSound (state_of setup past volatile_states) → KeepsNow past
+keeps-now setup past volatile_states sound = kept-inside setup past volatile_states
+    (record { action = Note; events = []; volatile_states = volatile_states }) [] [] sound tt refl tt refl
 
 no-events : (x : Event) (xs : List Event) → ◌≡◌ {A = List Event} (x ∷ xs) [] → ⊥
 no-events x xs e = cc
@@ -59,45 +73,63 @@ first-is x y xs ys e = cc
 others-are : (x y : Event) (xs ys : List Event) → ◌≡◌ {A = List Event} (x ∷ xs) (y ∷ ys) → xs ≡ ys
 others-are x y xs ys e = cc
 
-pub keeps-inside : (setup : Setup) (past : Past) (facts : Facts) (volatile_states : ℕ → VolatileState) (events front back : List Event) → AreActions setup past facts volatile_states events → IsSound (state_of setup past volatile_states)
+pub keeps-inside : (setup : Setup) (past : Past) (facts : Facts) (volatile_states : ℕ → VolatileState)
+    (events front back : List Event) → AreActions setup past facts volatile_states events
+    → IsSound (state_of setup past volatile_states)
     → front ++ back ≡ events → KeepsNow (past_over past front)
 keeps-inside setup past facts volatile_states events [] back all sound e = keeps-now setup past volatile_states sound
 keeps-inside setup past facts volatile_states [] (x ∷ front) back all sound e = absurd (no-events x (front ++ back) e)
 keeps-inside setup past facts volatile_states (event ∷ events) (x ∷ front) back all sound e =
-    subst (λ (y : Event). KeepsNow (past_over (past_after past y.kind) front)) (sym (first-is x event (front ++ back) events e))
-    (keeps-inside setup (past_after past event.kind) (facts_after facts event.kind) (volatile_after volatile_states event.kind) events front back all.1
+    subst (λ (y : Event). KeepsNow (past_over (past_after past y.kind) front))
+    (sym (first-is x event (front ++ back) events e))
+    (keeps-inside setup (past_after past event.kind) (facts_after facts event.kind)
+    (volatile_after volatile_states event.kind) events front back all.1
     (sound-one setup past facts volatile_states event all.0 sound) (others-are x event (front ++ back) events e))
 
 -- ---- the others stay live, or not
-other-stays : (known : List ServerFacts) (k m n : ℕ) (change : ServerFacts → ServerFacts) → k ≡ m → (n ≡ m → ⊥) → live_in (with_changed known k change) n ≡ live_in known n
+other-stays : (known : List ServerFacts) (k m n : ℕ) (change : ServerFacts → ServerFacts) → k ≡ m
+    → (n ≡ m → ⊥) → live_in (with_changed known k change) n ≡ live_in known n
 other-stays known k m n change here other = ap live_now (changed-there known k change n (λ e. other (e ∙ here)))
 
-others-server : (now : ℕ) (known : List ServerFacts) (happening : ServerEvent) (m n : ℕ) → IsAtServer m happening → (n ≡ m → ⊥) → live_in (servers_by now known happening) n ≡ live_in known n
-others-server now known (servers.Began server timeline) m n here other = other-stays known server.id.number m n _ here other
+others-server : (now : ℕ) (known : List ServerFacts) (happening : ServerEvent) (m n : ℕ)
+    → IsAtServer m happening → (n ≡ m → ⊥) → live_in (servers_by now known happening) n ≡ live_in known n
+others-server now known (servers.Began server timeline) m n here other =
+    other-stays known server.id.number m n _ here other
 others-server now known (servers.Ended server) m n here other = other-stays known server.id.number m n _ here other
 others-server now known (servers.Crashed server) m n here other = other-stays known server.id.number m n _ here other
 others-server now known (servers.Stops server) m n here other = other-stays known server.id.number m n _ here other
-others-server now known (servers.StartsAsPrimary server) m n here other = other-stays known server.id.number m n _ here other
-others-server now known (servers.StartsAsReplica server) m n here other = other-stays known server.id.number m n _ here other
-others-server now known (servers.Follows server upstream) m n here other = other-stays known server.id.number m n _ here other
-others-server now known (servers.Diverged server upstream at) m n here other = other-stays known server.id.number m n _ here other
-others-server now known (servers.Slowed server stop start) m n here other = other-stays known server.id.number m n _ here other
+others-server now known (servers.StartsAsPrimary server) m n here other =
+    other-stays known server.id.number m n _ here other
+others-server now known (servers.StartsAsReplica server) m n here other =
+    other-stays known server.id.number m n _ here other
+others-server now known (servers.Follows server upstream) m n here other =
+    other-stays known server.id.number m n _ here other
+others-server now known (servers.Diverged server upstream at) m n here other =
+    other-stays known server.id.number m n _ here other
+others-server now known (servers.Slowed server stop start) m n here other =
+    other-stays known server.id.number m n _ here other
 others-server now known (servers.Promoted server) m n here other = refl
 others-server now known (servers.Frozen server) m n here other = refl
 others-server now known (servers.Thawed server) m n here other = refl
 
-pub others-stay : (now : ℕ) (known : List ServerFacts) (kind : EventKind) (m n : ℕ) → MovesOnly m kind → (n ≡ m → ⊥) → live_in (servers_after now known kind) n ≡ live_in known n
+pub others-stay : (now : ℕ) (known : List ServerFacts) (kind : EventKind) (m n : ℕ) → MovesOnly m kind
+    → (n ≡ m → ⊥) → live_in (servers_after now known kind) n ≡ live_in known n
 others-stay now known kinds.Tick m n here other = live-ticked (record { 0 = now }) known n
 others-stay now known (kinds.Server happening) m n here other = others-server now known happening m n here other
-others-stay now known (kinds.Log happening) m n here other = live-kept known _ n (logged-kept (λ s. live s.state) (λ s t live writes required confirmed. live) known happening)
-others-stay now known (kinds.Replication happening) m n here other = live-kept known _ n (replicated-kept (λ s. live s.state) (λ s t state log. ap live state) known happening)
-others-stay now known (kinds.Watchdog (watchdogs.Reset member)) m n here other = other-stays known member.id.number m n _ here other
+others-stay now known (kinds.Log happening) m n here other =
+    live-kept known _ n (logged-kept (λ s. live s.state) (λ s t live writes required confirmed. live) known happening)
+others-stay now known (kinds.Replication happening) m n here other =
+    live-kept known _ n (replicated-kept (λ s. live s.state) (λ s t state log. ap live state) known happening)
+others-stay now known (kinds.Watchdog (watchdogs.Reset member)) m n here other =
+    other-stays known member.id.number m n _ here other
 others-stay now known (kinds.Watchdog (watchdogs.Armed member until answer)) m n here other = refl
 others-stay now known (kinds.Watchdog (watchdogs.Fed member until basis)) m n here other = refl
 others-stay now known (kinds.Watchdog (watchdogs.Disarmed member)) m n here other = refl
 others-stay now known (kinds.Watchdog (watchdogs.Measured member since)) m n here other = refl
-others-stay now known (kinds.Watchdog (watchdogs.HoldTaken member until from incarnation sequence)) m n here other = refl
+others-stay now known (kinds.Watchdog (watchdogs.HoldTaken member until from incarnation sequence)) m n here other =
+    refl
 others-stay now known _ m n here other = refl
 
-pub others-by : (facts : Facts) (kind : EventKind) (m n : ℕ) → MovesOnly m kind → (n ≡ m → ⊥) → live_in (facts_after facts kind).servers n ≡ live_in facts.servers n
+pub others-by : (facts : Facts) (kind : EventKind) (m n : ℕ) → MovesOnly m kind → (n ≡ m → ⊥)
+    → live_in (facts_after facts kind).servers n ≡ live_in facts.servers n
 others-by facts kind m n here other = others-stay (now_after facts.clock kind) facts.servers kind m n here other

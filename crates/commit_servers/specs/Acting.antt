@@ -13,12 +13,15 @@ use Rattle.commit_book.specs.Showing.{event_at}
 use Rattle.commit_servers.specs.Matching.{IsSameServers, IsLiveAs, volatile_after}
 use Rattle.commit_servers.specs.Sound.{AreServersSound}
 
--- an event is one allowed action, which it shows whenever it happens: from the state of a book and of these volatile states to that of the book
--- with the event, and of the later ones
-pub record IsAction (setup : Setup) (past : Past) (volatile_states : ℕ → VolatileState) (kind : EventKind) (later : ℕ → VolatileState) : Type 0 where
+-- an event is one allowed action, which it shows whenever it happens: from the state of a
+-- book and of these volatile states to that of the book with the event, and of the later ones
+pub record IsAction (setup : Setup) (past : Past) (volatile_states : ℕ → VolatileState) (kind : EventKind)
+    (later : ℕ → VolatileState) : Type 0 where
   pub action : Action
   pub allowed : IsAllowed (state_of setup past volatile_states) action
-  pub shown : (tick : Ticks) → IsShown setup past volatile_states (record { action = action; events = event_at tick kind; volatile_states = later })
+  pub shown : (tick : Ticks)
+      → IsShown setup past volatile_states
+      (record { action = action; events = event_at tick kind; volatile_states = later })
 
 -- a book's past and what no event says of members fit what the book leaves, of which each server is sound
 pub record Fits (past : Past) (facts : Facts) (volatile_states : ℕ → VolatileState) : Type 0 where
@@ -27,7 +30,8 @@ pub record Fits (past : Past) (facts : Facts) (volatile_states : ℕ → Volatil
   pub sound : AreServersSound facts
 
 -- an event is such an action, behind which all fits
-pub record Leads (setup : Setup) (past : Past) (facts : Facts) (volatile_states : ℕ → VolatileState) (kind : EventKind) (later : ℕ → VolatileState) : Type 0 where
+pub record Leads (setup : Setup) (past : Past) (facts : Facts) (volatile_states : ℕ → VolatileState)
+    (kind : EventKind) (later : ℕ → VolatileState) : Type 0 where
   pub action : IsAction setup past volatile_states kind later
   pub fits : Fits (past_after past kind) (facts_after facts kind) later
 
@@ -44,4 +48,5 @@ abbrev pub AreActions : Setup → Past → Facts → (ℕ → VolatileState) →
 AreActions setup past facts volatile_states [] = Unit {0}
 AreActions setup past facts volatile_states (event ∷ events) =
     Leads setup past facts volatile_states event.kind (volatile_after volatile_states event.kind)
-    × AreActions setup (past_after past event.kind) (facts_after facts event.kind) (volatile_after volatile_states event.kind) events
+    × AreActions setup (past_after past event.kind) (facts_after facts event.kind)
+    (volatile_after volatile_states event.kind) events

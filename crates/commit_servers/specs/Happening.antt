@@ -23,7 +23,8 @@ use Rattle.event_book.specs.Facts.{Facts, facts_after}
 use Rattle.commit_book.specs.Showing.{IsIdle}
 use Rattle.commit_servers.specs.Sound.{WaitsForMembers}
 
--- a server accepts writes, and the next commit may stand at its log's end as this entry: it has bytes, and the log doesn't pass 2^63 of them
+-- a server accepts writes, and the next commit may stand at its log's
+-- end as this entry: it has bytes, and the log doesn't pass 2^63 of them
 pub record Appends (facts : Facts) (m : ℕ) (entry : Entry) : Type 0 where
   pub server : ServerFacts
   pub is : slice_get facts.servers m ≡ Some server
@@ -121,8 +122,8 @@ MayBeReplicated known (replications.Confirmed server by end) = Confirms known se
 MayBeReplicated known (replications.Acknowledged server commit) = Acknowledges known server.id.number commit
 MayBeReplicated known (replications.Lacks server) = Unit {0}
 
--- what may happen beside inputs of agents and deliveries to the key store: to logs, to servers, in replication, a reset, or something of which
--- commits read nothing
+-- what may happen beside inputs of agents and deliveries to the key store: to logs,
+-- to servers, in replication, a reset, or something of which commits read nothing
 abbrev pub MayHappen : Facts → EventKind → Type 0
 MayHappen facts (kinds.Log happening) = MayHappenToLog facts happening
 MayHappen facts (kinds.Server happening) = MayHappenToServer facts.servers happening
@@ -135,7 +136,8 @@ abbrev pub MayFollow : Facts → List Event → Type 0
 MayFollow facts [] = Unit {0}
 MayFollow facts (event ∷ events) = MayHappen facts event.kind × MayFollow (facts_after facts event.kind) events
 
--- what leaves each server sound, of all that can happen: logs change as above, who begins or ends has data, and commits wait for members
+-- what leaves each server sound, of all that can happen: logs change
+-- as above, who begins or ends has data, and commits wait for members
 abbrev pub LeavesSound : Facts → EventKind → Type 0
 LeavesSound facts (kinds.Log happening) = MayHappenToLog facts happening
 LeavesSound facts (kinds.Server (servers.Began server timeline)) = HasDataAt facts.servers server.id.number
@@ -146,7 +148,8 @@ LeavesSound facts _ = Unit {0}
 -- all of these events do, one after another
 abbrev pub AllLeaveSound : Facts → List Event → Type 0
 AllLeaveSound facts [] = Unit {0}
-AllLeaveSound facts (event ∷ events) = LeavesSound facts event.kind × AllLeaveSound (facts_after facts event.kind) events
+AllLeaveSound facts (event ∷ events) =
+    LeavesSound facts event.kind × AllLeaveSound (facts_after facts event.kind) events
 
 -- the server of this number is that to which this happens
 abbrev pub IsAtServer : ℕ → ServerEvent → Type 0

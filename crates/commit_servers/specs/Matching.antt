@@ -23,8 +23,8 @@ live_now (Some s) = live s.state
 abbrev pub live_in : List ServerFacts → ℕ → Bool
 live_in servers m = live_now (slice_get servers m)
 
--- a book's past has of servers what the book leaves: their logs, whom their commits wait for, what was confirmed to them, which of them accept
--- writes, and which commits were acknowledged
+-- a book's past has of servers what the book leaves: their logs, whom their commits wait for,
+-- what was confirmed to them, which of them accept writes, and which commits were acknowledged
 pub record IsSameServers (past : Past) (facts : Facts) : Type 0 where
   pub logs : past.logs ≡ logs_in facts.servers
   pub required : past.required ≡ required_in facts.servers
@@ -44,8 +44,10 @@ pub record IsLiveAhead (volatile_states : ℕ → VolatileState) (servers : List
 -- what no event says of members, after an event that ends a server, and else as before
 abbrev pub volatile_after : (ℕ → VolatileState) → EventKind → ℕ → VolatileState
 volatile_after volatile_states (kinds.Server (servers.Ended server)) = with_server_down volatile_states server.id.number
-volatile_after volatile_states (kinds.Server (servers.Crashed server)) = with_server_down volatile_states server.id.number
-volatile_after volatile_states (kinds.Watchdog (watchdogs.Reset member)) = with_server_down volatile_states member.id.number
+volatile_after volatile_states (kinds.Server (servers.Crashed server)) =
+    with_server_down volatile_states server.id.number
+volatile_after volatile_states (kinds.Watchdog (watchdogs.Reset member)) =
+    with_server_down volatile_states member.id.number
 volatile_after volatile_states _ = volatile_states
 
 -- the same after these events

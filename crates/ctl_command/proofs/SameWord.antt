@@ -21,14 +21,16 @@ use Rattle.ctl_command.specs.declared.option_name.ValueOption.{ValueOption}
 use Rattle.ctl_command.specs.declared.option_name.ValueOption.TheVariants as values
 
 -- where '=' stands behind a name that has none
-mark-place : (name value : List ℕ) → list_any (is_byte equals_sign) name ≡ false → position_or_len (is_byte equals_sign) (name ++ equals_sign ∷ value) ≡ length name
+mark-place : (name value : List ℕ) → list_any (is_byte equals_sign) name ≡ false
+    → position_or_len (is_byte equals_sign) (name ++ equals_sign ∷ value) ≡ length name
 mark-place [] value h = refl
 mark-place (b ∷ name) value h =
     let parts = neither (is_byte equals_sign b) (list_any (is_byte equals_sign) name) h in
     rw (parts.0, mark-place name value parts.1) (omega arith)
 
 -- a name without '=' and a value, cut apart again
-cut-mark : (name value : List ℕ) → list_any (is_byte equals_sign) name ≡ false → cut_once equals_sign (name ++ equals_sign ∷ value) ≡ (name, Some value)
+cut-mark : (name value : List ℕ) → list_any (is_byte equals_sign) name ≡ false
+    → cut_once equals_sign (name ++ equals_sign ∷ value) ≡ (name, Some value)
 cut-mark name value h =
     let whole : List ℕ = name ++ equals_sign ∷ value in
     let place : position_or_len (is_byte equals_sign) whole ≡ length name = mark-place name value h in
@@ -56,38 +58,50 @@ cut-text values.Leader = refl
 cut-text values.Candidate = refl
 cut-text values.Set = refl
 
-text-named : (command : CommandName) (option : ValueOption) → value_option_named command (option_text option) ≡ Some option → option_named command (option_text option) ≡ Some (options.Value option)
+text-named : (command : CommandName) (option : ValueOption)
+    → value_option_named command (option_text option) ≡ Some option
+    → option_named command (option_text option) ≡ Some (options.Value option)
 text-named command values.Leader h = ap (option_map (λ o. options.Value o)) h
 text-named command values.Candidate h = ap (option_map (λ o. options.Value o)) h
 text-named command values.Set h = ap (option_map (λ o. options.Value o)) h
 
 -- an option that is cut like this, where it isn't there yet
-cut-read : (command : CommandName) (members : List (Name × Host)) (option : ValueOption) (said : SaidText) (word : List ℕ) (value : Option (List ℕ)) → value_option_named command (option_text option) ≡ Some option → cut_once equals_sign word ≡ (option_text option, value)
+cut-read : (command : CommandName) (members : List (Name × Host)) (option : ValueOption) (said : SaidText)
+    (word : List ℕ) (value : Option (List ℕ)) → value_option_named command (option_text option) ≡ Some option
+    → cut_once equals_sign word ≡ (option_text option, value)
     → with_option command members said word ≡ with_value_option members option said word value
 cut-read command members option said word value named cut =
     ap (λ c. with_known_option members (option_named command c.0) said word c.1) cut
     ∙ ap (λ o. with_known_option members o said word value) (text-named command option named)
 
-leader-place : (option : ValueOption) (said : SaidText) (value : List ℕ) (member : Option MemberId) → with_leader (awaiting option said) value member ≡ with_leader said value member
+leader-place : (option : ValueOption) (said : SaidText) (value : List ℕ) (member : Option MemberId)
+    → with_leader (awaiting option said) value member ≡ with_leader said value member
 leader-place option said value None = refl
 leader-place option said value (Some member) = refl
 
-candidate-place : (option : ValueOption) (said : SaidText) (value : List ℕ) (member : Option MemberId) → with_candidate (awaiting option said) value member ≡ with_candidate said value member
+candidate-place : (option : ValueOption) (said : SaidText) (value : List ℕ) (member : Option MemberId)
+    → with_candidate (awaiting option said) value member ≡ with_candidate said value member
 candidate-place option said value None = refl
 candidate-place option said value (Some member) = refl
 
-setting-place : (option : ValueOption) (said : SaidText) (value : List ℕ) (setting : Option SettingText) → with_setting (awaiting option said) value setting ≡ with_setting said value setting
+setting-place : (option : ValueOption) (said : SaidText) (value : List ℕ) (setting : Option SettingText)
+    → with_setting (awaiting option said) value setting ≡ with_setting said value setting
 setting-place option said value None = refl
 setting-place option said value (Some setting) = refl
 
-value-place : (members : List (Name × Host)) (option : ValueOption) (said : SaidText) (value : List ℕ) → with_value members option (awaiting option said) value ≡ with_value members option said value
+value-place : (members : List (Name × Host)) (option : ValueOption) (said : SaidText) (value : List ℕ)
+    → with_value members option (awaiting option said) value ≡ with_value members option said value
 value-place members values.Leader said value = leader-place values.Leader said value (member_named members value)
-value-place members values.Candidate said value = candidate-place values.Candidate said value (member_named members value)
+value-place members values.Candidate said value =
+    candidate-place values.Candidate said value (member_named members value)
 value-place members values.Set said value = setting-place values.Set said value (setting_in value)
 
 -- an option, then its value
-apart-read : (command : CommandName) (cluster : Name) (members : List (Name × Host)) (option : ValueOption) (said : SaidText) (value : List ℕ) → value_option_named command (option_text option) ≡ Some option → awaits_value said.place ≡ false → is_said option said ≡ false
-    → with_next command cluster members (with_word command cluster members said (option_text option)) value ≡ with_value members option said value
+apart-read : (command : CommandName) (cluster : Name) (members : List (Name × Host)) (option : ValueOption)
+    (said : SaidText) (value : List ℕ) → value_option_named command (option_text option) ≡ Some option
+    → awaits_value said.place ≡ false → is_said option said ≡ false
+    → with_next command cluster members (with_word command cluster members said (option_text option)) value
+    ≡ with_value members option said value
 apart-read command cluster members option said value named k anew =
     ap (λ o. with_next command cluster members o value)
     (place-option command cluster members said.place said (option_text option) (text-option option) k
@@ -96,18 +110,26 @@ apart-read command cluster members option said value named k anew =
     ∙ value-place members option said value
 
 -- an option with its value
-joined-read : (command : CommandName) (cluster : Name) (members : List (Name × Host)) (option : ValueOption) (said : SaidText) (value : List ℕ) → value_option_named command (option_text option) ≡ Some option → awaits_value said.place ≡ false → is_said option said ≡ false
+joined-read : (command : CommandName) (cluster : Name) (members : List (Name × Host)) (option : ValueOption)
+    (said : SaidText) (value : List ℕ) → value_option_named command (option_text option) ≡ Some option
+    → awaits_value said.place ≡ false → is_said option said ≡ false
     → with_word command cluster members said (joined option value) ≡ with_value members option said value
 joined-read command cluster members option said value named k anew =
     place-option command cluster members said.place said (joined option value) (joined-option option value) k
-    ∙ cut-read command members option said (joined option value) (Some value) named (cut-mark (option_text option) value (unmarked option))
+    ∙ cut-read command members option said (joined option value) (Some value) named
+    (cut-mark (option_text option) value (unmarked option))
     ∙ ap (λ test. cond test (Err (Extra (joined option value))) (with_value members option said value)) anew
 
-pub same-word : (cluster : Name) (members : List (Name × Host)) (command : CommandName) (word : List ℕ) (front back : List (List ℕ)) (option : ValueOption) (value : List ℕ) (said : SaidText)
-    → command_named word ≡ Some command → value_option_named command (option_text option) ≡ Some option → said_in command cluster members front ≡ Ok said → awaits_value said.place ≡ false → is_said option said ≡ false
-    → command_of cluster members (word ∷ (front ++ option_text option ∷ value ∷ back)) ≡ command_of cluster members (word ∷ (front ++ joined option value ∷ back))
+pub same-word : (cluster : Name) (members : List (Name × Host)) (command : CommandName) (word : List ℕ)
+    (front back : List (List ℕ)) (option : ValueOption) (value : List ℕ) (said : SaidText)
+    → command_named word ≡ Some command → value_option_named command (option_text option) ≡ Some option
+    → said_in command cluster members front ≡ Ok said → awaits_value said.place ≡ false → is_said option said ≡ false
+    → command_of cluster members (word ∷ (front ++ option_text option ∷ value ∷ back))
+    ≡ command_of cluster members (word ∷ (front ++ joined option value ∷ back))
 same-word cluster members command word front back option value said is named read k anew =
     behind-front command cluster members word front (option_text option ∷ value ∷ back) said is read
-    ∙ ap (λ o. if_said command (with_words command cluster members o back)) (apart-read command cluster members option said value named k anew)
-    ∙ sym (ap (λ o. if_said command (with_words command cluster members o back)) (joined-read command cluster members option said value named k anew))
+    ∙ ap (λ o. if_said command (with_words command cluster members o back))
+    (apart-read command cluster members option said value named k anew)
+    ∙ sym (ap (λ o. if_said command (with_words command cluster members o back))
+    (joined-read command cluster members option said value named k anew))
     ∙ sym (behind-front command cluster members word front (joined option value ∷ back) said is read)

@@ -25,12 +25,17 @@ use Rattle.ctl_command.specs.declared.said.Place.{Place}
 use Rattle.ctl_command.specs.declared.said.Place.TheVariants as places
 
 -- words behind words
-pub with_words-append : (command : CommandName) (cluster : Name) (members : List (Name × Host)) (outcome : Result SaidText FaultText) (words more : List (List ℕ)) → with_words command cluster members outcome (words ++ more) ≡ with_words command cluster members (with_words command cluster members outcome words) more
+pub with_words-append : (command : CommandName) (cluster : Name) (members : List (Name × Host))
+    (outcome : Result SaidText FaultText) (words more : List (List ℕ))
+    → with_words command cluster members outcome (words ++ more)
+    ≡ with_words command cluster members (with_words command cluster members outcome words) more
 with_words-append command cluster members outcome [] more = refl
-with_words-append command cluster members outcome (word ∷ words) more = with_words-append command cluster members (with_next command cluster members outcome word) words more
+with_words-append command cluster members outcome (word ∷ words) more =
+    with_words-append command cluster members (with_next command cluster members outcome word) words more
 
 -- words behind a fault
-pub with_words-fault : (command : CommandName) (cluster : Name) (members : List (Name × Host)) (fault : FaultText) (words : List (List ℕ)) → with_words command cluster members (Err fault) words ≡ Err fault
+pub with_words-fault : (command : CommandName) (cluster : Name) (members : List (Name × Host)) (fault : FaultText)
+    (words : List (List ℕ)) → with_words command cluster members (Err fault) words ≡ Err fault
 with_words-fault command cluster members fault [] = refl
 with_words-fault command cluster members fault (word ∷ words) = with_words-fault command cluster members fault words
 
@@ -51,28 +56,35 @@ itself word = rw (same-bytes word) refl
 its-value : (word value : List ℕ) → (cut_once equals_sign word).1 ≡ Some value → is_word_or_value value word ≡ true
 its-value word value h = rw (h, same-bytes value) (or-true (bytes_eq value word))
 
-of-test : (word : List ℕ) (test : Bool) (first second : Result SaidText FaultText) → is_of word first ≡ true → is_of word second ≡ true → is_of word (cond test first second) ≡ true
+of-test : (word : List ℕ) (test : Bool) (first second : Result SaidText FaultText) → is_of word first ≡ true
+    → is_of word second ≡ true → is_of word (cond test first second) ≡ true
 of-test word true first second h k = h
 of-test word false first second h k = k
 
-leader-of : (word : List ℕ) (said : SaidText) (value : List ℕ) (member : Option MemberId) → is_word_or_value value word ≡ true → is_of word (with_leader said value member) ≡ true
+leader-of : (word : List ℕ) (said : SaidText) (value : List ℕ) (member : Option MemberId)
+    → is_word_or_value value word ≡ true → is_of word (with_leader said value member) ≡ true
 leader-of word said value None h = h
 leader-of word said value (Some member) h = refl
 
-candidate-of : (word : List ℕ) (said : SaidText) (value : List ℕ) (member : Option MemberId) → is_word_or_value value word ≡ true → is_of word (with_candidate said value member) ≡ true
+candidate-of : (word : List ℕ) (said : SaidText) (value : List ℕ) (member : Option MemberId)
+    → is_word_or_value value word ≡ true → is_of word (with_candidate said value member) ≡ true
 candidate-of word said value None h = h
 candidate-of word said value (Some member) h = refl
 
-setting-of : (word : List ℕ) (said : SaidText) (value : List ℕ) (setting : Option SettingText) → is_word_or_value value word ≡ true → is_of word (with_setting said value setting) ≡ true
+setting-of : (word : List ℕ) (said : SaidText) (value : List ℕ) (setting : Option SettingText)
+    → is_word_or_value value word ≡ true → is_of word (with_setting said value setting) ≡ true
 setting-of word said value None h = h
 setting-of word said value (Some setting) h = refl
 
-value-of : (word : List ℕ) (members : List (Name × Host)) (option : ValueOption) (said : SaidText) (value : List ℕ) → is_word_or_value value word ≡ true → is_of word (with_value members option said value) ≡ true
+value-of : (word : List ℕ) (members : List (Name × Host)) (option : ValueOption) (said : SaidText) (value : List ℕ)
+    → is_word_or_value value word ≡ true → is_of word (with_value members option said value) ≡ true
 value-of word members values.Leader said value h = leader-of word said value (member_named members value) h
 value-of word members values.Candidate said value h = candidate-of word said value (member_named members value) h
 value-of word members values.Set said value h = setting-of word said value (setting_in value) h
 
-new-option-of : (word : List ℕ) (members : List (Name × Host)) (option : ValueOption) (said : SaidText) (value : Option (List ℕ)) → (cut_once equals_sign word).1 ≡ value → is_of word (with_new_option members option said value) ≡ true
+new-option-of : (word : List ℕ) (members : List (Name × Host)) (option : ValueOption) (said : SaidText)
+    (value : Option (List ℕ)) → (cut_once equals_sign word).1 ≡ value
+    → is_of word (with_new_option members option said value) ≡ true
 new-option-of word members option said None h = refl
 new-option-of word members option said (Some value) h = value-of word members option said value (its-value word value h)
 
@@ -80,27 +92,35 @@ force-of : (word : List ℕ) (said : SaidText) (value : Option (List ℕ)) → i
 force-of word said None = of-test word said.force _ _ (same-bytes word) refl
 force-of word said (Some value) = itself word
 
-known-of : (word : List ℕ) (members : List (Name × Host)) (option : Option OptionName) (said : SaidText) → is_of word (with_known_option members option said word (cut_once equals_sign word).1) ≡ true
+known-of : (word : List ℕ) (members : List (Name × Host)) (option : Option OptionName) (said : SaidText)
+    → is_of word (with_known_option members option said word (cut_once equals_sign word).1) ≡ true
 known-of word members None said = itself word
 known-of word members (Some options.Force) said = force-of word said (cut_once equals_sign word).1
-known-of word members (Some (options.Value option)) said = of-test word (is_said option said) _ _ (same-bytes word) (new-option-of word members option said (cut_once equals_sign word).1 refl)
+known-of word members (Some (options.Value option)) said = of-test word (is_said option said) _ _
+    (same-bytes word) (new-option-of word members option said (cut_once equals_sign word).1 refl)
 
-option-of : (word : List ℕ) (command : CommandName) (members : List (Name × Host)) (said : SaidText) → is_of word (with_option command members said word) ≡ true
+option-of : (word : List ℕ) (command : CommandName) (members : List (Name × Host)) (said : SaidText)
+    → is_of word (with_option command members said word) ≡ true
 option-of word command members said = known-of word members (option_named command (cut_once equals_sign word).0) said
 
-member-of : (word : List ℕ) (said : SaidText) (member : Option MemberId) → is_of word (with_member said word member) ≡ true
+member-of : (word : List ℕ) (said : SaidText) (member : Option MemberId)
+    → is_of word (with_member said word member) ≡ true
 member-of word said None = itself word
 member-of word said (Some member) = refl
 
-name-of : (word : List ℕ) (command : CommandName) (cluster : Name) (members : List (Name × Host)) (said : SaidText) → is_of word (with_name command cluster members said word) ≡ true
+name-of : (word : List ℕ) (command : CommandName) (cluster : Name) (members : List (Name × Host)) (said : SaidText)
+    → is_of word (with_name command cluster members said word) ≡ true
 name-of word command cluster members said =
     of-test word said.cluster _ _
     (of-test word (awaits_member command said) _ _ (member-of word said (member_named members word)) (same-bytes word))
     (of-test word (bytes_eq word (name_bytes cluster)) _ _ refl (itself word))
 
-place-of : (word : List ℕ) (command : CommandName) (cluster : Name) (members : List (Name × Host)) (place : Place) (said : SaidText) → is_of word (at_place command cluster members place said word) ≡ true
-place-of word command cluster members places.Names said = of-test word (is_option word) _ _ (option-of word command members said) (name-of word command cluster members said)
-place-of word command cluster members places.Options said = of-test word (is_option word) _ _ (option-of word command members said) (same-bytes word)
+place-of : (word : List ℕ) (command : CommandName) (cluster : Name) (members : List (Name × Host))
+    (place : Place) (said : SaidText) → is_of word (at_place command cluster members place said word) ≡ true
+place-of word command cluster members places.Names said =
+    of-test word (is_option word) _ _ (option-of word command members said) (name-of word command cluster members said)
+place-of word command cluster members places.Options said =
+    of-test word (is_option word) _ _ (option-of word command members said) (same-bytes word)
 place-of word command cluster members (places.Value option) said = value-of word members option said word (itself word)
 
 -- the same of a fault at one of several words
@@ -111,33 +131,43 @@ is_of_one words (Err (Unknown text)) = is_word_or_value_among text words
 is_of_one words (Err (Missing needed)) = false
 is_of_one words (Err (Extra text)) = is_among text words
 
-of-first : (word : List ℕ) (words : List (List ℕ)) (fault : FaultText) → is_of word (Err fault) ≡ true → is_of_one (word ∷ words) (Err fault) ≡ true
+of-first : (word : List ℕ) (words : List (List ℕ)) (fault : FaultText) → is_of word (Err fault) ≡ true
+    → is_of_one (word ∷ words) (Err fault) ≡ true
 of-first word words NoCommand h = h
 of-first word words (Unknown text) h = rw h refl
 of-first word words (Missing needed) h = h
 of-first word words (Extra text) h = rw h refl
 
-of-later : (word : List ℕ) (words : List (List ℕ)) (outcome : Result SaidText FaultText) → is_of_one words outcome ≡ true → is_of_one (word ∷ words) outcome ≡ true
+of-later : (word : List ℕ) (words : List (List ℕ)) (outcome : Result SaidText FaultText)
+    → is_of_one words outcome ≡ true → is_of_one (word ∷ words) outcome ≡ true
 of-later word words (Ok said) h = refl
 of-later word words (Err NoCommand) h = h
 of-later word words (Err (Unknown text)) h = rw h (or-true (is_word_or_value text word))
 of-later word words (Err (Missing needed)) h = h
 of-later word words (Err (Extra text)) h = rw h (or-true (bytes_eq text word))
 
-of-next : (command : CommandName) (cluster : Name) (members : List (Name × Host)) (outcome : Result SaidText FaultText) (word : List ℕ) (words : List (List ℕ)) → ((said : SaidText) → is_of_one words (with_words command cluster members (Ok said) words) ≡ true) → is_of word outcome ≡ true → is_of_one (word ∷ words) (with_words command cluster members outcome words) ≡ true
+of-next : (command : CommandName) (cluster : Name) (members : List (Name × Host))
+    (outcome : Result SaidText FaultText) (word : List ℕ) (words : List (List ℕ))
+    → ((said : SaidText) → is_of_one words (with_words command cluster members (Ok said) words) ≡ true)
+    → is_of word outcome ≡ true → is_of_one (word ∷ words) (with_words command cluster members outcome words) ≡ true
 of-next command cluster members (Ok said) word words later h = of-later word words _ (later said)
-of-next command cluster members (Err fault) word words later h = rw (with_words-fault command cluster members fault words) (of-first word words fault h)
+of-next command cluster members (Err fault) word words later h =
+    rw (with_words-fault command cluster members fault words) (of-first word words fault h)
 
-of-words : (command : CommandName) (cluster : Name) (members : List (Name × Host)) (said : SaidText) (words : List (List ℕ)) → is_of_one words (with_words command cluster members (Ok said) words) ≡ true
+of-words : (command : CommandName) (cluster : Name) (members : List (Name × Host)) (said : SaidText)
+    (words : List (List ℕ)) → is_of_one words (with_words command cluster members (Ok said) words) ≡ true
 of-words command cluster members said [] = refl
-of-words command cluster members said (word ∷ words) = of-next command cluster members (with_word command cluster members said word) word words (λ next. of-words command cluster members next words) (place-of word command cluster members said.place said)
+of-words command cluster members said (word ∷ words) =
+    of-next command cluster members (with_word command cluster members said word) word words
+    (λ next. of-words command cluster members next words) (place-of word command cluster members said.place said)
 
 -- what is lacking is at no word
 abbrev lacks : Result CommandText FaultText → Bool
 lacks (Ok command) = false
 lacks (Err fault) = is_at_word fault
 
-lacks-test : (test : Bool) (first second : Result CommandText FaultText) → lacks first ≡ false → lacks second ≡ false → lacks (cond test first second) ≡ false
+lacks-test : (test : Bool) (first second : Result CommandText FaultText) → lacks first ≡ false
+    → lacks second ≡ false → lacks (cond test first second) ≡ false
 lacks-test true first second h k = h
 lacks-test false first second h k = k
 
@@ -173,54 +203,79 @@ built-lacks names.Failover said = failover-lacks said.candidate
 built-lacks names.Restart said = restart-lacks said.member
 built-lacks names.Reinit said = reinit-lacks said.member
 
-ended-lacks : (place : Place) (read : Result CommandText FaultText) → lacks read ≡ false → lacks (ended place read) ≡ false
+ended-lacks : (place : Place) (read : Result CommandText FaultText) → lacks read ≡ false
+    → lacks (ended place read) ≡ false
 ended-lacks place (Err fault) h = h
 ended-lacks places.Names (Ok command) h = refl
 ended-lacks places.Options (Ok command) h = refl
 ended-lacks (places.Value option) (Ok command) h = refl
 
 finished-lacks : (command : CommandName) (said : SaidText) → lacks (finished command said) ≡ false
-finished-lacks command said = lacks-test (lacks_cluster command said) _ _ refl (ended-lacks said.place (built command said) (built-lacks command said))
+finished-lacks command said = lacks-test (lacks_cluster command said) _ _ refl
+    (ended-lacks said.place (built command said) (built-lacks command said))
 
-never-at-word : (read : Result CommandText FaultText) (fault : FaultText) → lacks read ≡ false → read ≡ Err fault → is_at_word fault ≡ true → ⊥
+never-at-word : (read : Result CommandText FaultText) (fault : FaultText) → lacks read ≡ false
+    → read ≡ Err fault → is_at_word fault ≡ true → ⊥
 never-at-word (Ok command) fault h is at = cc
 never-at-word (Err other) fault h is at = cc
 
 -- a fault of a word among the words behind a command
-at-one : (command : CommandName) (words : List (List ℕ)) (outcome : Result SaidText FaultText) (fault : FaultText) → is_of_one words outcome ≡ true → is_at_word fault ≡ true → if_said command outcome ≡ Err fault → is_of_one words (Err fault) ≡ true
-at-one command words (Ok said) fault of at is = absurd (never-at-word (finished command said) fault (finished-lacks command said) is at)
+at-one : (command : CommandName) (words : List (List ℕ)) (outcome : Result SaidText FaultText) (fault : FaultText)
+    → is_of_one words outcome ≡ true → is_at_word fault ≡ true → if_said command outcome ≡ Err fault
+    → is_of_one words (Err fault) ≡ true
+at-one command words (Ok said) fault of at is =
+    absurd (never-at-word (finished command said) fault (finished-lacks command said) is at)
 at-one command words (Err other) fault of at is =
     let e : other ≡ fault = cc in
     subst (λ f. is_of_one words (Err f) ≡ true) e of
 
-by-command : (cluster : Name) (members : List (Name × Host)) (command : Option CommandName) (word : List ℕ) (words : List (List ℕ)) (fault : FaultText) → is_at_word fault ≡ true → command_by cluster members command word words ≡ Err fault → is_of_one (word ∷ words) (Err fault) ≡ true
+by-command : (cluster : Name) (members : List (Name × Host)) (command : Option CommandName) (word : List ℕ)
+    (words : List (List ℕ)) (fault : FaultText) → is_at_word fault ≡ true
+    → command_by cluster members command word words ≡ Err fault → is_of_one (word ∷ words) (Err fault) ≡ true
 by-command cluster members None word words fault at is =
     let e : Unknown word ≡ fault = cc in
     subst (λ f. is_of_one (word ∷ words) (Err f) ≡ true) e (of-first word words (Unknown word) (itself word))
 by-command cluster members (Some command) word words fault at is =
-    of-later word words (Err fault) (at-one command words (said_in command cluster members words) fault (of-words command cluster members nothing_said words) at is)
+    of-later word words (Err fault)
+    (at-one command words (said_in command cluster members words) fault
+    (of-words command cluster members nothing_said words) at is)
 
-named : (cluster : Name) (members : List (Name × Host)) (words : List (List ℕ)) (fault : FaultText) → is_at_word fault ≡ true → command_of cluster members words ≡ Err fault → is_of_one words (Err fault) ≡ true
+named : (cluster : Name) (members : List (Name × Host)) (words : List (List ℕ)) (fault : FaultText)
+    → is_at_word fault ≡ true → command_of cluster members words ≡ Err fault → is_of_one words (Err fault) ≡ true
 named cluster members [] fault at is = cc
-named cluster members (word ∷ words) fault at is = by-command cluster members (command_named word) word words fault at is
+named cluster members (word ∷ words) fault at is =
+    by-command cluster members (command_named word) word words fault at is
 
-pub unknown-named : (cluster : Name) (members : List (Name × Host)) (words : List (List ℕ)) (text : List ℕ) → command_of cluster members words ≡ Err (Unknown text) → is_word_or_value_among text words ≡ true
+pub unknown-named : (cluster : Name) (members : List (Name × Host)) (words : List (List ℕ)) (text : List ℕ)
+    → command_of cluster members words ≡ Err (Unknown text) → is_word_or_value_among text words ≡ true
 unknown-named cluster members words text is = named cluster members words (Unknown text) refl is
 
-pub extra-named : (cluster : Name) (members : List (Name × Host)) (words : List (List ℕ)) (text : List ℕ) → command_of cluster members words ≡ Err (Extra text) → is_among text words ≡ true
+pub extra-named : (cluster : Name) (members : List (Name × Host)) (words : List (List ℕ)) (text : List ℕ)
+    → command_of cluster members words ≡ Err (Extra text) → is_among text words ≡ true
 extra-named cluster members words text is = named cluster members words (Extra text) refl is
 
 -- a fault of a word stays, whatever follows
-said-stays : (command : CommandName) (cluster : Name) (members : List (Name × Host)) (outcome : Result SaidText FaultText) (more : List (List ℕ)) (fault : FaultText) → is_at_word fault ≡ true → if_said command outcome ≡ Err fault → if_said command (with_words command cluster members outcome more) ≡ Err fault
-said-stays command cluster members (Ok said) more fault at is = absurd (never-at-word (finished command said) fault (finished-lacks command said) is at)
-said-stays command cluster members (Err other) more fault at is = rw (with_words-fault command cluster members other more) is
+said-stays : (command : CommandName) (cluster : Name) (members : List (Name × Host))
+    (outcome : Result SaidText FaultText) (more : List (List ℕ)) (fault : FaultText) → is_at_word fault ≡ true
+    → if_said command outcome ≡ Err fault
+    → if_said command (with_words command cluster members outcome more) ≡ Err fault
+said-stays command cluster members (Ok said) more fault at is =
+    absurd (never-at-word (finished command said) fault (finished-lacks command said) is at)
+said-stays command cluster members (Err other) more fault at is =
+    rw (with_words-fault command cluster members other more) is
 
-by-stays : (cluster : Name) (members : List (Name × Host)) (command : Option CommandName) (word : List ℕ) (words more : List (List ℕ)) (fault : FaultText) → is_at_word fault ≡ true → command_by cluster members command word words ≡ Err fault → command_by cluster members command word (words ++ more) ≡ Err fault
+by-stays : (cluster : Name) (members : List (Name × Host)) (command : Option CommandName) (word : List ℕ)
+    (words more : List (List ℕ)) (fault : FaultText) → is_at_word fault ≡ true
+    → command_by cluster members command word words ≡ Err fault
+    → command_by cluster members command word (words ++ more) ≡ Err fault
 by-stays cluster members None word words more fault at is = is
 by-stays cluster members (Some command) word words more fault at is =
     ap (if_said command) (with_words-append command cluster members (Ok nothing_said) words more)
     ∙ said-stays command cluster members (said_in command cluster members words) more fault at is
 
-pub first-counts : (cluster : Name) (members : List (Name × Host)) (words more : List (List ℕ)) (fault : FaultText) → is_at_word fault ≡ true → command_of cluster members words ≡ Err fault → command_of cluster members (words ++ more) ≡ Err fault
+pub first-counts : (cluster : Name) (members : List (Name × Host)) (words more : List (List ℕ)) (fault : FaultText)
+    → is_at_word fault ≡ true → command_of cluster members words ≡ Err fault
+    → command_of cluster members (words ++ more) ≡ Err fault
 first-counts cluster members [] more fault at is = cc
-first-counts cluster members (word ∷ words) more fault at is = by-stays cluster members (command_named word) word words more fault at is
+first-counts cluster members (word ∷ words) more fault at is =
+    by-stays cluster members (command_named word) word words more fault at is

@@ -64,27 +64,34 @@ with_new_option members option said None = Ok (awaiting option said)
 with_new_option members option said (Some value) = with_value members option said value
 
 -- the same, where it may stand there again
-abbrev pub with_value_option : List (Name × Host) → ValueOption → SaidText → List ℕ → Option (List ℕ) → Result SaidText FaultText
-with_value_option members option said word value = if is_said option said then Err (Extra word) else with_new_option members option said value
+abbrev pub with_value_option : List (Name × Host) → ValueOption → SaidText → List ℕ → Option (List ℕ)
+    → Result SaidText FaultText
+with_value_option members option said word value =
+    if is_said option said then Err (Extra word) else with_new_option members option said value
 
 -- '--force', which has no value and stands there once
 abbrev pub with_force : SaidText → List ℕ → Option (List ℕ) → Result SaidText FaultText
 with_force said word (Some value) = Err (Unknown word)
-with_force said word None = if said.force then Err (Extra word) else Ok (record said { force = true; place = places.Options })
+with_force said word None =
+    if said.force then Err (Extra word) else Ok (record said { force = true; place = places.Options })
 
 -- an option that the command takes, or none
-abbrev pub with_known_option : List (Name × Host) → Option OptionName → SaidText → List ℕ → Option (List ℕ) → Result SaidText FaultText
+abbrev pub with_known_option : List (Name × Host) → Option OptionName → SaidText → List ℕ → Option (List ℕ)
+    → Result SaidText FaultText
 with_known_option members None said word value = Err (Unknown word)
 with_known_option members (Some options.Force) said word value = with_force said word value
-with_known_option members (Some (options.Value option)) said word value = with_value_option members option said word value
+with_known_option members (Some (options.Value option)) said word value =
+    with_value_option members option said word value
 
 -- a word that is an option, known or not
 abbrev pub with_option : CommandName → List (Name × Host) → SaidText → List ℕ → Result SaidText FaultText
-with_option command members said word = with_known_option members (option_named command (cut_once equals_sign word).0) said word (cut_once equals_sign word).1
+with_option command members said word = with_known_option members
+    (option_named command (cut_once equals_sign word).0) said word (cut_once equals_sign word).1
 
 -- the cluster's name
 abbrev pub with_cluster : Name → SaidText → List ℕ → Result SaidText FaultText
-with_cluster cluster said word = if bytes_eq word (name_bytes cluster) then Ok (record said { cluster = true }) else Err (Unknown word)
+with_cluster cluster said word =
+    if bytes_eq word (name_bytes cluster) then Ok (record said { cluster = true }) else Err (Unknown word)
 
 -- the member's name
 abbrev pub with_member : SaidText → List ℕ → Option MemberId → Result SaidText FaultText
@@ -97,19 +104,23 @@ awaits_member command said = takes_member command && is_none said.member
 
 -- a word behind the cluster's name, before the first option
 abbrev pub behind_cluster : CommandName → List (Name × Host) → SaidText → List ℕ → Result SaidText FaultText
-behind_cluster command members said word = if awaits_member command said then with_member said word (member_named members word) else Err (Extra word)
+behind_cluster command members said word =
+    if awaits_member command said then with_member said word (member_named members word) else Err (Extra word)
 
 -- a word that is no option, before the first option
 abbrev pub with_name : CommandName → Name → List (Name × Host) → SaidText → List ℕ → Result SaidText FaultText
-with_name command cluster members said word = if said.cluster then behind_cluster command members said word else with_cluster cluster said word
+with_name command cluster members said word =
+    if said.cluster then behind_cluster command members said word else with_cluster cluster said word
 
 -- a word before the first option, or that option
 abbrev pub among_names : CommandName → Name → List (Name × Host) → SaidText → List ℕ → Result SaidText FaultText
-among_names command cluster members said word = if is_option word then with_option command members said word else with_name command cluster members said word
+among_names command cluster members said word =
+    if is_option word then with_option command members said word else with_name command cluster members said word
 
 -- a word behind an option, and not as its value
 abbrev pub among_options : CommandName → List (Name × Host) → SaidText → List ℕ → Result SaidText FaultText
-among_options command members said word = if is_option word then with_option command members said word else Err (Extra word)
+among_options command members said word =
+    if is_option word then with_option command members said word else Err (Extra word)
 
 -- a word at a place
 abbrev pub at_place : CommandName → Name → List (Name × Host) → Place → SaidText → List ℕ → Result SaidText FaultText
@@ -122,18 +133,29 @@ abbrev pub with_word : CommandName → Name → List (Name × Host) → SaidText
 with_word command cluster members said word = at_place command cluster members said.place said word
 
 -- one more word, where no word before is at fault
-abbrev pub with_next : CommandName → Name → List (Name × Host) → Result SaidText FaultText → List ℕ → Result SaidText FaultText
+abbrev pub with_next : CommandName → Name → List (Name × Host) → Result SaidText FaultText → List ℕ
+    → Result SaidText FaultText
 with_next command cluster members (Err fault) word = Err fault
 with_next command cluster members (Ok said) word = with_word command cluster members said word
 
 -- more words
-abbrev pub with_words : CommandName → Name → List (Name × Host) → Result SaidText FaultText → List (List ℕ) → Result SaidText FaultText
+abbrev pub with_words : CommandName → Name → List (Name × Host) → Result SaidText FaultText → List (List ℕ)
+    → Result SaidText FaultText
 with_words command cluster members outcome [] = outcome
-with_words command cluster members outcome (word ∷ words) = with_words command cluster members (with_next command cluster members outcome word) words
+with_words command cluster members outcome (word ∷ words) =
+    with_words command cluster members (with_next command cluster members outcome word) words
 
 -- no word says anything
 abbrev pub nothing_said : SaidText
-nothing_said = record { cluster = false; member = None; leader = None; candidate = None; setting = None; force = false; place = places.Names }
+nothing_said = record {
+  cluster = false;
+  member = None;
+  leader = None;
+  candidate = None;
+  setting = None;
+  force = false;
+  place = places.Names;
+}
 
 -- what the words behind a command say
 abbrev pub said_in : CommandName → Name → List (Name × Host) → List (List ℕ) → Result SaidText FaultText
@@ -194,7 +216,8 @@ ended place (Ok command) = at_end place command
 
 -- the command of what is said, or the first thing that it lacks
 abbrev pub finished : CommandName → SaidText → Result CommandText FaultText
-finished command said = if lacks_cluster command said then Err (Missing needs.Cluster) else ended said.place (built command said)
+finished command said =
+    if lacks_cluster command said then Err (Missing needs.Cluster) else ended said.place (built command said)
 
 -- what is asked for, where no word is at fault
 abbrev pub if_said : CommandName → Result SaidText FaultText → Result CommandText FaultText
@@ -202,7 +225,8 @@ if_said command (Err fault) = Err fault
 if_said command (Ok said) = finished command said
 
 -- a command, if the first word is one
-abbrev pub command_by : Name → List (Name × Host) → Option CommandName → List ℕ → List (List ℕ) → Result CommandText FaultText
+abbrev pub command_by : Name → List (Name × Host) → Option CommandName → List ℕ → List (List ℕ)
+    → Result CommandText FaultText
 command_by cluster members None word words = Err (Unknown word)
 command_by cluster members (Some command) word words = if_said command (said_in command cluster members words)
 

@@ -13,7 +13,8 @@ use Rattle.ctl_command.specs.declared.option_name.ValueOption.TheVariants as val
 
 -- all commands
 abbrev pub commands : List CommandName
-commands = names.List ∷ names.History ∷ names.ShowConfig ∷ names.Pause ∷ names.Resume ∷ names.EditConfig ∷ names.Switchover ∷ names.Failover ∷ names.Restart ∷ names.Reinit ∷ []
+commands = names.List ∷ names.History ∷ names.ShowConfig ∷ names.Pause ∷ names.Resume ∷ names.EditConfig
+    ∷ names.Switchover ∷ names.Failover ∷ names.Restart ∷ names.Reinit ∷ []
 
 -- the word of a command
 abbrev pub command_text : CommandName → List ℕ
@@ -61,7 +62,8 @@ value_option_named command name = find (λ option. bytes_eq name (option_text op
 
 -- the option that a command takes under a name
 abbrev pub option_named : CommandName → List ℕ → Option OptionName
-option_named command name = if bytes_eq name force_text then Some options.Force else option_map (λ option. options.Value option) (value_option_named command name)
+option_named command name = if bytes_eq name force_text then Some options.Force
+    else option_map (λ option. options.Value option) (value_option_named command name)
 
 -- what lacks, as the usage of a command names it
 abbrev pub needed_text : Needed → List ℕ

@@ -16,7 +16,8 @@ is_byte mark b = b == mark
 
 -- the bytes before the first such mark, and those behind it, if there is one
 abbrev pub cut_once : ℕ → List ℕ → List ℕ × Option (List ℕ)
-cut_once mark bytes = if nat_lt (position_or_len (is_byte mark) bytes) (length bytes) then (before_first (is_byte mark) bytes, Some (after_first (is_byte mark) bytes)) else (bytes, None)
+cut_once mark bytes = if nat_lt (position_or_len (is_byte mark) bytes) (length bytes)
+    then (before_first (is_byte mark) bytes, Some (after_first (is_byte mark) bytes)) else (bytes, None)
 
 -- the parts between such marks, of which there is always one
 abbrev pub parts_between : ℕ → List ℕ → List (List ℕ)

@@ -11,7 +11,8 @@ no : false ≡ true → ⊥
 no e = cc
 
 -- one that is down starts as a replica of none
-down-in : (now : Ticks) (state : State) (s : ServerFacts) → is_down state ≡ true → replica_starts_in state now s ≡ replica_started now None s
+down-in : (now : Ticks) (state : State) (s : ServerFacts) → is_down state ≡ true
+    → replica_starts_in state now s ≡ replica_started now None s
 down-in now states.Stopped s e = refl
 down-in now states.Crashed s e = refl
 down-in now states.Creating s e = absurd (no e)
@@ -20,5 +21,6 @@ down-in now states.Replica s e = absurd (no e)
 down-in now states.Primary s e = absurd (no e)
 down-in now (states.Stopping was_primary at) s e = absurd (no e)
 
-pub down-starts : (now : ℕ) (s : ServerFacts) → is_down s.state ≡ true → starts_as_replica now s ≡ replica_started (record { 0 = now }) None s
+pub down-starts : (now : ℕ) (s : ServerFacts) → is_down s.state ≡ true
+    → starts_as_replica now s ≡ replica_started (record { 0 = now }) None s
 down-starts now s e = down-in (record { 0 = now }) s.state s e

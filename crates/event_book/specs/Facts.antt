@@ -20,10 +20,10 @@ use Rattle.event_book.specs.Members.{members_from}
 use Rattle.event_book.specs.Servers.{servers_after}
 use Rattle.event_book.specs.Watchdogs.{deadlines_after, holds_after}
 
--- what a book determines over the declared members: the clock, the keys, which agents run, which links are cut, the messages
--- in flight, the number of the message that was sent last, the servers and which of them are frozen, when each armed watchdog
--- resets its machine, until when each member promised not to take the leader key, the number of the last commit, and the
--- commits that were acknowledged
+-- what a book determines over the declared members: the clock, the keys, which agents run, which links
+-- are cut, the messages in flight, the number of the message that was sent last, the servers and which
+-- of them are frozen, when each armed watchdog resets its machine, until when each member promised not
+-- to take the leader key, the number of the last commit, and the commits that were acknowledged
 pub record Facts : Type 0 where
   pub clock : ℕ
   pub keys : Keys
@@ -62,8 +62,8 @@ abbrev pub facts_over : Facts → List Event → Facts
 facts_over facts [] = facts
 facts_over facts (event ∷ events) = facts_over (facts_after facts event.kind) events
 
--- what there is before the first event, where the key store holds this configuration, over members of these names, each with a server whose log
--- has so many bytes of data
+-- what there is before the first event, where the key store holds this configuration,
+-- over members of these names, each with a server whose log has so many bytes of data
 abbrev pub start_of : Settings → List Name → ℕ → Facts
 start_of first names base = record {
   clock = 0;

@@ -19,8 +19,8 @@ use Rattle.event_book.specs.declared.message.Body.{Body}
 use Rattle.event_book.specs.declared.message.Body.TheVariants as bodies
 use Rattle.event_book.specs.declared.message.Message.{Message}
 
--- a message on its way, with the moment of its sending, and with what an answer of the store carries beside its words: the
--- store's entries then, and the grant
+-- a message on its way, with the moment of its sending, and with what an answer
+-- of the store carries beside its words: the store's entries then, and the grant
 pub record InFlightFacts : Type 0 where
   pub message : Message
   pub sent : Ticks
@@ -40,7 +40,8 @@ snapshot_for _ present = []
 -- the grant of this revision, for an answer to this end of a link; no grant is told to the key store
 abbrev pub grant_to : LinkEnd → ℕ → Bool → Option Granted
 grant_to link_ends.Store revision leased = None
-grant_to (link_ends.Member member) revision leased = Some (record { revision = revision; by = member.id; leased = leased })
+grant_to (link_ends.Member member) revision leased =
+    Some (record { revision = revision; by = member.id; leased = leased })
 
 -- the grant of the last revision, for an answer that tells it
 abbrev pub grant_for : Body → LinkEnd → ℕ → Option Granted

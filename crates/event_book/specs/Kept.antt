@@ -8,9 +8,10 @@ use Rattle.event_book.specs.Writers.{writes_over}
 
 -- each of these servers that accepts writes has an entry of each of these commits in its log
 abbrev pub WritersHold : (ℕ → Bool) → Logs → List ℕ → Type 0
-WritersHold writes logs acknowledged = (server : ℕ) → writes server ≡ true → (commit : ℕ) → Contains acknowledged commit → has_serial (entries_at logs server) commit ≡ true
+WritersHold writes logs acknowledged = (server : ℕ) → writes server ≡ true → (commit : ℕ)
+    → Contains acknowledged commit → has_serial (entries_at logs server) commit ≡ true
 
--- at the end of this book, over servers that began with these logs, each server that accepts writes has an entry of each acknowledged commit
--- in its log
+-- at the end of this book, over servers that began with these logs, each server
+-- that accepts writes has an entry of each acknowledged commit in its log
 abbrev pub KeepsCommits : Logs → List Event → Type 0
 KeepsCommits logs book = WritersHold (writes_over (λ n. false) book) (logs_over logs book) (acknowledged_in book)

@@ -35,7 +35,8 @@ place_count = end_count * end_count
 
 -- the place of a link in such a table: the row of its end with the lower number, and in it the column of the other one
 abbrev pub link_place : Link → ℕ
-link_place link = min (end_number link.first) (end_number link.second) * end_count + max (end_number link.first) (end_number link.second)
+link_place link = min (end_number link.first) (end_number link.second) * end_count
+    + max (end_number link.first) (end_number link.second)
 
 -- which links are cut, by their places
 abbrev pub CutLinks : Type 0

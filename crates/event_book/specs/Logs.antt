@@ -18,10 +18,12 @@ Logs = List (Option (List Entry))
 abbrev pub logs_in : List ServerFacts → Logs
 logs_in servers = map (λ s. s.log) servers
 
--- the logs after the next entries of another server's log came to the end of one; without such a server all are as before
+-- the logs after the next entries of another server's log came to the
+-- end of one; without such a server all are as before
 abbrev pub log_received : Logs → ℕ → ℕ → Option (Option (List Entry)) → Logs
 log_received known number count None = known
-log_received known number count (Some theirs) = with_changed known number (λ log. Some (received (entries_of log) (entries_of theirs) count))
+log_received known number count (Some theirs) =
+    with_changed known number (λ log. Some (received (entries_of log) (entries_of theirs) count))
 
 -- the logs after one became a copy of another server's; without such a server all are as before
 abbrev pub log_copied : Logs → ℕ → Option (Option (List Entry)) → Logs
@@ -31,9 +33,12 @@ log_copied known number (Some theirs) = with_changed known number (λ log. their
 -- the logs after what happens to one: a commit stands at its end; the next entries of another log do, as that one is at
 -- that moment; it keeps so many entries; it is a copy of another one; it is gone
 abbrev pub logs_by : Logs → LogEvent → Logs
-logs_by known (logs.Appended server entry) = with_changed known server.id.number (λ log. Some (entries_of log ++ entry ∷ []))
-logs_by known (logs.Received server from count) = log_received known server.id.number count (slice_get known from.id.number)
-logs_by known (logs.Rewound server from kept at) = with_changed known server.id.number (λ log. Some (take kept (entries_of log)))
+logs_by known (logs.Appended server entry) =
+    with_changed known server.id.number (λ log. Some (entries_of log ++ entry ∷ []))
+logs_by known (logs.Received server from count) =
+    log_received known server.id.number count (slice_get known from.id.number)
+logs_by known (logs.Rewound server from kept at) =
+    with_changed known server.id.number (λ log. Some (take kept (entries_of log)))
 logs_by known (logs.Copied server from) = log_copied known server.id.number (slice_get known from.id.number)
 logs_by known (logs.Wiped server) = with_changed known server.id.number (λ log. None)
 

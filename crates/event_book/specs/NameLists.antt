@@ -24,7 +24,8 @@ with_name true name names = insert_key name_cmp names name
 -- names in order, with those of the members of a set at their places
 abbrev pub with_names : List Name → MemberSet → List Member → List Name
 with_names names set [] = names
-with_names names set (member ∷ members) = with_names (with_name (bit_at set.bits member.id.number == 1) member.name names) set members
+with_names names set (member ∷ members) =
+    with_names (with_name (bit_at set.bits member.id.number == 1) member.name names) set members
 
 -- the names of the members of a set, in byte order
 abbrev pub names_of : MemberSet → List Member → List Name

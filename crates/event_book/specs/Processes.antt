@@ -29,10 +29,13 @@ ended_process state = record state { running = false; suspended = false }
 
 -- the agents after what happens to one
 abbrev pub processes_by : List AgentProcess → AgentEvent → List AgentProcess
-processes_by states (agents.Suspended agent) = with_member_changed states agent (λ state. record state { suspended = true })
-processes_by states (agents.Resumed agent) = with_member_changed states agent (λ state. record state { suspended = false })
+processes_by states (agents.Suspended agent) =
+    with_member_changed states agent (λ state. record state { suspended = true })
+processes_by states (agents.Resumed agent) =
+    with_member_changed states agent (λ state. record state { suspended = false })
 processes_by states (agents.Killed agent) = with_member_changed states agent ended_process
-processes_by states (agents.Started agent incarnation) = with_member_changed states agent (λ state. running_in incarnation)
+processes_by states (agents.Started agent incarnation) =
+    with_member_changed states agent (λ state. running_in incarnation)
 processes_by states _ = states
 
 -- a reset of its machine ends an agent

@@ -20,7 +20,8 @@ confirmed_in servers = map (λ s. s.confirmed) servers
 
 -- the required lists after an event, by the numbers of their servers
 abbrev pub required_after : List Required → EventKind → List Required
-required_after known (kinds.Replication (replications.RequiredSet server required names)) = with_changed known server.id.number (λ before. required)
+required_after known (kinds.Replication (replications.RequiredSet server required names)) =
+    with_changed known server.id.number (λ before. required)
 required_after known _ = known
 
 -- the required list of each server is the last one that was set
@@ -30,8 +31,10 @@ required_over known (event ∷ events) = required_over (required_after known eve
 
 -- the positions that members confirmed to each server, after an event; those from before it began count no more
 abbrev pub confirmed_after : List (List (Option Lsn)) → EventKind → List (List (Option Lsn))
-confirmed_after known (kinds.Server (servers.Began server timeline)) = with_changed known server.id.number (λ before. none_confirmed)
-confirmed_after known (kinds.Replication (replications.Confirmed server by end)) = with_changed known server.id.number (λ before. slice_set before by.id.number (Some end))
+confirmed_after known (kinds.Server (servers.Began server timeline)) =
+    with_changed known server.id.number (λ before. none_confirmed)
+confirmed_after known (kinds.Replication (replications.Confirmed server by end)) =
+    with_changed known server.id.number (λ before. slice_set before by.id.number (Some end))
 confirmed_after known _ = known
 
 -- what was confirmed to each server since it last began

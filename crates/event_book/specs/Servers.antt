@@ -20,13 +20,14 @@ use Rattle.event_book.specs.declared.event.ServerEvent.TheVariants as servers
 use Rattle.event_book.specs.declared.event.WatchdogEvent.{WatchdogEvent}
 use Rattle.event_book.specs.declared.event.WatchdogEvent.TheVariants as watchdogs
 
--- it accepts writes from now on: a replica by its promotion, and else by the end of its start as a primary; what was confirmed
--- before counts no more
+-- it accepts writes from now on: a replica by its promotion, and else by the
+-- end of its start as a primary; what was confirmed before counts no more
 abbrev pub begun_in : State → ServerFacts → ServerFacts
 begun_in states.Replica s = promoted s
 begun_in _ s = started true s
 
--- a server in this state starts as a replica: of none where it is down, and where it runs as one again, of whom it follows
+-- a server in this state starts as a replica: of none where it is
+-- down, and where it runs as one again, of whom it follows
 abbrev pub replica_starts_in : State → Ticks → ServerFacts → ServerFacts
 replica_starts_in states.Stopped now s = replica_started now None s
 replica_starts_in states.Crashed now s = replica_started now None s
@@ -45,7 +46,8 @@ stops_slowly s = not (s.stop_delay.0 == 0)
 abbrev pub starts_slowly : ServerFacts → Bool
 starts_slowly s = not (s.start_delay.0 == 0)
 
--- a shutdown of it ends no writing at once: it runs or starts, and accepts no writes, or accepts them until the end of the stop
+-- a shutdown of it ends no writing at once: it runs or starts, and
+-- accepts no writes, or accepts them until the end of the stop
 abbrev pub stops_quietly : ServerFacts → Bool
 stops_quietly s = is_up s.state && (not (is_primary s.state) || stops_slowly s)
 
@@ -53,7 +55,8 @@ stops_quietly s = is_up s.state && (not (is_primary s.state) || stops_slowly s)
 abbrev pub stops : ℕ → ServerFacts → ServerFacts
 stops now s = if stops_quietly s then stopping (record { 0 = now }) s else s
 
--- its start as a primary begins, where it is down and its start takes time: that it accepts writes has an event of its own
+-- its start as a primary begins, where it is down and its start takes
+-- time: that it accepts writes has an event of its own
 abbrev pub starts_as_primary : ℕ → ServerFacts → ServerFacts
 starts_as_primary now s = if is_down s.state && starts_slowly s then primary_started (record { 0 = now }) s else s
 
@@ -66,7 +69,8 @@ servers_by now known (servers.Stops server) = with_changed known server.id.numbe
 servers_by now known (servers.StartsAsPrimary server) = with_changed known server.id.number (starts_as_primary now)
 servers_by now known (servers.StartsAsReplica server) = with_changed known server.id.number (starts_as_replica now)
 servers_by now known (servers.Follows server upstream) = with_changed known server.id.number (following upstream.id)
-servers_by now known (servers.Diverged server upstream at) = with_changed known server.id.number (λ s. record s { diverged = true })
+servers_by now known (servers.Diverged server upstream at) =
+    with_changed known server.id.number (λ s. record s { diverged = true })
 servers_by now known (servers.Slowed server stop start) = with_changed known server.id.number (delayed stop start)
 servers_by now known _ = known
 
@@ -79,8 +83,8 @@ received_by known number count (Some upstream) = with_changed known number (λ s
 abbrev pub cut_to : ℕ → ServerFacts → ServerFacts
 cut_to kept s = record s { log = Some (take kept (entries_of s.log)) }
 
--- it goes back to so many entries of its log: rewound to the source, where it may be; without a source, or in a state in
--- which no server is rewound, only its log changes
+-- it goes back to so many entries of its log: rewound to the source, where it may be;
+-- without a source, or in a state in which no server is rewound, only its log changes
 abbrev pub goes_back : ℕ → Option ServerFacts → ServerFacts → ServerFacts
 goes_back kept None s = cut_to kept s
 goes_back kept (Some source) s = if is_rewindable s.state then rewound_to kept s source else cut_to kept s
@@ -94,23 +98,29 @@ abbrev pub copied_by : List ServerFacts → ℕ → Option ServerFacts → List 
 copied_by known number None = known
 copied_by known number (Some source) = with_changed known number (becomes_copy source)
 
--- its log is gone: it is wiped, unless it accepts writes, or will when its start is complete; of such a server only the log changes
+-- its log is gone: it is wiped, unless it accepts writes, or will when
+-- its start is complete; of such a server only the log changes
 abbrev pub loses_log : ServerFacts → ServerFacts
 loses_log s = if live s.state then record s { log = None } else wiped s
 
 -- the servers after what happens to a log
 abbrev pub servers_by_log : List ServerFacts → LogEvent → List ServerFacts
 servers_by_log known (logs.Appended server entry) = with_changed known server.id.number (appended entry)
-servers_by_log known (logs.Received server from count) = received_by known server.id.number count (slice_get known from.id.number)
-servers_by_log known (logs.Rewound server from kept at) = with_changed known server.id.number (goes_back kept (slice_get known from.id.number))
+servers_by_log known (logs.Received server from count) =
+    received_by known server.id.number count (slice_get known from.id.number)
+servers_by_log known (logs.Rewound server from kept at) =
+    with_changed known server.id.number (goes_back kept (slice_get known from.id.number))
 servers_by_log known (logs.Copied server from) = copied_by known server.id.number (slice_get known from.id.number)
 servers_by_log known (logs.Wiped server) = with_changed known server.id.number loses_log
 
 -- the servers after what happens in synchronous replication
 abbrev pub servers_by_replication : List ServerFacts → ReplicationEvent → List ServerFacts
-servers_by_replication known (replications.RequiredSet server required names) = with_changed known server.id.number (requiring required)
-servers_by_replication known (replications.Confirmed server by end) = with_changed known server.id.number (confirming by.id end)
-servers_by_replication known (replications.Acknowledged server commit) = with_changed known server.id.number (λ s. record s { waiting = drop 1 s.waiting })
+servers_by_replication known (replications.RequiredSet server required names) =
+    with_changed known server.id.number (requiring required)
+servers_by_replication known (replications.Confirmed server by end) =
+    with_changed known server.id.number (confirming by.id end)
+servers_by_replication known (replications.Acknowledged server commit) =
+    with_changed known server.id.number (λ s. record s { waiting = drop 1 s.waiting })
 servers_by_replication known (replications.Lacks server) = known
 
 -- a reset of its machine crashes a server

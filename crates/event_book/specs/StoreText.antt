@@ -12,25 +12,38 @@ use Rattle.event_book.specs.Listing.{listed}
 
 -- the line of a granted write of the failover key or of the configuration
 abbrev pub request_line : ℕ → List ℕ → Txn → Option (List ℕ)
-request_line tick name (txns.SetFailover failover ttl) = Some (decimal tick ++ (codes " " ++ (name ++ codes " writes the failover key\n")))
-request_line tick name (txns.DropFailover revision) = Some (decimal tick ++ (codes " " ++ (name ++ codes " clears the failover key\n")))
-request_line tick name (txns.SetConfig revision config) = Some (decimal tick ++ (codes " " ++ (name ++ codes " changes the configuration\n")))
+request_line tick name (txns.SetFailover failover ttl) =
+    Some (decimal tick ++ (codes " " ++ (name ++ codes " writes the failover key\n")))
+request_line tick name (txns.DropFailover revision) =
+    Some (decimal tick ++ (codes " " ++ (name ++ codes " clears the failover key\n")))
+request_line tick name (txns.SetConfig revision config) =
+    Some (decimal tick ++ (codes " " ++ (name ++ codes " changes the configuration\n")))
 request_line tick name _ = None
 
 -- the line of a granted write of the member of this name, which stands at its grant
 abbrev pub granted_line : ℕ → List ℕ → Txn → List Name → Option (List ℕ)
-granted_line tick name (txns.Create info ttl failsafe sync) standbys = Some (decimal tick ++ (codes " " ++ (name ++ codes " takes the leader key\n")))
-granted_line tick name (txns.Release revision) standbys = Some (decimal tick ++ (codes " " ++ (name ++ codes " releases the leader key\n")))
-granted_line tick name (txns.Claim revision sync) standbys = Some (decimal tick ++ (codes " " ++ (name ++ codes " claims the sync key\n")))
+granted_line tick name (txns.Create info ttl failsafe sync) standbys =
+    Some (decimal tick ++ (codes " " ++ (name ++ codes " takes the leader key\n")))
+granted_line tick name (txns.Release revision) standbys =
+    Some (decimal tick ++ (codes " " ++ (name ++ codes " releases the leader key\n")))
+granted_line tick name (txns.Claim revision sync) standbys =
+    Some (decimal tick ++ (codes " " ++ (name ++ codes " claims the sync key\n")))
 granted_line tick name (txns.SetSync revision sync members) standbys =
-    Some (decimal tick ++ (codes " " ++ (name ++ (codes " publishes sync standbys " ++ (listed (codes "none") standbys ++ codes "\n")))))
-granted_line tick name (txns.DropSync revision sync) standbys = Some (decimal tick ++ (codes " " ++ (name ++ codes " removes the sync key\n")))
+    Some (decimal tick
+    ++ (codes " " ++ (name ++ (codes " publishes sync standbys " ++ (listed (codes "none") standbys ++ codes "\n")))))
+granted_line tick name (txns.DropSync revision sync) standbys =
+    Some (decimal tick ++ (codes " " ++ (name ++ codes " removes the sync key\n")))
 granted_line tick name txn standbys = request_line tick name txn
 
 -- the line of what happens at the key store, if it has one
 abbrev pub store_line : ℕ → StoreEvent → Option (List ℕ)
 store_line tick (stores.Granted number by txn standbys) = granted_line tick (name_bytes by.name) txn standbys
 store_line tick (stores.Refused number by request key found) =
-    Some (decimal tick ++ (codes " the " ++ (kind_text request ++ (codes " of " ++ (name_bytes by.name ++ (codes " is refused, " ++ (key_text key ++ (codes " " ++ (finding_text found ++ codes "\n")))))))))
-store_line tick (stores.LeaderExpired holder) = Some (decimal tick ++ (codes " the leader key of " ++ (name_bytes holder.name ++ codes " expires\n")))
+    Some (decimal tick
+    ++ (codes " the "
+    ++ (kind_text request
+    ++ (codes " of " ++ (name_bytes by.name
+    ++ (codes " is refused, " ++ (key_text key ++ (codes " " ++ (finding_text found ++ codes "\n")))))))))
+store_line tick (stores.LeaderExpired holder) =
+    Some (decimal tick ++ (codes " the leader key of " ++ (name_bytes holder.name ++ codes " expires\n")))
 store_line tick (stores.Expired key) = None

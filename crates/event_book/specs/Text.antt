@@ -22,26 +22,41 @@ use Rattle.event_book.specs.Traced.{traced}
 -- the line of a message that is sent
 abbrev pub sent_line : ℕ → ℕ → Message → List ℕ
 sent_line tick number message =
-    decimal tick ++ (codes " message " ++ (decimal number ++ (codes " from " ++ (end_text message.from ++ (codes " to " ++ (end_text message.to ++ (codes ": " ++ (body_text message.body ++ codes "\n"))))))))
+    decimal tick
+    ++ (codes " message "
+    ++ (decimal number
+    ++ (codes " from "
+    ++ (end_text message.from
+    ++ (codes " to " ++ (end_text message.to ++ (codes ": " ++ (body_text message.body ++ codes "\n"))))))))
 
 -- the line of what happens to a message, which it has only while messages are traced
 abbrev pub message_line : Bool → ℕ → MessageEvent → Option (List ℕ)
 message_line trace tick (messages.Sent number message) = traced trace (sent_line tick number message)
-message_line trace tick (messages.Delivered number) = traced trace (decimal tick ++ (codes " message " ++ (decimal number ++ codes " is delivered\n")))
-message_line trace tick (messages.Lost number) = traced trace (decimal tick ++ (codes " message " ++ (decimal number ++ codes " is lost\n")))
+message_line trace tick (messages.Delivered number) =
+    traced trace (decimal tick ++ (codes " message " ++ (decimal number ++ codes " is delivered\n")))
+message_line trace tick (messages.Lost number) =
+    traced trace (decimal tick ++ (codes " message " ++ (decimal number ++ codes " is lost\n")))
 
 -- the line of what happens to an agent, if it has one
 abbrev pub agent_line : ℕ → AgentEvent → Option (List ℕ)
-agent_line tick (agents.Suspended agent) = Some (decimal tick ++ (codes " " ++ (name_bytes agent.name ++ codes " is held\n")))
-agent_line tick (agents.Resumed agent) = Some (decimal tick ++ (codes " " ++ (name_bytes agent.name ++ codes " resumes\n")))
-agent_line tick (agents.Killed agent) = Some (decimal tick ++ (codes " " ++ (name_bytes agent.name ++ codes " is killed\n")))
-agent_line tick (agents.Started agent incarnation) = Some (decimal tick ++ (codes " " ++ (name_bytes agent.name ++ codes " is started\n")))
+agent_line tick (agents.Suspended agent) =
+    Some (decimal tick ++ (codes " " ++ (name_bytes agent.name ++ codes " is held\n")))
+agent_line tick (agents.Resumed agent) =
+    Some (decimal tick ++ (codes " " ++ (name_bytes agent.name ++ codes " resumes\n")))
+agent_line tick (agents.Killed agent) =
+    Some (decimal tick ++ (codes " " ++ (name_bytes agent.name ++ codes " is killed\n")))
+agent_line tick (agents.Started agent incarnation) =
+    Some (decimal tick ++ (codes " " ++ (name_bytes agent.name ++ codes " is started\n")))
 agent_line tick _ = None
 
 -- the line of what happens to a link
 abbrev pub link_line : ℕ → LinkEvent → Option (List ℕ)
-link_line tick (links.Cut link) = Some (decimal tick ++ (codes " " ++ (end_text link.first ++ (codes " and " ++ (end_text link.second ++ codes " are cut\n")))))
-link_line tick (links.Joined link) = Some (decimal tick ++ (codes " " ++ (end_text link.first ++ (codes " and " ++ (end_text link.second ++ codes " are joined\n")))))
+link_line tick (links.Cut link) =
+    Some (decimal tick
+    ++ (codes " " ++ (end_text link.first ++ (codes " and " ++ (end_text link.second ++ codes " are cut\n")))))
+link_line tick (links.Joined link) =
+    Some (decimal tick
+    ++ (codes " " ++ (end_text link.first ++ (codes " and " ++ (end_text link.second ++ codes " are joined\n")))))
 
 -- the line of what happens at this moment, if it has one
 abbrev pub kind_line : Bool → ℕ → EventKind → Option (List ℕ)

@@ -16,8 +16,10 @@ is_acknowledged (bases.Acknowledgements members sequence) = true
 
 -- the deadlines after what happens to a watchdog: one that has reset its machine is no longer armed
 abbrev pub deadlines_by : List (Option Ticks) → WatchdogEvent → List (Option Ticks)
-deadlines_by deadlines (watchdogs.Armed member until answer) = with_changed deadlines member.id.number (λ before. Some until)
-deadlines_by deadlines (watchdogs.Fed member until basis) = with_changed deadlines member.id.number (λ before. Some until)
+deadlines_by deadlines (watchdogs.Armed member until answer) =
+    with_changed deadlines member.id.number (λ before. Some until)
+deadlines_by deadlines (watchdogs.Fed member until basis) =
+    with_changed deadlines member.id.number (λ before. Some until)
 deadlines_by deadlines (watchdogs.Disarmed member) = with_changed deadlines member.id.number (λ before. None)
 deadlines_by deadlines (watchdogs.Reset member) = with_changed deadlines member.id.number (λ before. None)
 deadlines_by deadlines _ = deadlines
@@ -38,7 +40,8 @@ prolonged_to until (Some before) = Some (later_of before until)
 
 -- the holds after one was taken, if one was
 abbrev pub holds_by : List (Option Ticks) → WatchdogEvent → List (Option Ticks)
-holds_by holds (watchdogs.HoldTaken member until from incarnation sequence) = with_changed holds member.id.number (prolonged_to until)
+holds_by holds (watchdogs.HoldTaken member until from incarnation sequence) =
+    with_changed holds member.id.number (prolonged_to until)
 holds_by holds _ = holds
 
 -- by member, the moment until which it promised not to take the leader key, if it ever did, after an event

@@ -43,8 +43,8 @@ abbrev pub writes_over : (ℕ → Bool) → List Event → ℕ → Bool
 writes_over writes [] = writes
 writes_over writes (event ∷ events) = writes_over (writes_after writes event.kind) events
 
--- at the end of this book the server of this number accepts writes: of what the book says of its beginnings, ends, crashes and
--- resets, the last is a beginning
+-- at the end of this book the server of this number accepts writes: of what the
+-- book says of its beginnings, ends, crashes and resets, the last is a beginning
 abbrev pub AcceptsWrites : List Event → ℕ → Type 0
 AcceptsWrites book server = writes_over (λ n. false) book server ≡ true
 

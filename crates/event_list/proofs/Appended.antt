@@ -9,4 +9,5 @@ appended-nil listed = ap (λ (items : List Event). record listed { items = items
 
 -- some events, and then others
 pub appended_assoc : (listed : Listed) (xs ys : List Event) → (listed +++ xs) +++ ys ≡ listed +++ (xs ++ ys)
-appended_assoc listed xs ys = ap (λ (items : List Event). record listed { items = items }) (append_assoc listed.items xs ys)
+appended_assoc listed xs ys =
+    ap (λ (items : List Event). record listed { items = items }) (append_assoc listed.items xs ys)

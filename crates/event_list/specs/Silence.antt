@@ -15,8 +15,8 @@ is_silent_grant (txns.Touch info ttl) = true
 is_silent_grant (txns.Renew revision info ttl status row failsafe) = true
 is_silent_grant _ = false
 
--- what happened is of a kind that is frequent, prints nothing, while messages are traced or not, and isn't counted by the summary. Rarer ones
--- of which that is so too, as an expired key, are none of these
+-- what happened is of a kind that is frequent, prints nothing, while messages are traced or not, and
+-- isn't counted by the summary. Rarer ones of which that is so too, as an expired key, are none of these
 abbrev pub is_silent : Bool → EventKind → Bool
 is_silent traced (kinds.Message happening) = not traced
 is_silent traced (kinds.Store (stores.Granted number by txn standbys)) = is_silent_grant txn

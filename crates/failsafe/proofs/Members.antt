@@ -13,13 +13,15 @@ pub same-set : (one other : MemberSet) → ((k : ℕ) → bit_at one.bits k ≡ 
 same-set one other h = ap (λ (n : ℕ). record { bits = n }) (same_from_bits one.bits other.bits h)
 
 here : (set : MemberSet) (m : MemberId) → bit_at (with_member set m).bits m.number ≡ 1
-here set m = omega (arith, bit_at_or set.bits (2 ^ m.number) m.number, bit_at-pow_same m.number, bit_at-lt set.bits m.number)
+here set m =
+    omega (arith, bit_at_or set.bits (2 ^ m.number) m.number, bit_at-pow_same m.number, bit_at-lt set.bits m.number)
 
 there : (set : MemberSet) (m : MemberId) (k : ℕ) → k ≢ m.number → bit_at (with_member set m).bits k ≡ bit_at set.bits k
 there set m k other = omega (arith, bit_at_or set.bits (2 ^ m.number) k, bit_at-pow_other m.number k other)
 
 -- a set with one more is told by its bits
-pub with-is : (set result : MemberSet) (m : MemberId) → bit_at result.bits m.number ≡ 1 → ((k : ℕ) → k ≢ m.number → bit_at result.bits k ≡ bit_at set.bits k) → result ≡ with_member set m
+pub with-is : (set result : MemberSet) (m : MemberId) → bit_at result.bits m.number ≡ 1
+    → ((k : ℕ) → k ≢ m.number → bit_at result.bits k ≡ bit_at set.bits k) → result ≡ with_member set m
 with-is set result m same others = same-set result (with_member set m) (λ k. by k (cases_eq k m.number))
   where
     by : (k : ℕ) → (k ≡ m.number) ⊎ (k ≢ m.number) → bit_at result.bits k ≡ bit_at (with_member set m).bits k
@@ -48,8 +50,11 @@ has-with set m k = by (cases_eq k m.number)
     or-false false = refl
 
     by : (k ≡ m.number) ⊎ (k ≢ m.number) → has (with_member set m) k ≡ (has set k || (m.number == k))
-    by (inl e) = same-numbers (bit_at (with_member set m).bits k) 1 (ap (bit_at (with_member set m).bits) e ∙ here set m) ∙ sym (ap (λ b. has set k || b) (same-numbers m.number k (sym e)) ∙ or-true (has set k))
-    by (inr ne) = ap (λ n. n == 1) (there set m k ne) ∙ sym (ap (λ b. has set k || b) (differ m.number k (λ e. ne (sym e))) ∙ or-false (has set k))
+    by (inl e) =
+        same-numbers (bit_at (with_member set m).bits k) 1 (ap (bit_at (with_member set m).bits) e ∙ here set m)
+        ∙ sym (ap (λ b. has set k || b) (same-numbers m.number k (sym e)) ∙ or-true (has set k))
+    by (inr ne) = ap (λ n. n == 1) (there set m k ne)
+        ∙ sym (ap (λ b. has set k || b) (differ m.number k (λ e. ne (sym e))) ∙ or-false (has set k))
 
 -- nobody is in the set of nobody
 pub has-nobody : (k : ℕ) → has (record { bits = 0 }) k ≡ false
@@ -60,7 +65,8 @@ same-tests true y to back = sym (to refl)
 same-tests false true to back = back refl
 same-tests false false to back = refl
 
-pub within-is : (one other : MemberSet) (result : Bool) → (IsTrue result ↔ ((k : ℕ) → bit_at one.bits k ≤ bit_at other.bits k)) → result ≡ is_within one other
+pub within-is : (one other : MemberSet) (result : Bool)
+    → (IsTrue result ↔ ((k : ℕ) → bit_at one.bits k ≤ bit_at other.bits k)) → result ≡ is_within one other
 within-is one other result h =
     same-tests result (is_within one other)
     (λ is. same-numbers (bit_and one.bits other.bits) one.bits (both_within one.bits other.bits (h.0 is)))
@@ -75,8 +81,10 @@ within-has one other h k is =
     same-numbers (bit_at other.bits k) 1 (omega (arith, below, least, one-is))
 
 -- a set is within another whose members are in that too
-pub has-within : (one other : MemberSet) → ((k : ℕ) → has one k ≡ true → has other k ≡ true) → is_within one other ≡ true
-has-within one other h = same-numbers (bit_and one.bits other.bits) one.bits (both_within one.bits other.bits (λ k. by k (cases_eq (bit_at one.bits k) 1)))
+pub has-within : (one other : MemberSet) → ((k : ℕ) → has one k ≡ true → has other k ≡ true)
+    → is_within one other ≡ true
+has-within one other h = same-numbers (bit_and one.bits other.bits) one.bits
+    (both_within one.bits other.bits (λ k. by k (cases_eq (bit_at one.bits k) 1)))
   where
     by : (k : ℕ) → (bit_at one.bits k ≡ 1) ⊎ (bit_at one.bits k ≢ 1) → bit_at one.bits k ≤ bit_at other.bits k
     by k (inl e) = omega (arith, e, numbers-same (bit_at other.bits k) 1 (h k (same-numbers (bit_at one.bits k) 1 e)))

@@ -37,7 +37,8 @@ counts ask member accepted = accepted && is_awaited ask member
 
 -- a member acknowledged at this moment
 abbrev pub with_acknowledgement : Ask → MemberId → Ticks → Ask
-with_acknowledgement ask member at = record ask { acknowledged = with_member ask.acknowledged member; earliest = Some (earlier ask.earliest at) }
+with_acknowledgement ask member at =
+    record ask { acknowledged = with_member ask.acknowledged member; earliest = Some (earlier ask.earliest at) }
 
 -- a member's answer of this moment
 abbrev pub heard : Ask → MemberId → Bool → Ticks → Ask

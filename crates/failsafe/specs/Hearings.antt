@@ -26,8 +26,9 @@ abbrev pub first_yes : ℕ → List Hearing → Option Ticks
 first_yes k [] = None
 first_yes k (hearing ∷ later) = if is_yes_of k hearing then Some hearing.at else first_yes k later
 
--- each member that was asked said yes, none of them first before this moment, and one of them at it; or nobody was asked, and this is the moment of
--- the request
+-- each member that was asked said yes, none of them first before this moment, and
+-- one of them at it; or nobody was asked, and this is the moment of the request
 pub record AllSaidYes (members : MemberSet) (made : Ticks) (hearings : List Hearing) (moment : Ticks) : Type 0 where
   pub each : (k : ℕ) → has members k ≡ true → (at : Ticks) × (first_yes k hearings ≡ Some at) × (moment.0 ≤ at.0)
-  pub one : ((k : ℕ) × (has members k ≡ true) × (first_yes k hearings ≡ Some moment)) ⊎ (((k : ℕ) → has members k ≡ true → ⊥) × (moment ≡ made))
+  pub one : ((k : ℕ) × (has members k ≡ true) × (first_yes k hearings ≡ Some moment))
+      ⊎ (((k : ℕ) → has members k ≡ true → ⊥) × (moment ≡ made))

@@ -1,4 +1,5 @@
--- Whom a leader lists in the failsafe key, and whom it asks of those that are listed (Patroni documentation, "DCS Failsafe Mode").
+-- Whom a leader lists in the failsafe key, and whom it asks of those
+-- that are listed (Patroni documentation, "DCS Failsafe Mode").
 use Rattle.std.specs.Prelude.{ℕ, zero, suc, ◌==◌, ◌&&◌, ◌^◌, bit_xor, if◌then◌else◌, not, Bool, true, false, is_some, Option, Some, None}
 use Rattle.pat_base.specs.MemberId.{member_of}
 use Rattle.pat_base.specs.declared.member_id.MemberId.{MemberId}
@@ -10,7 +11,8 @@ use Rattle.failsafe.specs.Asks.{has, with_member}
 
 -- the set without this member
 abbrev pub without_member : MemberSet → MemberId → MemberSet
-without_member set member = if has set member.number then record { bits = bit_xor set.bits (2 ^ member.number) } else set
+without_member set member =
+    if has set member.number then record { bits = bit_xor set.bits (2 ^ member.number) } else set
 
 -- the member has a member key
 abbrev pub is_present : SnapshotFacts → MemberId → Bool
@@ -39,6 +41,7 @@ is_listed members (Some listed) = listed.bits == members.bits
 abbrev pub unless_listed : MemberSet → Option MemberSet → Option MemberSet
 unless_listed members listed = if is_listed members listed then None else Some members
 
--- whom a leader is to write into the failsafe key, with the mode on: the members that have a member key, where it doesn't list just these
+-- whom a leader is to write into the failsafe key, with the mode on:
+-- the members that have a member key, where it doesn't list just these
 abbrev pub set_to_write : Bool → SnapshotFacts → Option MemberSet
 set_to_write mode seen = if mode then unless_listed (present_in seen) (failsafe_in seen) else None

@@ -15,24 +15,33 @@ none-AreDifferent : AreDifferent []
 none-AreDifferent i j name p q = cc
 
 -- a head of these members is one
-pub generated-IsHead : (cluster : Name) (config : Settings) (members : List MemberText) → members ≡ generated_members → IsHead (record { cluster = cluster; config = config; base = default_base; members = members })
+pub generated-IsHead : (cluster : Name) (config : Settings) (members : List MemberText) → members ≡ generated_members
+    → IsHead (record { cluster = cluster; config = config; base = default_base; members = members })
 generated-IsHead cluster config members is =
-    subst (λ (ms : List MemberText). IsHead (record { cluster = cluster; config = config; base = default_base; members = ms })) (sym is)
+    subst (λ (ms : List MemberText).
+    IsHead (record { cluster = cluster; config = config; base = default_base; members = ms }))
+    (sym is)
     (record {
       base_least = lit≤ tt;
       base_most = lit≤ tt;
       some = lit< tt;
       few = lit≤ tt;
-      different = AreDifferent-push (first_name ∷ second_name ∷ []) third_name (AreDifferent-push (first_name ∷ []) second_name (AreDifferent-push [] first_name none-AreDifferent refl) refl) refl;
+      different = AreDifferent-push (first_name ∷ second_name ∷ []) third_name
+          (AreDifferent-push (first_name ∷ []) second_name
+          (AreDifferent-push [] first_name none-AreDifferent refl) refl)
+          refl;
     })
 
 pub generated_head-IsHead : IsHead generated_head
 generated_head-IsHead = generated-IsHead generated_head.cluster generated_head.config generated_members refl
 
 -- a member that is put behind others
-pub member-put : (p : Name → Name → Bool) → ((n m : Name) → Decides (p n m) (n ≡ m)) → (es after : List (Name × MemberOptions)) (ms : List MemberText) (name wanted : Name) (options : MemberOptions)
-    → after ≡ insert_entry p es name options → members_in es ≡ ms → name ≡ wanted → options ≡ generated_options → place_of (member_names ms) wanted ≡ None → members_in after ≡ ms ++ generated_member wanted ∷ []
+pub member-put : (p : Name → Name → Bool) → ((n m : Name) → Decides (p n m) (n ≡ m))
+    → (es after : List (Name × MemberOptions)) (ms : List MemberText) (name wanted : Name) (options : MemberOptions)
+    → after ≡ insert_entry p es name options → members_in es ≡ ms → name ≡ wanted → options ≡ generated_options
+    → place_of (member_names ms) wanted ≡ None → members_in after ≡ ms ++ generated_member wanted ∷ []
 member-put p decides es after ms name wanted options put was is declared none =
     ap (λ (l : List (Name × MemberOptions)). members_in l) put
-    ∙ members-insert_entry p name options (decides name) es (ap (λ (l : List MemberText). place_of (member_names l) name) was ∙ ap (place_of (member_names ms)) is ∙ none)
+    ∙ members-insert_entry p name options (decides name) es
+    (ap (λ (l : List MemberText). place_of (member_names l) name) was ∙ ap (place_of (member_names ms)) is ∙ none)
     ∙ (λ i. was i ++ member_of_entry (is i, declared i) ∷ [])

@@ -28,7 +28,9 @@ greatest_amount = 400
 
 -- the kind of a draw, by what is left when it is divided by their number: 0 and 1 are runs, and so on
 abbrev pub kind_of_rest : ℕ → DrawnKind
-kind_of_rest rest = if nat_le rest 1 then kinds.Run else if rest == 2 then kinds.Commit else if rest == 3 then kinds.Suspend else if rest == 4 then kinds.Resume else if rest == 5 then kinds.Crash else if rest == 6 then kinds.StartAgent else kinds.Link
+kind_of_rest rest = if nat_le rest 1 then kinds.Run else if rest == 2 then kinds.Commit else if rest == 3
+    then kinds.Suspend else if rest == 4 then kinds.Resume else if rest == 5 then kinds.Crash
+    else if rest == 6 then kinds.StartAgent else kinds.Link
 
 -- the kind of a draw
 abbrev pub kind_of : ℕ → DrawnKind

@@ -36,4 +36,5 @@ generated_members = generated_member first_name ∷ generated_member second_name
 
 -- the head, without a configuration
 abbrev pub generated_head : HeadText
-generated_head = record { cluster = generated_cluster; config = default_settings; base = default_base; members = generated_members }
+generated_head =
+    record { cluster = generated_cluster; config = default_settings; base = default_base; members = generated_members }

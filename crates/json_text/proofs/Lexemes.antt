@@ -26,7 +26,8 @@ one_of false x y h k = k
 
 operator-one : (x : ℕ) → lexeme_length (operator_lexeme x) ≤ 1
 operator-one x =
-    one_of (x == 123) (token begin_object) _ (omega arith) (one_of (x == 125) (token end_object) _ (omega arith) (one_of (x == 91) (token begin_array) _ (omega arith)
+    one_of (x == 123) (token begin_object) _ (omega arith)
+    (one_of (x == 125) (token end_object) _ (omega arith) (one_of (x == 91) (token begin_array) _ (omega arith)
     (one_of (x == 93) (token end_array) _ (omega arith) (one_of (x == 44) comma colon (omega arith) (omega arith)))))
 
 string-passed : (n : ℕ) (o : Option (List ℕ)) → AtMost n o → token_length (string_token o) ≤ 1 + n
@@ -38,8 +39,10 @@ abbrev Fits : Mode → List ℕ → Type 0
 Fits m xs = lexemes_length (lex m xs) + passed m xs ≤ length xs
 
 step : (m : Mode) (c : Class) (x : ℕ) (xs : List ℕ) → ((next : Mode) → Fits next xs)
-    → lexemes_length (lex_byte m c x xs (λ next. lex next xs)) + passed_byte m c (λ next. passed next xs) ≤ suc (length xs)
-step between quote x xs h = omega (arith, h in_string, string-passed (passed in_string xs) (content plain xs) (plain-passed xs))
+    → lexemes_length (lex_byte m c x xs (λ next. lex next xs)) + passed_byte m c (λ next. passed next xs)
+    ≤ suc (length xs)
+step between quote x xs h =
+    omega (arith, h in_string, string-passed (passed in_string xs) (content plain xs) (plain-passed xs))
 step between backslash x xs h = omega (arith, h in_word)
 step between operator x xs h = omega (arith, h between, operator-one x)
 step between space x xs h = omega (arith, h between)
@@ -106,22 +109,34 @@ begins after_value e = absurd (false≢true e)
 begins after_comma e = omega arith
 begins after_key e = absurd (false≢true e)
 
-allowed : (n : ℕ) (b later : Bool) (t : Token) (k : Place → List Token) (next : Place) → (b ≡ true → written_length later (t ∷ k next) ≤ n) → written_length later (if_allowed b t k next) ≤ n
+allowed : (n : ℕ) (b later : Bool) (t : Token) (k : Place → List Token) (next : Place)
+    → (b ≡ true → written_length later (t ∷ k next) ≤ n) → written_length later (if_allowed b t k next) ≤ n
 allowed n true later t k next h = h refl
 allowed n false later t k next h = omega arith
 
-placed : (p : Place) (t : Token) (before_colon : Bool) (ls : List Lexeme) → begins_colon ls ≡ before_colon → ((next : Place) → IsWritten next ls)
-    → written_length (follows p) (place_token p t before_colon (λ next. punctuate next ls)) ≤ owed p + token_length t + lexemes_length ls
-placed p begin_object b ls e h = allowed _ (may_begin p) (follows p) begin_object (λ next. punctuate next ls) fresh (λ m. omega (arith, begins p m, h fresh))
-placed p end_object b ls e h = allowed _ (may_close p) (follows p) end_object (λ next. punctuate next ls) after_value (λ m. omega (arith, h after_value))
-placed p begin_array b ls e h = allowed _ (may_begin p) (follows p) begin_array (λ next. punctuate next ls) fresh (λ m. omega (arith, begins p m, h fresh))
-placed p end_array b ls e h = allowed _ (may_close p) (follows p) end_array (λ next. punctuate next ls) after_value (λ m. omega (arith, h after_value))
+placed : (p : Place) (t : Token) (before_colon : Bool) (ls : List Lexeme) → begins_colon ls ≡ before_colon
+    → ((next : Place) → IsWritten next ls)
+    → written_length (follows p) (place_token p t before_colon (λ next. punctuate next ls))
+    ≤ owed p + token_length t + lexemes_length ls
+placed p begin_object b ls e h = allowed _ (may_begin p) (follows p) begin_object
+    (λ next. punctuate next ls) fresh (λ m. omega (arith, begins p m, h fresh))
+placed p end_object b ls e h = allowed _ (may_close p) (follows p) end_object
+    (λ next. punctuate next ls) after_value (λ m. omega (arith, h after_value))
+placed p begin_array b ls e h = allowed _ (may_begin p) (follows p) begin_array
+    (λ next. punctuate next ls) fresh (λ m. omega (arith, begins p m, h fresh))
+placed p end_array b ls e h = allowed _ (may_close p) (follows p) end_array
+    (λ next. punctuate next ls) after_value (λ m. omega (arith, h after_value))
 placed p (key s) b ls e h = omega arith
-placed p (string s) true ls e h = allowed _ (may_begin p) (follows p) (key s) (λ next. punctuate next ls) after_key (λ m. omega (arith, begins p m, h after_key e))
-placed p (string s) false ls e h = allowed _ (may_begin p) (follows p) (string s) (λ next. punctuate next ls) after_value (λ m. omega (arith, begins p m, h after_value))
-placed p (number s) b ls e h = allowed _ (may_begin p) (follows p) (number s) (λ next. punctuate next ls) after_value (λ m. omega (arith, begins p m, h after_value))
-placed p (boolean v) b ls e h = allowed _ (may_begin p) (follows p) (boolean v) (λ next. punctuate next ls) after_value (λ m. omega (arith, begins p m, h after_value))
-placed p null b ls e h = allowed _ (may_begin p) (follows p) null (λ next. punctuate next ls) after_value (λ m. omega (arith, begins p m, h after_value))
+placed p (string s) true ls e h = allowed _ (may_begin p) (follows p) (key s)
+    (λ next. punctuate next ls) after_key (λ m. omega (arith, begins p m, h after_key e))
+placed p (string s) false ls e h = allowed _ (may_begin p) (follows p) (string s)
+    (λ next. punctuate next ls) after_value (λ m. omega (arith, begins p m, h after_value))
+placed p (number s) b ls e h = allowed _ (may_begin p) (follows p) (number s)
+    (λ next. punctuate next ls) after_value (λ m. omega (arith, begins p m, h after_value))
+placed p (boolean v) b ls e h = allowed _ (may_begin p) (follows p) (boolean v)
+    (λ next. punctuate next ls) after_value (λ m. omega (arith, begins p m, h after_value))
+placed p null b ls e h = allowed _ (may_begin p) (follows p) null (λ next. punctuate next ls) after_value
+    (λ m. omega (arith, begins p m, h after_value))
 placed p bad b ls e h = omega arith
 
 punctuated : (p : Place) (ls : List Lexeme) → IsWritten p ls
@@ -131,8 +146,10 @@ punctuated after_value [] = omega arith
 punctuated after_comma [] = omega arith
 punctuated after_key [] = λ e. absurd (false≢true e)
 punctuated fresh (token t ∷ ls) = omega (arith, placed fresh t (begins_colon ls) ls refl (λ next. punctuated next ls))
-punctuated after_value (token t ∷ ls) = omega (arith, placed after_value t (begins_colon ls) ls refl (λ next. punctuated next ls))
-punctuated after_comma (token t ∷ ls) = omega (arith, placed after_comma t (begins_colon ls) ls refl (λ next. punctuated next ls))
+punctuated after_value (token t ∷ ls) =
+    omega (arith, placed after_value t (begins_colon ls) ls refl (λ next. punctuated next ls))
+punctuated after_comma (token t ∷ ls) =
+    omega (arith, placed after_comma t (begins_colon ls) ls refl (λ next. punctuated next ls))
 punctuated after_key (token t ∷ ls) = λ e. absurd (false≢true e)
 punctuated fresh (comma ∷ ls) = omega arith
 punctuated after_value (comma ∷ ls) = omega (arith, punctuated after_comma ls)

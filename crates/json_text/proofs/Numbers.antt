@@ -19,7 +19,8 @@ abbrev pub FitsIn : ℕ → Option Num → Type 0
 FitsIn n None = ⊤
 FitsIn n (Some x) = length (number_text x) ≤ n
 
-chosen : (n : ℕ) (t : Bool) (x y : Option Num) → (t ≡ true → FitsIn n x) → (t ≡ false → FitsIn n y) → FitsIn n (cond t x y)
+chosen : (n : ℕ) (t : Bool) (x y : Option Num) → (t ≡ true → FitsIn n x) → (t ≡ false → FitsIn n y)
+    → FitsIn n (cond t x y)
 chosen n true x y f g = f refl
 chosen n false x y f g = g refl
 
@@ -32,7 +33,9 @@ digit x h =
     let greatest : x ≤ 57 = leb-true x 57 p.1 in
     grind (arith, nat_tests)
 
-front-turn : (x : ℕ) (xs : List ℕ) (d : Bool) → is_ascii_digit x ≡ d → AllDigits 10 (take (prefix_len is_ascii_digit xs) xs) → AllDigits 10 (take (cond d (1 + prefix_len is_ascii_digit xs) 0) (x ∷ xs))
+front-turn : (x : ℕ) (xs : List ℕ) (d : Bool) → is_ascii_digit x ≡ d
+    → AllDigits 10 (take (prefix_len is_ascii_digit xs) xs)
+    → AllDigits 10 (take (cond d (1 + prefix_len is_ascii_digit xs) 0) (x ∷ xs))
 front-turn x xs false e h = tt
 front-turn x xs true e h =
     let n : suc (prefix_len is_ascii_digit xs) ≡ 1 + prefix_len is_ascii_digit xs = omega arith in
@@ -57,15 +60,18 @@ unfolding scan
 no-fraction s e = rw e refl
 
 -- the digits of a whole number
-whole-digits : (s : List ℕ) → is_integer (scan s) ≡ true → digits_of (scan s) < 2 ^ 64 → length (decimal (digits_of (scan s))) ≤ length s
+whole-digits : (s : List ℕ) → is_integer (scan s) ≡ true → digits_of (scan s) < 2 ^ 64
+    → length (decimal (digits_of (scan s))) ≤ length s
 whole-digits s h small =
     let p = and_parts (nat_lt 0 (length (scan s).whole) && not (scan s).point) _ h in
     let q = and_parts (nat_lt 0 (length (scan s).whole)) (not (scan s).point) p.0 in
     let part = whole-part s in
-    let alone : (scan s).whole ++ (scan s).fraction ≡ (scan s).whole = ap (λ f. (scan s).whole ++ f) (no-fraction s (not-true (scan s).point q.1)) ∙ append-nil (scan s).whole in
+    let alone : (scan s).whole ++ (scan s).fraction ≡ (scan s).whole =
+    ap (λ f. (scan s).whole ++ f) (no-fraction s (not-true (scan s).point q.1)) ∙ append-nil (scan s).whole in
     let n : digits_of (scan s) ≡ digits_value 10 (scan s).whole = ap (digits_value 10) alone in
     let some : 0 < length (scan s).whole = ltb-true 0 _ q.0 in
-    let below : digits_of (scan s) < 10 ^ length (scan s).whole = subst (λ (k : ℕ). k < 10 ^ length (scan s).whole) (sym n) (digits_value-lt 10 (scan s).whole part.0) in
+    let below : digits_of (scan s) < 10 ^ length (scan s).whole =
+    subst (λ (k : ℕ). k < 10 ^ length (scan s).whole) (sym n) (digits_value-lt 10 (scan s).whole part.0) in
     omega (arith, part.1, length-decimal-le (length (scan s).whole) (digits_of (scan s)) some below small)
 
 -- ---- the number
@@ -76,7 +82,8 @@ no-float n below_zero p = chosen n _ (Some _) None (λ _. omega arith) (λ _. tt
 positive : (s : List ℕ) → FitsIn (length s) (number_from false (scan s))
 positive s =
     chosen (length s) (is_integer (scan s) && nat_lt (digits_of (scan s)) (2 ^ 64)) _ _
-    (λ h. let p = and_parts (is_integer (scan s)) _ h in whole-digits s p.0 (ltb-true _ _ p.1)) (λ _. no-float (length s) false (scan s))
+    (λ h. let p = and_parts (is_integer (scan s)) _ h in whole-digits s p.0 (ltb-true _ _ p.1))
+    (λ _. no-float (length s) false (scan s))
 
 signed : (n m : ℕ) → 0 < n → length (decimal n) ≤ m → length (number_text (negative (with_sign true n))) ≤ 1 + m
 signed zero m some h = absurd (omega arith)
@@ -84,7 +91,8 @@ signed (suc n) m some h = omega arith
 
 negated : (s : List ℕ) → FitsIn (1 + length s) (number_from true (scan s))
 negated s =
-    chosen (1 + length s) (is_integer (scan s) && nat_lt 0 (digits_of (scan s)) && nat_le (digits_of (scan s)) (2 ^ 63)) _ _
+    chosen (1 + length s)
+    (is_integer (scan s) && nat_lt 0 (digits_of (scan s)) && nat_le (digits_of (scan s)) (2 ^ 63)) _ _
     (λ h.
     let p = and_parts (is_integer (scan s) && nat_lt 0 (digits_of (scan s))) _ h in
     let q = and_parts (is_integer (scan s)) _ p.0 in

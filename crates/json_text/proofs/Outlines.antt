@@ -43,12 +43,17 @@ abbrev AreBehind : Members → Members → Type 0
 AreBehind found no_members = ⊤
 AreBehind found (member k d ms) = IsBehind found k × AreBehind found ms
 
-put-joined : (k : List ℕ) (d : Data) (found : Members) → IsBehind found k → put k d found ≡ joined found (member k d no_members)
+put-joined : (k : List ℕ) (d : Data) (found : Members) → IsBehind found k
+    → put k d found ≡ joined found (member k d no_members)
 put-joined k d no_members h = refl
 put-joined k d (member l e found) h =
-    ap (λ (o : Ordering). match_ordering o (member k d (member l e found)) (member l d found) (member l e (put k d found))) h.0 ∙ ap (member l e) (put-joined k d found h.1)
+    ap (λ (o : Ordering).
+    match_ordering o (member k d (member l e found)) (member l d found) (member l e (put k d found)))
+    h.0
+    ∙ ap (member l e) (put-joined k d found h.1)
 
-joined-joined : (found : Members) (k : List ℕ) (d : Data) (ms : Members) → joined (joined found (member k d no_members)) ms ≡ joined found (member k d ms)
+joined-joined : (found : Members) (k : List ℕ) (d : Data) (ms : Members)
+    → joined (joined found (member k d no_members)) ms ≡ joined found (member k d ms)
 joined-joined no_members k d ms = refl
 joined-joined (member l e found) k d ms = ap (member l e) (joined-joined found k d ms)
 
@@ -56,11 +61,13 @@ joined-none : (found : Members) → joined found no_members ≡ found
 joined-none no_members = refl
 joined-none (member k d found) = ap (member k d) (joined-none found)
 
-one-more : (found : Members) (k l : List ℕ) (d : Data) → IsBehind found l → slice_cmp nat_cmp k l ≡ Less → IsBehind (joined found (member k d no_members)) l
+one-more : (found : Members) (k l : List ℕ) (d : Data) → IsBehind found l → slice_cmp nat_cmp k l ≡ Less
+    → IsBehind (joined found (member k d no_members)) l
 one-more no_members k l d h e = (nat_list_cmp_total.antisymm l k ∙ ap ordering_reverse e, tt)
 one-more (member j f found) k l d h e = (h.0, one-more found k l d h.1 e)
 
-behind-more : (found : Members) (k : List ℕ) (d : Data) (ms : Members) → AreBehind found ms → IsBefore k ms → AreBehind (joined found (member k d no_members)) ms
+behind-more : (found : Members) (k : List ℕ) (d : Data) (ms : Members) → AreBehind found ms → IsBefore k ms
+    → AreBehind (joined found (member k d no_members)) ms
 behind-more found k d no_members h b = tt
 behind-more found k d (member l e ms) h b = (one-more found k l d h.0 b.0, behind-more found k d ms h.1 b.1)
 
@@ -89,9 +96,11 @@ mutual
   of_items-outline no_items h w = refl
   of_items-outline (item d ds) h w =
       let p = or_parts (has_float d) (items_have_float ds) w in
-      ap (option_and_then (λ x. option_map (item x) (of_items (items_outline ds)))) (of_json-outline d h.0 p.0) ∙ ap (option_map (item d)) (of_items-outline ds h.1 p.1)
+      ap (option_and_then (λ x. option_map (item x) (of_items (items_outline ds)))) (of_json-outline d h.0 p.0)
+      ∙ ap (option_map (item d)) (of_items-outline ds h.1 p.1)
 
-  of_members-outline : (ms found : Members) → MembersAreSound ms → AreSorted ms → AreBehind found ms → members_have_float ms ≡ false → of_members (members_outline ms) found ≡ Some (joined found ms)
+  of_members-outline : (ms found : Members) → MembersAreSound ms → AreSorted ms → AreBehind found ms
+      → members_have_float ms ≡ false → of_members (members_outline ms) found ≡ Some (joined found ms)
   of_members-outline no_members found h s b w = ap Some (sym (joined-none found))
   of_members-outline (member k d ms) found h s b w =
       let p = or_parts (has_float d) (members_have_float ms) w in
@@ -118,13 +127,17 @@ mutual
   outline-HasNumbers (array ds) h w = items-HaveNumbers ds h w
   outline-HasNumbers (object ms) h w = members-HaveNumbers ms h.0 w
 
-  items-HaveNumbers : (ds : Items) → AreSound ds → items_have_float ds ≡ false → tree.ItemsHaveNumbers (items_outline ds)
+  items-HaveNumbers : (ds : Items) → AreSound ds → items_have_float ds ≡ false
+      → tree.ItemsHaveNumbers (items_outline ds)
   items-HaveNumbers no_items h w = tt
-  items-HaveNumbers (item d ds) h w = let p = or_parts (has_float d) (items_have_float ds) w in (outline-HasNumbers d h.0 p.0, items-HaveNumbers ds h.1 p.1)
+  items-HaveNumbers (item d ds) h w = let p = or_parts (has_float d) (items_have_float ds) w in
+      (outline-HasNumbers d h.0 p.0, items-HaveNumbers ds h.1 p.1)
 
-  members-HaveNumbers : (ms : Members) → MembersAreSound ms → members_have_float ms ≡ false → tree.MembersHaveNumbers (members_outline ms)
+  members-HaveNumbers : (ms : Members) → MembersAreSound ms → members_have_float ms ≡ false
+      → tree.MembersHaveNumbers (members_outline ms)
   members-HaveNumbers no_members h w = tt
-  members-HaveNumbers (member k d ms) h w = let p = or_parts (has_float d) (members_have_float ms) w in (outline-HasNumbers d h.1 p.0, members-HaveNumbers ms h.2 p.1)
+  members-HaveNumbers (member k d ms) h w = let p = or_parts (has_float d) (members_have_float ms) w in
+      (outline-HasNumbers d h.1 p.0, members-HaveNumbers ms h.2 p.1)
 
 mutual
   outline-depth : (d : Data) → tree.depth (outline d) ≡ depth d
@@ -151,14 +164,21 @@ whole o = option_and_then of_json (option_and_then (λ p. json.if_last p.0 p.1) 
 text-reads_back : (d : Data) → IsSound d → has_float d ≡ false → depth d ≤ max_depth → read (compact_text d) ≡ Some d
 text-reads_back d h w shallow =
     let ts = tree.json_tokens (outline d) in
-    let same : tokens (compact_text d) ≡ ts = ap tokens (sym (print-outline d)) ∙ tokens-print ts (ArePrintable-json_tokens (outline d) (outline-HasNumbers d h w)) in
-    ap whole (ap (json.value max_depth) (same ∙ sym (append-nil ts)) ∙ value-json_tokens (outline d) max_depth [] (omega (arith, outline-depth d))) ∙ of_json-outline d h w
+    let same : tokens (compact_text d) ≡ ts = ap tokens (sym (print-outline d))
+    ∙ tokens-print ts (ArePrintable-json_tokens (outline d) (outline-HasNumbers d h w)) in
+    ap whole
+    (ap (json.value max_depth) (same ∙ sym (append-nil ts))
+    ∙ value-json_tokens (outline d) max_depth [] (omega (arith, outline-depth d)))
+    ∙ of_json-outline d h w
 
 number-IsUtf8 : (n : Num) → IsInRange n → IsUtf8 (number_text n)
-number-IsUtf8 (unsigned n) h = IsUtf8-from_ascii (decimal n) (IsAscii-from_digits (decimal n) (decimal_is_IsNumeral n h).0.1)
+number-IsUtf8 (unsigned n) h =
+    IsUtf8-from_ascii (decimal n) (IsAscii-from_digits (decimal n) (decimal_is_IsNumeral n h).0.1)
 number-IsUtf8 (negative (pos n)) h = absurd h
 number-IsUtf8 (negative (negsuc n)) h =
-    IsUtf8-append (45 ∷ []) (decimal (suc n)) (IsUtf8-are_ascii (45 ∷ []) refl) (IsUtf8-from_ascii (decimal (suc n)) (IsAscii-from_digits (decimal (suc n)) (decimal_is_IsNumeral (suc n) (omega arith)).0.1))
+    IsUtf8-append (45 ∷ []) (decimal (suc n)) (IsUtf8-are_ascii (45 ∷ []) refl)
+    (IsUtf8-from_ascii (decimal (suc n))
+    (IsAscii-from_digits (decimal (suc n)) (decimal_is_IsNumeral (suc n) (omega arith)).0.1))
 number-IsUtf8 (float x) h = IsUtf8-nil
 
 comma-IsUtf8 : (later : Bool) → IsUtf8 (comma_if later)
@@ -171,13 +191,16 @@ mutual
   text-IsUtf8 (boolean b) h = IsUtf8-boolean b
   text-IsUtf8 (number n) h = number-IsUtf8 n h
   text-IsUtf8 (string s) h = IsUtf8-quoted s h
-  text-IsUtf8 (array ds) h = IsUtf8-append (91 ∷ []) (items_text false ds) (IsUtf8-are_ascii (91 ∷ []) refl) (items-AreUtf8 false ds h)
-  text-IsUtf8 (object ms) h = IsUtf8-append (123 ∷ []) (members_text false ms) (IsUtf8-are_ascii (123 ∷ []) refl) (members-AreUtf8 false ms h.0)
+  text-IsUtf8 (array ds) h =
+      IsUtf8-append (91 ∷ []) (items_text false ds) (IsUtf8-are_ascii (91 ∷ []) refl) (items-AreUtf8 false ds h)
+  text-IsUtf8 (object ms) h =
+      IsUtf8-append (123 ∷ []) (members_text false ms) (IsUtf8-are_ascii (123 ∷ []) refl) (members-AreUtf8 false ms h.0)
 
   items-AreUtf8 : (later : Bool) (ds : Items) → AreSound ds → IsUtf8 (items_text later ds)
   items-AreUtf8 later no_items h = IsUtf8-are_ascii (93 ∷ []) refl
   items-AreUtf8 later (item d ds) h =
-      IsUtf8-append (comma_if later) (compact_text d ++ items_text true ds) (comma-IsUtf8 later) (IsUtf8-append (compact_text d) (items_text true ds) (text-IsUtf8 d h.0) (items-AreUtf8 true ds h.1))
+      IsUtf8-append (comma_if later) (compact_text d ++ items_text true ds) (comma-IsUtf8 later)
+      (IsUtf8-append (compact_text d) (items_text true ds) (text-IsUtf8 d h.0) (items-AreUtf8 true ds h.1))
 
   members-AreUtf8 : (later : Bool) (ms : Members) → MembersAreSound ms → IsUtf8 (members_text later ms)
   members-AreUtf8 later no_members h = IsUtf8-are_ascii (125 ∷ []) refl
@@ -185,11 +208,15 @@ mutual
       let rest = compact_text d ++ members_text true ms in
       IsUtf8-append (comma_if later) (quoted k ++ 58 ∷ rest) (comma-IsUtf8 later)
       (IsUtf8-append (quoted k) (58 ∷ rest) (IsUtf8-quoted k h.0)
-      (IsUtf8-append (58 ∷ []) rest (IsUtf8-are_ascii (58 ∷ []) refl) (IsUtf8-append (compact_text d) (members_text true ms) (text-IsUtf8 d h.1) (members-AreUtf8 true ms h.2))))
+      (IsUtf8-append (58 ∷ []) rest (IsUtf8-are_ascii (58 ∷ []) refl)
+      (IsUtf8-append (compact_text d) (members_text true ms) (text-IsUtf8 d h.1) (members-AreUtf8 true ms h.2))))
 
 -- what was read without floats is UTF-8 again, and is read again as what it was
-pub text-is-read : (d : Data) → IsSound d → has_float d ≡ false → depth d ≤ max_depth → (is_utf8 (compact_text d) ≡ true) × (read (compact_text d) ≡ Some d)
+pub text-is-read : (d : Data) → IsSound d → has_float d ≡ false → depth d ≤ max_depth
+    → (is_utf8 (compact_text d) ≡ true) × (read (compact_text d) ≡ Some d)
 text-is-read d h w shallow = (is_utf8-from_IsUtf8 (compact_text d) (text-IsUtf8 d h), text-reads_back d h w shallow)
 
-pub compact-is-read : (bytes : List ℕ) (d : Data) → is_utf8 bytes ≡ true → read bytes ≡ Some d → has_float d ≡ false → (is_utf8 (compact_text d) ≡ true) × (read (compact_text d) ≡ Some d)
-compact-is-read bytes d u e w = text-is-read d (read-IsSound bytes d (IsUtf8-from_is_utf8 bytes u) e) w (depth-read bytes d e)
+pub compact-is-read : (bytes : List ℕ) (d : Data) → is_utf8 bytes ≡ true → read bytes ≡ Some d
+    → has_float d ≡ false → (is_utf8 (compact_text d) ≡ true) × (read (compact_text d) ≡ Some d)
+compact-is-read bytes d u e w =
+    text-is-read d (read-IsSound bytes d (IsUtf8-from_is_utf8 bytes u) e) w (depth-read bytes d e)

@@ -75,7 +75,8 @@ number-IfInRange s =
     (λ _.
     let p = scan s in
     chosen (is_integer p && nat_lt (digits_of p) (2 ^ 64)) _ _
-    (λ h. let a = and_parts (is_integer p) (nat_lt (digits_of p) (2 ^ 64)) h in ltb-true (digits_of p) (2 ^ 64) a.1) (λ _. no-float false p))
+    (λ h. let a = and_parts (is_integer p) (nat_lt (digits_of p) (2 ^ 64)) h in ltb-true (digits_of p) (2 ^ 64) a.1)
+    (λ _. no-float false p))
 
 -- ---- members, put one after another
 
@@ -86,25 +87,32 @@ before-trans j k (member l d ms) e h = (nat_list_cmp_total.trans j k l e h.0, be
 turned : (k l : List ℕ) → slice_cmp nat_cmp k l ≡ Greater → slice_cmp nat_cmp l k ≡ Less
 turned k l e = nat_list_cmp_total.antisymm l k ∙ ap ordering_reverse e
 
-one_of : (P : Members → Type 0) (o o' : Ordering) (a b c : Members) → o' ≡ o → (o ≡ Less → P a) → (o ≡ Equal → P b) → (o ≡ Greater → P c) → P (match_ordering o' a b c)
+one_of : (P : Members → Type 0) (o o' : Ordering) (a b c : Members) → o' ≡ o → (o ≡ Less → P a)
+    → (o ≡ Equal → P b) → (o ≡ Greater → P c) → P (match_ordering o' a b c)
 one_of P Less o' a b c e f g h = subst (λ (x : Ordering). P (match_ordering x a b c)) (sym e) (f refl)
 one_of P Equal o' a b c e f g h = subst (λ (x : Ordering). P (match_ordering x a b c)) (sym e) (g refl)
 one_of P Greater o' a b c e f g h = subst (λ (x : Ordering). P (match_ordering x a b c)) (sym e) (h refl)
 
-put-IsBefore : (j k : List ℕ) (d : Data) (ms : Members) → slice_cmp nat_cmp j k ≡ Less → IsBefore j ms → IsBefore j (put k d ms)
+put-IsBefore : (j k : List ℕ) (d : Data) (ms : Members) → slice_cmp nat_cmp j k ≡ Less → IsBefore j ms
+    → IsBefore j (put k d ms)
 put-IsBefore j k d no_members e h = (e, tt)
 put-IsBefore j k d (member l f ms) e h =
-    one_of (IsBefore j) (slice_cmp nat_cmp k l) (slice_cmp nat_cmp k l) (member k d (member l f ms)) (member l d ms) (member l f (put k d ms)) refl
+    one_of (IsBefore j) (slice_cmp nat_cmp k l) (slice_cmp nat_cmp k l) (member k d (member l f ms))
+    (member l d ms) (member l f (put k d ms)) refl
     (λ _. (e, h)) (λ _. h) (λ _. (h.0, put-IsBefore j k d ms e h.1))
 
 pub put-AreSorted : (k : List ℕ) (d : Data) (ms : Members) → AreSorted ms → AreSorted (put k d ms)
 put-AreSorted k d no_members h = (tt, tt)
 put-AreSorted k d (member l f ms) h =
-    one_of AreSorted (slice_cmp nat_cmp k l) (slice_cmp nat_cmp k l) (member k d (member l f ms)) (member l d ms) (member l f (put k d ms)) refl
-    (λ e. ((e, before-trans k l ms e h.0), h)) (λ _. h) (λ e. (put-IsBefore l k d ms (turned k l e) h.0, put-AreSorted k d ms h.1))
+    one_of AreSorted (slice_cmp nat_cmp k l) (slice_cmp nat_cmp k l) (member k d (member l f ms))
+    (member l d ms) (member l f (put k d ms)) refl
+    (λ e. ((e, before-trans k l ms e h.0), h)) (λ _. h)
+    (λ e. (put-IsBefore l k d ms (turned k l e) h.0, put-AreSorted k d ms h.1))
 
-pub put-AreSound : (k : List ℕ) (d : Data) (ms : Members) → IsUtf8 k → IsSound d → MembersAreSound ms → MembersAreSound (put k d ms)
+pub put-AreSound : (k : List ℕ) (d : Data) (ms : Members) → IsUtf8 k → IsSound d → MembersAreSound ms
+    → MembersAreSound (put k d ms)
 put-AreSound k d no_members u s h = (u, s, tt)
 put-AreSound k d (member l f ms) u s h =
-    one_of MembersAreSound (slice_cmp nat_cmp k l) (slice_cmp nat_cmp k l) (member k d (member l f ms)) (member l d ms) (member l f (put k d ms)) refl
+    one_of MembersAreSound (slice_cmp nat_cmp k l) (slice_cmp nat_cmp k l) (member k d (member l f ms))
+    (member l d ms) (member l f (put k d ms)) refl
     (λ _. (u, s, h)) (λ _. (h.0, s, h.2)) (λ _. (h.0, h.1, put-AreSound k d ms u s h.2))

@@ -18,7 +18,8 @@ abbrev IfAny : (ℕ → Type 0) → Option ℕ → Type 0
 IfAny P None = ⊤
 IfAny P (Some u) = P u
 
-IfAny-cond : (P : ℕ → Type 0) (t : Bool) (x y : Option ℕ) → (t ≡ true → IfAny P x) → (t ≡ false → IfAny P y) → IfAny P (cond t x y)
+IfAny-cond : (P : ℕ → Type 0) (t : Bool) (x y : Option ℕ) → (t ≡ true → IfAny P x) → (t ≡ false → IfAny P y)
+    → IfAny P (cond t x y)
 IfAny-cond P true x y f g = f refl
 IfAny-cond P false x y f g = g refl
 
@@ -26,7 +27,8 @@ either : (t : Bool) (x y : Option (List ℕ)) → (t ≡ true → IfUtf8 x) → 
 either true x y f g = f refl
 either false x y f g = g refl
 
-then : (P : ℕ → Type 0) (f : ℕ → Option (List ℕ)) (o : Option ℕ) → IfAny P o → ((u : ℕ) → P u → IfUtf8 (f u)) → IfUtf8 (option_and_then f o)
+then : (P : ℕ → Type 0) (f : ℕ → Option (List ℕ)) (o : Option ℕ) → IfAny P o → ((u : ℕ) → P u → IfUtf8 (f u))
+    → IfUtf8 (option_and_then f o)
 then P f None h k = tt
 then P f (Some u) h k = k u h
 
@@ -58,7 +60,8 @@ record BeginsHigh (bs : List ℕ) : Type 0 where
 high-bytes : (c x : ℕ) (xs rest : List ℕ) → x ∷ xs ≡ encode_utf8 c ++ rest → 128 ≤ x → AreHigh (encode_utf8 c)
 high-bytes c x xs rest e h = λ k below. elim (cases_lt (get_or (encode_utf8 c) k 0) 128) [
   | inl low ↦
-      let same : c ≡ get_or (encode_utf8 c) k 0 = inside_one c [] (encode_utf8 c) k (sym (append-nil (encode_utf8 c))) below low in
+      let same : c ≡ get_or (encode_utf8 c) k 0 =
+      inside_one c [] (encode_utf8 c) k (sym (append-nil (encode_utf8 c))) below low in
       let small : c < 128 = omega arith in
       let first : x ∷ xs ≡ c ∷ rest = e ∙ ap (λ (l : List ℕ). l ++ rest) (encode_ascii c small) in
       let is : x ≡ c = cc in
@@ -66,11 +69,19 @@ high-bytes c x xs rest e h = λ k below. elim (cases_lt (get_or (encode_utf8 c) 
   | inr high ↦ high
 ]
 
-begins-high : (x : ℕ) (xs : List ℕ) → 128 ≤ x → (cs : List ℕ) → scalars cs ≡ true → encodes cs ≡ x ∷ xs → BeginsHigh (x ∷ xs)
+begins-high : (x : ℕ) (xs : List ℕ) → 128 ≤ x → (cs : List ℕ) → scalars cs ≡ true → encodes cs ≡ x ∷ xs
+    → BeginsHigh (x ∷ xs)
 begins-high x xs h [] s e = absurd cc
 begins-high x xs h (c ∷ cs) s e =
     let p = and_parts (scalar c) (scalars cs) s in
-    record { char = c; rest = encodes cs; is = sym e; scalar = p.0; high = high-bytes c x xs (encodes cs) (sym e) h; utf8 = (cs, (p.1, refl)) }
+    record {
+      char = c;
+      rest = encodes cs;
+      is = sym e;
+      scalar = p.0;
+      high = high-bytes c x xs (encodes cs) (sym e) h;
+      utf8 = (cs, (p.1, refl));
+    }
 
 prepend-one : (x : ℕ) (xs : List ℕ) (r : Option (List ℕ)) → prepend (x ∷ []) (prepend xs r) ≡ prepend (x ∷ xs) r
 prepend-one x xs None = refl
@@ -87,7 +98,8 @@ content-high [] rest h = sym (prepend-none (content plain rest))
 content-high (b ∷ bs) rest h =
     let high : 128 ≤ b = h 0 (omega arith) in
     rw (ne_eqb b 34 (λ e. omega arith), ne_eqb b 92 (λ e. omega arith), le-ltb b 32 (omega arith))
-    (ap (prepend (b ∷ [])) (content-high bs rest (λ k below. h (suc k) (omega arith))) ∙ prepend-one b bs (content plain rest))
+    (ap (prepend (b ∷ [])) (content-high bs rest (λ k below. h (suc k) (omega arith)))
+    ∙ prepend-one b bs (content plain rest))
 
 -- ---- escapes
 
@@ -104,8 +116,12 @@ short-own k x h e = (omega (arith, eqb-true x k e), omega (arith, eqb-true x k e
 short-ascii : (x : ℕ) → IfAny (AreAscii x) (short_escape x)
 unfolding short_escape
 short-ascii x =
-    IfAny-cond (AreAscii x) ((x == 34) || (x == 92) || (x == 47)) (Some x) _ (λ h. elim (or_cases ((x == 34) || (x == 92)) (x == 47) h) [
-      | inl first ↦ elim (or_cases (x == 34) (x == 92) first) [ inl e ↦ short-own 34 x (omega arith) e | inr e ↦ short-own 92 x (omega arith) e ]
+    IfAny-cond (AreAscii x) ((x == 34) || (x == 92) || (x == 47)) (Some x) _
+    (λ h. elim (or_cases ((x == 34) || (x == 92)) (x == 47) h) [
+      | inl first ↦ elim (or_cases (x == 34) (x == 92) first) [
+        | inl e ↦ short-own 34 x (omega arith) e
+        | inr e ↦ short-own 92 x (omega arith) e
+      ]
       | inr e ↦ short-own 47 x (omega arith) e
     ])
     (λ _. IfAny-cond (AreAscii x) (x == 98) (Some 8) _ (short-at 98 8 x (omega arith) (omega arith))
@@ -139,21 +155,32 @@ is-unit a b c d =
       second = hex-ascii b r.1;
       third = hex-ascii c q.1;
       fourth = hex-ascii d p.1;
-      small = omega (arith, ltb-true (digit_value a) 16 r.0, ltb-true (digit_value b) 16 r.1, ltb-true (digit_value c) 16 q.1, ltb-true (digit_value d) 16 p.1);
+      small = omega (
+        arith,
+        ltb-true (digit_value a) 16 r.0,
+        ltb-true (digit_value b) 16 r.1,
+        ltb-true (digit_value c) 16 q.1,
+        ltb-true (digit_value d) 16 p.1,
+      );
     })
     (λ _. tt)
 
 behind-unit : (a b c d u : ℕ) (xs : List ℕ) → IsUnit a b c d u → IsUtf8 (a ∷ b ∷ c ∷ d ∷ xs) → IsUtf8 xs
-behind-unit a b c d u xs h utf8 = tail d xs h.fourth (tail c (d ∷ xs) h.third (tail b (c ∷ d ∷ xs) h.second (tail a (b ∷ c ∷ d ∷ xs) h.first utf8)))
+behind-unit a b c d u xs h utf8 =
+    tail d xs h.fourth (tail c (d ∷ xs) h.third (tail b (c ∷ d ∷ xs) h.second (tail a (b ∷ c ∷ d ∷ xs) h.first utf8)))
 
 not-high : (u : ℕ) → is_high_surrogate u ≡ false → is_low_surrogate u ≡ false → u < 65536 → scalar u ≡ true
 not-high u h l small = elim (cases_lt u 55296) [
   | inl below ↦ rw (lt-ltb u 55296 below) refl
   | inr above ↦
       let wide : nat_le 55296 u ≡ true = le-leb 55296 u above in
-      let not_first : nat_lt u 56320 ≡ false = elim (and_cases (nat_le 55296 u) (nat_lt u 56320) h) [ inl e ↦ absurd cc | inr e ↦ e ] in
+      let not_first : nat_lt u 56320 ≡ false =
+      elim (and_cases (nat_le 55296 u) (nat_lt u 56320) h) [ inl e ↦ absurd cc | inr e ↦ e ] in
       let second : 56320 ≤ u = ltb-false u 56320 not_first in
-      let not_second : nat_lt u 57344 ≡ false = elim (and_cases (nat_le 56320 u) (nat_lt u 57344) l) [ inl e ↦ absurd (let e' : nat_le 56320 u ≡ true = le-leb 56320 u second in cc) | inr e ↦ e ] in
+      let not_second : nat_lt u 57344 ≡ false = elim (and_cases (nat_le 56320 u) (nat_lt u 57344) l) [
+        | inl e ↦ absurd (let e' : nat_le 56320 u ≡ true = le-leb 56320 u second in cc)
+        | inr e ↦ e
+      ] in
       let third : 57344 ≤ u = ltb-false u 57344 not_second in
       rw (le-ltb u 55296 above, le-leb 57344 u third, lt-ltb u 1114112 (omega arith)) refl
 ]
@@ -167,7 +194,11 @@ pair-scalar h l p q =
     let least : 57344 ≤ surrogate_pair h l = omega arith in
     let most : surrogate_pair h l < 1114112 = omega arith in
     let above : 55296 ≤ surrogate_pair h l = omega arith in
-    rw (le-ltb (surrogate_pair h l) 55296 above, le-leb 57344 (surrogate_pair h l) least, lt-ltb (surrogate_pair h l) 1114112 most) refl
+    rw (
+      le-ltb (surrogate_pair h l) 55296 above,
+      le-leb 57344 (surrogate_pair h l) least,
+      lt-ltb (surrogate_pair h l) 1114112 most,
+    ) refl
 
 -- ---- the content
 
@@ -185,17 +216,26 @@ content-IfUtf8 (suc n) plain (x ∷ xs) h half u = elim (cases_lt x 128) [
   | inl low ↦
       either (x == 34) _ _ (λ _. IsUtf8-nil)
       (λ _. either (x == 92) _ _ (λ _. content-IfUtf8 n after_backslash xs (omega arith) tt (tail x xs low u))
-      (λ _. either (nat_lt x 32) _ _ (λ _. tt) (λ _. longer (x ∷ []) _ (one x low) (content-IfUtf8 n plain xs (omega arith) tt (tail x xs low u)))))
+      (λ _. either (nat_lt x 32) _ _ (λ _. tt)
+      (λ _. longer (x ∷ []) _ (one x low) (content-IfUtf8 n plain xs (omega arith) tt (tail x xs low u)))))
   | inr high ↦
       let b = begins-high x xs high u.0 u.1.0 u.1.1 in
-      let shorter : length b.rest ≤ n = omega (arith, ap length b.is, length-append (encode_utf8 b.char) b.rest, length-encode b.char, len_utf8_bounds b.char) in
+      let shorter : length b.rest ≤ n = omega (
+        arith,
+        ap length b.is,
+        length-append (encode_utf8 b.char) b.rest,
+        length-encode b.char,
+        len_utf8_bounds b.char,
+      ) in
       subst (λ (bs : List ℕ). IfUtf8 (content plain bs)) (sym b.is)
-      (subst IfUtf8 (sym (content-high (encode_utf8 b.char) b.rest b.high)) (longer (encode_utf8 b.char) _ (IsUtf8-encode b.char b.scalar) (content-IfUtf8 n plain b.rest shorter tt b.utf8)))
+      (subst IfUtf8 (sym (content-high (encode_utf8 b.char) b.rest b.high))
+      (longer (encode_utf8 b.char) _ (IsUtf8-encode b.char b.scalar) (content-IfUtf8 n plain b.rest shorter tt b.utf8)))
 ]
 content-IfUtf8 n after_backslash [] h half u = tt
 content-IfUtf8 zero after_backslash (x ∷ xs) h half u = absurd (omega arith)
 content-IfUtf8 (suc n) after_backslash (x ∷ xs) h half u =
-    either (x == 117) _ _ (λ e. content-IfUtf8 n after_u xs (omega arith) tt (tail x xs (omega (arith, eqb-true x 117 e)) u))
+    either (x == 117) _ _
+    (λ e. content-IfUtf8 n after_u xs (omega arith) tt (tail x xs (omega (arith, eqb-true x 117 e)) u))
     (λ _. then (AreAscii x) _ (short_escape x) (short-ascii x)
     (λ c p. longer (c ∷ []) _ (one c p.1) (content-IfUtf8 n plain xs (omega arith) tt (tail x xs p.0 u))))
 content-IfUtf8 n after_u [] h half u = tt
@@ -205,9 +245,11 @@ content-IfUtf8 n after_u (a ∷ b ∷ c ∷ []) h half u = tt
 content-IfUtf8 zero after_u (a ∷ b ∷ c ∷ d ∷ xs) h half u = absurd (omega arith)
 content-IfUtf8 (suc n) after_u (a ∷ b ∷ c ∷ d ∷ xs) h half u =
     then (IsUnit a b c d) _ (code_unit a b c d) (is-unit a b c d)
-    (λ v is. either (is_high_surrogate v) _ _ (λ high. content-IfUtf8 n (after_high v) xs (omega arith) high (behind-unit a b c d v xs is u))
+    (λ v is. either (is_high_surrogate v) _ _
+    (λ high. content-IfUtf8 n (after_high v) xs (omega arith) high (behind-unit a b c d v xs is u))
     (λ not_high. either (is_low_surrogate v) _ _ (λ _. tt)
-    (λ not_low. longer (encode_utf8 v) _ (IsUtf8-encode v (not-high v not_high not_low is.small)) (content-IfUtf8 n plain xs (omega arith) tt (behind-unit a b c d v xs is u)))))
+    (λ not_low. longer (encode_utf8 v) _ (IsUtf8-encode v (not-high v not_high not_low is.small))
+    (content-IfUtf8 n plain xs (omega arith) tt (behind-unit a b c d v xs is u)))))
 content-IfUtf8 n (after_high l) [] h half u = tt
 content-IfUtf8 n (after_high l) (s ∷ []) h half u = tt
 content-IfUtf8 n (after_high l) (s ∷ t ∷ []) h half u = tt
@@ -219,10 +261,12 @@ content-IfUtf8 (suc n) (after_high l) (s ∷ t ∷ a ∷ b ∷ c ∷ d ∷ xs) h
     either ((s == 92) && (t == 117)) _ _
     (λ e.
     let p = and_parts (s == 92) (t == 117) e in
-    let behind = tail t (a ∷ b ∷ c ∷ d ∷ xs) (omega (arith, eqb-true t 117 p.1)) (tail s (t ∷ a ∷ b ∷ c ∷ d ∷ xs) (omega (arith, eqb-true s 92 p.0)) u) in
+    let behind = tail t (a ∷ b ∷ c ∷ d ∷ xs) (omega (arith, eqb-true t 117 p.1))
+    (tail s (t ∷ a ∷ b ∷ c ∷ d ∷ xs) (omega (arith, eqb-true s 92 p.0)) u) in
     then (IsUnit a b c d) _ (code_unit a b c d) (is-unit a b c d)
     (λ v is. either (is_low_surrogate v) _ _
-    (λ low. longer (encode_utf8 (surrogate_pair l v)) _ (IsUtf8-encode (surrogate_pair l v) (pair-scalar l v half low)) (content-IfUtf8 n plain xs (omega arith) tt (behind-unit a b c d v xs is behind)))
+    (λ low. longer (encode_utf8 (surrogate_pair l v)) _ (IsUtf8-encode (surrogate_pair l v) (pair-scalar l v half low))
+    (content-IfUtf8 n plain xs (omega arith) tt (behind-unit a b c d v xs is behind)))
     (λ _. tt)))
     (λ _. tt)
 

@@ -1,5 +1,5 @@
--- The same run where creations compare the sync key and member 0 goes on without its leader key for a while: member 1's snapshot is
--- read before the commit, and its asks go out after member 0 ended.
+-- The same run where creations compare the sync key and member 0 goes on without its leader key for
+-- a while: member 1's snapshot is read before the commit, and its asks go out after member 0 ended.
 use Rattle.std.proofs.Common.{◌≡◌, ◌⊎◌, ℕ, ◌==◌, ◌||◌, Bool, true, false, cond, if◌then◌else◌, List, [], ◌∷◌, Option, Some, None, refl, sym, subst, arith, inl, inr}
 use Rattle.event_book.specs.Functions.{put_at}
 use Rattle.commit_actions.specs.Keys.{SyncKey, Nobody, AtLeast, Counted, Confirmed}
@@ -61,13 +61,27 @@ abbrev take0 : SyncRequest
 take0 = record { member = 0; incarnation = 1; sequence = 1; leader = 0; sync = None; aim = CreateLeader }
 
 abbrev creates0 : AgentInput
-creates0 = record { heard = None; agent = idle 1 (Some 1); live = false; required = Nobody; sends = Some (record { number = 9; request = take0 }); holder_was_live = false }
+creates0 = record {
+  heard = None;
+  agent = idle 1 (Some 1);
+  live = false;
+  required = Nobody;
+  sends = Some (record { number = 9; request = take0 });
+  holder_was_live = false;
+}
 
 abbrev take1 : SyncRequest
 take1 = record { member = 1; incarnation = 1; sequence = 2; leader = 0; sync = Some 8; aim = CreateLeader }
 
 abbrev creates1 : AgentInput
-creates1 = record { heard = None; agent = record (idle 2 (Some 2)) { turn = Some key; won = true }; live = false; required = Nobody; sends = Some (record { number = 25; request = take1 }); holder_was_live = false }
+creates1 = record {
+  heard = None;
+  agent = record (idle 2 (Some 2)) { turn = Some key; won = true };
+  live = false;
+  required = Nobody;
+  sends = Some (record { number = 25; request = take1 });
+  holder_was_live = false;
+}
 
 abbrev claim1 : SyncRequest
 claim1 = record { member = 1; incarnation = 1; sequence = 3; leader = 9; sync = Some 8; aim = ClaimSync }
@@ -234,10 +248,12 @@ abbrev Only : (ℕ → Machine) → Type 0
 Only members = (n : ℕ) → Acts (members n) → n ≡ 0
 
 only-zero : (members : ℕ → Machine) (y : Machine) → Only members → Only (put_at members 0 y)
-only-zero members y event_at = put-all members 0 y (λ n z. Acts z → n ≡ 0) (λ acts. refl) (λ n other acts. event_at n acts)
+only-zero members y event_at =
+    put-all members 0 y (λ n z. Acts z → n ≡ 0) (λ acts. refl) (λ n other acts. event_at n acts)
 
 only-rest : (members : ℕ → Machine) (k : ℕ) (y : Machine) → (Acts y → ⊥) → Only members → Only (put_at members k y)
-only-rest members k y not_live event_at = put-all members k y (λ n z. Acts z → n ≡ 0) (λ acts. absurd (not_live acts)) (λ n other acts. event_at n acts)
+only-rest members k y not_live event_at =
+    put-all members k y (λ n z. Acts z → n ≡ 0) (λ acts. absurd (not_live acts)) (λ n other acts. event_at n acts)
 
 nobody : (n : ℕ) → Acts (s0.members n) → ⊥
 nobody n (inl e) = both e
@@ -247,7 +263,8 @@ only0 : Only s0.members
 only0 n acts = absurd (nobody n acts)
 
 alone2 : (n : ℕ) → Acts (s2.members n) → n ≡ 0
-alone2 = put-all s0.members 0 (s2.members 0) (λ n z. Acts z → n ≡ 0) (λ acts. refl) (λ n other acts. absurd (nobody n acts))
+alone2 =
+    put-all s0.members 0 (s2.members 0) (λ n z. Acts z → n ≡ 0) (λ acts. refl) (λ n other acts. absurd (nobody n acts))
 
 only1 : Only s1.members
 only1 = only-zero s0.members (s1.members 0) only0
@@ -382,13 +399,16 @@ nobody32 n acts = dead32 (subst (λ (j : ℕ). Acts (s32.members j)) (only32 n a
 unready20 : (n : ℕ) → is_ready (s20.members n).agent ≡ true → ⊥
 unready20 n e = both (subst (λ (j : ℕ). is_ready (s20.members j).agent ≡ true) (only20 n (inr e)) e)
 
-both-reach : (s : State) (position : ℕ) → Reaches position ((s.members 0).confirmed 1) → Reaches position ((s.members 0).confirmed 2) → (n : ℕ) → two n ≡ true → Reaches position ((s.members 0).confirmed n)
+both-reach : (s : State) (position : ℕ) → Reaches position ((s.members 0).confirmed 1)
+    → Reaches position ((s.members 0).confirmed 2) → (n : ℕ) → two n ≡ true
+    → Reaches position ((s.members 0).confirmed n)
 both-reach s position a b n e = elim (or-cases (n == 1) (n == 2) e) [
   | inl is ↦ subst (λ (j : ℕ). Reaches position ((s.members 0).confirmed j)) (sym (eq-from n 1 is)) a
   | inr is ↦ subst (λ (j : ℕ). Reaches position ((s.members 0).confirmed j)) (sym (eq-from n 2 is)) b
 ]
 
-heard-at : (b : Bool) (n end : ℕ) → (n == 2) ≡ b → cond b (Some 8) None ≡ Some end → (◌≡◌ {A = Option ℕ} None (Some end)) ⊎ ((n ≡ 2) × (end ≡ 8))
+heard-at : (b : Bool) (n end : ℕ) → (n == 2) ≡ b → cond b (Some 8) None ≡ Some end
+    → (◌≡◌ {A = Option ℕ} None (Some end)) ⊎ ((n ≡ 2) × (end ≡ 8))
 heard-at true n end e is = inr (eq-from n 2 e, sym (some-is 8 end is))
 heard-at false n end e is = inl is
 
@@ -412,7 +432,15 @@ law0 = (
       not_live = refl;
       turn = stays (fresh_agent 1) creates0.agent refl refl (λ e. e);
       request = take0;
-      sends = record { number = 9; is = refl; member = refl; incarnation = refl; later = omega arith; counted = omega arith; waits = refl };
+      sends = record {
+        number = 9;
+        is = refl;
+        member = refl;
+        incarnation = refl;
+        later = omega arith;
+        counted = omega arith;
+        waits = refl;
+      };
       aim = refl;
       leader = refl;
       sync = refl;
@@ -437,7 +465,15 @@ law2 = (
       not_live = refl;
       turn = stays creates0.agent arms0.agent refl refl (λ e. e);
       request = claim0;
-      sends = record { number = 11; is = refl; member = refl; incarnation = refl; later = omega arith; counted = omega arith; waits = refl };
+      sends = record {
+        number = 11;
+        is = refl;
+        member = refl;
+        incarnation = refl;
+        later = omega arith;
+        counted = omega arith;
+        waits = refl;
+      };
       aim = refl;
       leader = refl;
       sync = refl;
@@ -458,7 +494,12 @@ law4 = (
     waits = same-waits 2 (Some 2) None refl;
     holder_was_live = inl refl;
     does = Promoting (record {
-      sync_grant = record { member = 0; incarnation = 1; sequence = 2; key = (record { leader = 0; standbys = (λ n. false); quorum = 0; revision = 3 }) };
+      sync_grant = record {
+        member = 0;
+        incarnation = 1;
+        sequence = 2;
+        key = (record { leader = 0; standbys = (λ n. false); quorum = 0; revision = 3 });
+      };
       hears = record { number = 12; heard = refl; is = refl; member = refl; incarnation = refl; waits = refl };
       was_ready = refl;
       ready = refl;
@@ -481,7 +522,11 @@ law8 = (
     last = omega arith;
     waits = new-waits 2 3 None (omega arith);
     holder_was_live = inl refl;
-    does = Idling (record { keeps = record { server = record { live = refl; required = refl }; ready = λ e. e; leads = λ e. e; noted = refl }; sends = refl; turn = inl (stays begins0.agent renews3.agent refl refl (λ e. e)) });
+    does = Idling (record {
+      keeps = record { server = record { live = refl; required = refl }; ready = λ e. e; leads = λ e. e; noted = refl };
+      sends = refl;
+      turn = inl (stays begins0.agent renews3.agent refl refl (λ e. e));
+    });
   },
   tt,
 )
@@ -496,7 +541,13 @@ law10 = (
     waits = new-waits 3 4 (Some 3) (omega arith);
     holder_was_live = inl refl;
     does = Publishing (record {
-      grant = record { member = 0; incarnation = 1; sequence = 3; revision = 4; sync = Some (record { leader = 0; standbys = (λ n. false); quorum = 0; revision = 3 }) };
+      grant = record {
+        member = 0;
+        incarnation = 1;
+        sequence = 3;
+        revision = 4;
+        sync = Some (record { leader = 0; standbys = (λ n. false); quorum = 0; revision = 3 });
+      };
       hears = record { number = 13; heard = refl; is = refl; member = refl; incarnation = refl; waits = refl };
       keeps = record { live = refl; required = refl };
       live = refl;
@@ -507,7 +558,15 @@ law10 = (
       key = (record { leader = 0; standbys = (λ n. false); quorum = 0; revision = 3 });
       key_is = refl;
       request = publish4;
-      sends = record { number = 14; is = refl; member = refl; incarnation = refl; later = omega arith; counted = omega arith; waits = refl };
+      sends = record {
+        number = 14;
+        is = refl;
+        member = refl;
+        incarnation = refl;
+        later = omega arith;
+        counted = omega arith;
+        waits = refl;
+      };
       leader = refl;
       sync = refl;
       standbys = two;
@@ -530,7 +589,11 @@ law12 = (
     last = omega arith;
     waits = new-waits 4 5 (Some 4) (omega arith);
     holder_was_live = inl refl;
-    does = Idling (record { keeps = record { server = record { live = refl; required = refl }; ready = λ e. e; leads = λ e. e; noted = refl }; sends = refl; turn = inl (stays publishes4.agent renews5.agent refl refl (λ e. e)) });
+    does = Idling (record {
+      keeps = record { server = record { live = refl; required = refl }; ready = λ e. e; leads = λ e. e; noted = refl };
+      sends = refl;
+      turn = inl (stays publishes4.agent renews5.agent refl refl (λ e. e));
+    });
   },
   tt,
 )
@@ -545,7 +608,13 @@ law14 = (
     waits = same-waits 5 (Some 5) None refl;
     holder_was_live = inl refl;
     does = ChangingRequired (record {
-      grant = record { member = 0; incarnation = 1; sequence = 5; revision = 6; sync = Some (record { leader = 0; standbys = two; quorum = 2; revision = 5 }) };
+      grant = record {
+        member = 0;
+        incarnation = 1;
+        sequence = 5;
+        revision = 6;
+        sync = Some (record { leader = 0; standbys = two; quorum = 2; revision = 5 });
+      };
       hears = record { number = 16; heard = refl; is = refl; member = refl; incarnation = refl; waits = refl };
       live = refl;
       sends = refl;
@@ -570,7 +639,11 @@ law15 = (
     last = omega arith;
     waits = new-waits 5 6 None (omega arith);
     holder_was_live = inl refl;
-    does = Idling (record { keeps = record { server = record { live = refl; required = refl }; ready = λ e. e; leads = λ e. e; noted = refl }; sends = refl; turn = inl (stays requires5.agent renews6.agent refl refl (λ e. e)) });
+    does = Idling (record {
+      keeps = record { server = record { live = refl; required = refl }; ready = λ e. e; leads = λ e. e; noted = refl };
+      sends = refl;
+      turn = inl (stays requires5.agent renews6.agent refl refl (λ e. e));
+    });
   },
   tt,
 )
@@ -585,7 +658,13 @@ law17 = (
     waits = new-waits 6 7 (Some 6) (omega arith);
     holder_was_live = inl refl;
     does = Publishing (record {
-      grant = record { member = 0; incarnation = 1; sequence = 6; revision = 7; sync = Some (record { leader = 0; standbys = two; quorum = 2; revision = 5 }) };
+      grant = record {
+        member = 0;
+        incarnation = 1;
+        sequence = 6;
+        revision = 7;
+        sync = Some (record { leader = 0; standbys = two; quorum = 2; revision = 5 });
+      };
       hears = record { number = 17; heard = refl; is = refl; member = refl; incarnation = refl; waits = refl };
       keeps = record { live = refl; required = refl };
       live = refl;
@@ -596,7 +675,15 @@ law17 = (
       key = (record { leader = 0; standbys = two; quorum = 2; revision = 5 });
       key_is = refl;
       request = publish7;
-      sends = record { number = 18; is = refl; member = refl; incarnation = refl; later = omega arith; counted = omega arith; waits = refl };
+      sends = record {
+        number = 18;
+        is = refl;
+        member = refl;
+        incarnation = refl;
+        later = omega arith;
+        counted = omega arith;
+        waits = refl;
+      };
       leader = refl;
       sync = refl;
       standbys = two;
@@ -604,7 +691,12 @@ law17 = (
       aim = refl;
       overlaps = omega arith;
       connected = λ n e. inl e;
-      may = Confirmed (record { sure = two; within = λ m e. e; enough = omega arith; all = λ n e. (refl, both-reach s17 8 (omega arith) (omega arith) n e) });
+      may = Confirmed (record {
+        sure = two;
+        within = λ m e. e;
+        enough = omega arith;
+        all = λ n e. (refl, both-reach s17 8 (omega arith) (omega arith) n e);
+      });
     });
   },
   tt,
@@ -622,7 +714,8 @@ law26 = (
     does = Racing (record {
       keeps = record { server = record { live = refl; required = refl }; ready = λ e. e; leads = λ e. e; noted = refl };
       sends = refl;
-      view = record { keyless = false; leaderless = true; failsafe_revision = None; number = 20; heard = refl; is = refl };
+      view =
+          record { keyless = false; leaderless = true; failsafe_revision = None; number = 20; heard = refl; is = refl };
       race = race;
       race_is = refl;
       later = omega arith;
@@ -712,7 +805,15 @@ law30 = (
       not_live = refl;
       turn = stays wins1.agent creates1.agent refl refl (λ e. e);
       request = take1;
-      sends = record { number = 25; is = refl; member = refl; incarnation = refl; later = omega arith; counted = omega arith; waits = refl };
+      sends = record {
+        number = 25;
+        is = refl;
+        member = refl;
+        incarnation = refl;
+        later = omega arith;
+        counted = omega arith;
+        waits = refl;
+      };
       aim = refl;
       leader = refl;
       sync = refl;
@@ -737,7 +838,15 @@ law32 = (
       not_live = refl;
       turn = stays creates1.agent arms1.agent refl refl (λ e. e);
       request = claim1;
-      sends = record { number = 23; is = refl; member = refl; incarnation = refl; later = omega arith; counted = omega arith; waits = refl };
+      sends = record {
+        number = 23;
+        is = refl;
+        member = refl;
+        incarnation = refl;
+        later = omega arith;
+        counted = omega arith;
+        waits = refl;
+      };
       aim = refl;
       leader = refl;
       sync = refl;
@@ -758,7 +867,12 @@ law34 = (
     waits = same-waits 3 (Some 3) None refl;
     holder_was_live = inl refl;
     does = Promoting (record {
-      sync_grant = record { member = 1; incarnation = 1; sequence = 3; key = (record { leader = 1; standbys = (λ n. false); quorum = 0; revision = 10 }) };
+      sync_grant = record {
+        member = 1;
+        incarnation = 1;
+        sequence = 3;
+        key = (record { leader = 1; standbys = (λ n. false); quorum = 0; revision = 10 });
+      };
       hears = record { number = 24; heard = refl; is = refl; member = refl; incarnation = refl; waits = refl };
       was_ready = refl;
       ready = refl;
@@ -776,7 +890,150 @@ renewing : {s : State} → (r : ℕ) → s.leader ≡ Some r → MayRenew s fals
 renewing r is = record { leader = λ e. (r, is); holder_was_live = λ e c. absurd (both c) }
 
 pub allowed : MayFollow s0 actions
-allowed = (law0, (tt, (law2, (tt, (law4, (refl, (record { writes = refl; mine = base ∷ []; mine_is = refl; theirs = base ∷ []; theirs_is = refl; prefix = prefix-self (base ∷ []) }, (record { writes = refl; mine = base ∷ []; mine_is = refl; theirs = base ∷ []; theirs_is = refl; prefix = prefix-self (base ∷ []) }, (law8, ((numbered 3 (s9.members 0) renews3.agent refl 3 (omega arith) refl, renewing 2 refl), (law10, (tt, (law12, ((numbered 5 (s13.members 0) renews5.agent refl 5 (omega arith) refl, renewing 4 refl), (law14, (law15, ((numbered 6 (s16.members 0) renews6.agent refl 6 (omega arith) refl, renewing 6 refl), (law17, (tt, (tt, ((λ e. absurd (both e), λ e. (refl, unready20)), ((refl, omega arith), (record { copies = record { mine = base ∷ []; mine_is = refl; theirs = base ∷ first ∷ []; theirs_is = refl; not_live = refl; writes = refl }; prefix = record { rest = first ∷ []; whole = refl } }, (record { writes = refl; mine = base ∷ first ∷ []; mine_is = refl; theirs = base ∷ first ∷ []; theirs_is = refl; prefix = prefix-self (base ∷ first ∷ []) }, (record { writes = refl; mine = base ∷ first ∷ []; mine_is = refl; prefix = prefix-self (base ∷ first ∷ []); entry = record { front = base ∷ []; entry = first; rest = []; whole = refl; serial = refl }; met = record { sure = λ n. n == 1; within = λ m e. subst (λ (j : ℕ). two j ≡ true) (sym (eq-from m 1 e)) refl; enough = omega arith; all = λ n e. subst (λ (j : ℕ). Reaches 16 ((s24.members 0).confirmed j)) (sym (eq-from n 1 e)) (omega arith) } }, (tt, (law26, ((record { entries = base ∷ []; is = refl }, numbered 1 (s27.members 1) races1.agent refl 1 (omega arith) refl), (law28, (law29, (law30, (tt, (law32, (tt, (law34, (refl, tt))))))))))))))))))))))))))))))))))))
+allowed = (
+  law0,
+  (
+    tt,
+    (
+      law2,
+      (
+        tt,
+        (
+          law4,
+          (
+            refl,
+            (
+              record {
+                writes = refl;
+                mine = base ∷ [];
+                mine_is = refl;
+                theirs = base ∷ [];
+                theirs_is = refl;
+                prefix = prefix-self (base ∷ []);
+              },
+              (
+                record {
+                  writes = refl;
+                  mine = base ∷ [];
+                  mine_is = refl;
+                  theirs = base ∷ [];
+                  theirs_is = refl;
+                  prefix = prefix-self (base ∷ []);
+                },
+                (
+                  law8,
+                  (
+                    (numbered 3 (s9.members 0) renews3.agent refl 3 (omega arith) refl, renewing 2 refl),
+                    (
+                      law10,
+                      (
+                        tt,
+                        (
+                          law12,
+                          (
+                            (numbered 5 (s13.members 0) renews5.agent refl 5 (omega arith) refl, renewing 4 refl),
+                            (
+                              law14,
+                              (
+                                law15,
+                                (
+                                  (numbered 6 (s16.members 0) renews6.agent refl 6 (omega arith) refl, renewing 6 refl),
+                                  (
+                                    law17,
+                                    (
+                                      tt,
+                                      (
+                                        tt,
+                                        (
+                                          (λ e. absurd (both e), λ e. (refl, unready20)),
+                                          (
+                                            (refl, omega arith),
+                                            (
+                                              record {
+                                                copies = record {
+                                                  mine = base ∷ [];
+                                                  mine_is = refl;
+                                                  theirs = base ∷ first ∷ [];
+                                                  theirs_is = refl;
+                                                  not_live = refl;
+                                                  writes = refl;
+                                                };
+                                                prefix = record { rest = first ∷ []; whole = refl };
+                                              },
+                                              (
+                                                record {
+                                                  writes = refl;
+                                                  mine = base ∷ first ∷ [];
+                                                  mine_is = refl;
+                                                  theirs = base ∷ first ∷ [];
+                                                  theirs_is = refl;
+                                                  prefix = prefix-self (base ∷ first ∷ []);
+                                                },
+                                                (
+                                                  record {
+                                                    writes = refl;
+                                                    mine = base ∷ first ∷ [];
+                                                    mine_is = refl;
+                                                    prefix = prefix-self (base ∷ first ∷ []);
+                                                    entry = record {
+                                                      front = base ∷ [];
+                                                      entry = first;
+                                                      rest = [];
+                                                      whole = refl;
+                                                      serial = refl;
+                                                    };
+                                                    met = record {
+                                                      sure = λ n. n == 1;
+                                                      within = λ m e.
+                                                          subst (λ (j : ℕ). two j ≡ true) (sym (eq-from m 1 e)) refl;
+                                                      enough = omega arith;
+                                                      all = λ n e.
+                                                          subst (λ (j : ℕ). Reaches 16 ((s24.members 0).confirmed j))
+                                                          (sym (eq-from n 1 e)) (omega arith);
+                                                    };
+                                                  },
+                                                  (
+                                                    tt,
+                                                    (
+                                                      law26,
+                                                      (
+                                                        (
+                                                          record { entries = base ∷ []; is = refl },
+                                                          numbered 1 (s27.members 1) races1.agent refl 1
+                                                              (omega arith) refl,
+                                                        ),
+                                                        (
+                                                          law28,
+                                                          (law29, (law30, (tt, (law32, (tt, (law34, (refl, tt))))))),
+                                                        ),
+                                                      ),
+                                                    ),
+                                                  ),
+                                                ),
+                                              ),
+                                            ),
+                                          ),
+                                        ),
+                                      ),
+                                    ),
+                                  ),
+                                ),
+                              ),
+                            ),
+                          ),
+                        ),
+                      ),
+                    ),
+                  ),
+                ),
+              ),
+            ),
+          ),
+        ),
+      ),
+    ),
+  ),
+)
 
 pub writes : ((state_after s0 actions).members 1).writes ≡ true
 writes = refl

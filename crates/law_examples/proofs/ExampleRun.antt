@@ -46,13 +46,26 @@ abbrev create : MemberInfo → Txn
 create info = txns.Create info (record { 0 = 300 }) None None
 
 abbrev asking : Name → MemberInfo → List Event
-asking name info = at0 (kinds.Message (messages.Sent 1 (record { from = ends.Member (member name); to = ends.Store; incarnation = 1; sequence = 1; body = bodies.Request (create info) }))) ∷ []
+asking name info = at0 (kinds.Message (messages.Sent 1 (record {
+  from = ends.Member (member name);
+  to = ends.Store;
+  incarnation = 1;
+  sequence = 1;
+  body = bodies.Request (create info);
+})))
+    ∷ []
 
 abbrev granting : Name → MemberInfo → List Name → List Event
 granting name info standbys =
     at0 (kinds.Message (messages.Delivered 1))
     ∷ at0 (kinds.Store (stores.Granted 1 (member name) (create info) standbys))
-    ∷ at0 (kinds.Message (messages.Sent 2 (record { from = ends.Store; to = ends.Member (member name); incarnation = 1; sequence = 1; body = bodies.Granted 1 true })))
+    ∷ at0 (kinds.Message (messages.Sent 2 (record {
+      from = ends.Store;
+      to = ends.Member (member name);
+      incarnation = 1;
+      sequence = 1;
+      body = bodies.Granted 1 true;
+    })))
     ∷ []
 
 abbrev beginning : Name → List Event
@@ -92,8 +105,16 @@ hears name info standbys = input_of (past2 name info standbys) 0 leads (Some 2) 
 abbrev pub transitions : Name → MemberInfo → List Name → List Transition
 transitions name info standbys =
     record { action = Input 0 (asks name info); events = asking name info; volatile_states = asked_volatile_states }
-    ∷ record { action = Deliver 1 2 true; events = granting name info standbys; volatile_states = asked_volatile_states }
-    ∷ record { action = Input 0 (hears name info standbys); events = beginning name; volatile_states = put_at asked_volatile_states 0 leads }
+    ∷ record {
+      action = Deliver 1 2 true;
+      events = granting name info standbys;
+      volatile_states = asked_volatile_states;
+    }
+    ∷ record {
+      action = Input 0 (hears name info standbys);
+      events = beginning name;
+      volatile_states = put_at asked_volatile_states 0 leads;
+    }
     ∷ []
 
 abbrev s0 : State
@@ -112,7 +133,14 @@ abbrev grant : Grant
 grant = record { revision = 2; sent = 0; moment = 0; ttl = 300; failsafe = None }
 
 abbrev answer : Answer
-answer = record { member = 0; incarnation = 1; sequence = 1; leader = Some (record { holder = 0; revision = 2 }); failsafe = None; grant = Some grant }
+answer = record {
+  member = 0;
+  incarnation = 1;
+  sequence = 1;
+  leader = Some (record { holder = 0; revision = 2 });
+  failsafe = None;
+  grant = Some grant;
+}
 
 at-rest : (name : Name) (info : MemberInfo) → Acts (asks name info).machine → ⊥
 at-rest name info (inl e) = both e
@@ -133,8 +161,19 @@ asks-lawful name info = record {
   parted = λ r. refl;
   ready_by_grant = λ r. refl;
   gone = λ number e. absurd (none-some number e);
-  flight = put-all (λ i. None) 1 (Some (Requested question)) (λ i o. (f : Flying) → o ≡ Some f → ◌≡◌ {A = Option Flying} None (Some f) ⊎ MaySend s0 0 (asks name info) (fresh_agent 1) waiting f)
-      (λ f e. inr (subst (λ (x : Flying). MaySend s0 0 (asks name info) (fresh_agent 1) waiting x) (some-is (Requested question) f e) (record { member = refl; incarnation = refl; later = omega arith; counted = omega arith; sent = refl; query = refl })))
+  flight = put-all (λ i. None) 1 (Some (Requested question))
+      (λ i o. (f : Flying) → o ≡ Some f →
+      ◌≡◌ {A = Option Flying} None (Some f) ⊎ MaySend s0 0 (asks name info) (fresh_agent 1) waiting f)
+      (λ f e.
+      inr (subst (λ (x : Flying). MaySend s0 0 (asks name info) (fresh_agent 1) waiting x)
+      (some-is (Requested question) f e) (record {
+        member = refl;
+        incarnation = refl;
+        later = omega arith;
+        counted = omega arith;
+        sent = refl;
+        query = refl;
+      })))
       (λ i other f e. inl e);
   failsafe_check = λ b e. absurd (none-some b e);
   known = λ p e. e;
@@ -146,11 +185,20 @@ asks-lawful name info = record {
   waits = λ seq e. inr (omega (arith, some-is 1 seq e));
 }
 
-abbrev fed : (name : Name) (info : MemberInfo) (standbys : List Name) → FedKnown (s2 name info standbys) 0 (hears name info standbys) leading
+abbrev fed : (name : Name) (info : MemberInfo) (standbys : List Name)
+    → FedKnown (s2 name info standbys) 0 (hears name info standbys) leading
 fed name info standbys = record {
   fed = record {
     grant = grant;
-    hears = record { number = 2; answer = answer; heard_is = refl; is = refl; member = refl; grant_is = refl; waited = record { agent = waiting; is = refl; incarnation = refl; sequence = refl } };
+    hears = record {
+      number = 2;
+      answer = answer;
+      heard_is = refl;
+      is = refl;
+      member = refl;
+      grant_is = refl;
+      waited = record { agent = waiting; is = refl; incarnation = refl; sequence = refl };
+    };
     deadline = 250;
     deadline_is = (omega arith, omega arith);
   };
@@ -160,13 +208,21 @@ fed name info standbys = record {
 }
 
 -- nothing is in flight at the end
-nothing : (i : ℕ) → put_at (put_at (put_at (put_at (λ k. None) 1 (Some (Requested question))) 1 None) 2 (Some (Answered answer))) 2 None i ≡ None
-nothing = put-all (put_at (put_at (put_at (λ k. None) 1 (Some (Requested question))) 1 None) 2 (Some (Answered answer))) 2 None (λ i o. o ≡ None) refl
-    (λ i not-two. put-all (put_at (put_at (λ k. None) 1 (Some (Requested question))) 1 None) 2 (Some (Answered answer)) (λ k o. (k ≡ 2 → ⊥) → o ≡ None) (λ no. absurd (no refl))
+nothing : (i : ℕ)
+    → put_at (put_at (put_at (put_at (λ k. None) 1 (Some (Requested question))) 1 None) 2 (Some (Answered answer)))
+    2 None i ≡ None
+nothing = put-all (put_at (put_at (put_at (λ k. None) 1 (Some (Requested question))) 1 None) 2 (Some (Answered answer)))
+    2 None (λ i o. o ≡ None) refl
+    (λ i not-two. put-all (put_at (put_at (λ k. None) 1 (Some (Requested question))) 1 None) 2
+    (Some (Answered answer)) (λ k o. (k ≡ 2 → ⊥) → o ≡ None) (λ no. absurd (no refl))
     (λ k other no. put-all (put_at (λ j. None) 1 (Some (Requested question))) 1 None (λ j o. o ≡ None) refl
-    (λ j not-one. put-all (λ l. None) 1 (Some (Requested question)) (λ l o. (l ≡ 1 → ⊥) → o ≡ None) (λ no. absurd (no refl)) (λ l o no. refl) j not-one) k) i not-two)
+    (λ j not-one. put-all (λ l. None) 1 (Some (Requested question)) (λ l o. (l ≡ 1 → ⊥) → o ≡ None)
+    (λ no. absurd (no refl)) (λ l o no. refl) j not-one)
+    k)
+    i not-two)
 
-hears-lawful : (name : Name) (info : MemberInfo) (standbys : List Name) → IsLawful (s2 name info standbys) 0 (hears name info standbys)
+hears-lawful : (name : Name) (info : MemberInfo) (standbys : List Name)
+    → IsLawful (s2 name info standbys) 0 (hears name info standbys)
 hears-lawful name info standbys = record {
   was = waiting;
   was_is = refl;
@@ -193,13 +249,18 @@ hears-lawful name info standbys = record {
 }
 
 -- its second event tells the arming
-shown : (name : Name) (info : MemberInfo) (standbys : List Name) → ShowsFeed (s2 name info standbys) 0 (hears name info standbys) (at0 (kinds.Message (messages.Delivered 2)) ∷ []) (at0 (kinds.Watchdog (watchdogs.Armed (member name) (record { 0 = 250 }) 2)))
+shown : (name : Name) (info : MemberInfo) (standbys : List Name)
+    → ShowsFeed (s2 name info standbys) 0 (hears name info standbys) (at0 (kinds.Message (messages.Delivered 2)) ∷ [])
+    (at0 (kinds.Watchdog (watchdogs.Armed (member name) (record { 0 = 250 }) 2)))
 shown name info standbys = record {
   by_grant = λ feeds basis number e. ((tt, tt), (refl, some-is 2 number e));
   by_failsafe = λ feeds basis. absurd (both basis);
 }
 
-armed : (name : Name) → IsArmedIn 0 2 (at0 (kinds.Message (messages.Delivered 2)) ∷ at0 (kinds.Watchdog (watchdogs.Armed (member name) (record { 0 = 250 }) 2)) ∷ [])
+armed : (name : Name)
+    → IsArmedIn 0 2
+    (at0 (kinds.Message (messages.Delivered 2))
+    ∷ at0 (kinds.Watchdog (watchdogs.Armed (member name) (record { 0 = 250 }) 2)) ∷ [])
 armed name = record {
   front = at0 (kinds.Message (messages.Delivered 2)) ∷ [];
   event = at0 (kinds.Watchdog (watchdogs.Armed (member name) (record { 0 = 250 }) 2));
@@ -209,11 +270,17 @@ armed name = record {
   fed = (refl, refl);
 }
 
-live-there : (name : Name) (info : MemberInfo) (standbys : List Name) (n : ℕ) → writes_over (λ k. false) (beginning name) n ≡ true → ((act (s2 name info standbys) (Input 0 (hears name info standbys))).members n).live ≡ true
-live-there name info standbys = put-all (s2 name info standbys).members 0 (hears name info standbys).machine (λ n z. put_at (λ k. false) 0 true n ≡ true → z.live ≡ true) (λ e. refl)
-    (λ n other e. absurd (put-all (λ m. false) 0 true (λ k b. (k ≡ 0 → ⊥) → b ≡ true → ⊥) (λ not-zero f. not-zero refl) (λ k o no-zero f. both f) n other e))
+live-there : (name : Name) (info : MemberInfo) (standbys : List Name) (n : ℕ)
+    → writes_over (λ k. false) (beginning name) n ≡ true
+    → ((act (s2 name info standbys) (Input 0 (hears name info standbys))).members n).live ≡ true
+live-there name info standbys = put-all (s2 name info standbys).members 0 (hears name info standbys).machine
+    (λ n z. put_at (λ k. false) 0 true n ≡ true → z.live ≡ true) (λ e. refl)
+    (λ n other e.
+    absurd (put-all (λ m. false) 0 true (λ k b. (k ≡ 0 → ⊥) → b ≡ true → ⊥) (λ not-zero f. not-zero refl)
+    (λ k o no-zero f. both f) n other e))
 
-pub lawful : (name : Name) (info : MemberInfo) (standbys : List Name) → AreLawful declared [] first_volatile_states (transitions name info standbys)
+pub lawful : (name : Name) (info : MemberInfo) (standbys : List Name)
+    → AreLawful declared [] first_volatile_states (transitions name info standbys)
 lawful name info standbys = (
   record { lawful = asks-lawful name info; shows = inl refl; begins = (tt, tt); lives = λ n e. absurd (both e) },
   (
@@ -225,12 +292,28 @@ lawful name info standbys = (
         (
           record {
             lawful = hears-lawful name info standbys;
-            shows = inr (at0 (kinds.Message (messages.Delivered 2)) ∷ [], at0 (kinds.Watchdog (watchdogs.Armed (member name) (record { 0 = 250 }) 2)), at0 (kinds.Server (servers.Began (server name) 1)) ∷ [], refl, shown name info standbys);
-            begins = (tt, (tt, ((refl, inr (record { fed = (fed name info standbys).fed; free = omega arith; armed = armed name })), tt)));
+            shows = inr (
+              at0 (kinds.Message (messages.Delivered 2)) ∷ [],
+              at0 (kinds.Watchdog (watchdogs.Armed (member name) (record { 0 = 250 }) 2)),
+              at0 (kinds.Server (servers.Began (server name) 1)) ∷ [],
+              refl,
+              shown name info standbys,
+            );
+            begins = (
+              tt,
+              (
+                tt,
+                (
+                  (refl, inr (record { fed = (fed name info standbys).fed; free = omega arith; armed = armed name })),
+                  tt,
+                ),
+              ),
+            );
             lives = live-there name info standbys;
           },
           (
-            input-shown-of declared (asking name info ++ granting name info standbys) asked_volatile_states 0 leads (Some 2) true None (beginning name) (tt, (refl, (tt, tt))) refl,
+            input-shown-of declared (asking name info ++ granting name info standbys) asked_volatile_states 0 leads
+                (Some 2) true None (beginning name) (tt, (refl, (tt, tt))) refl,
             tt,
           ),
         ),
@@ -239,8 +322,10 @@ lawful name info standbys = (
   ),
 )
 
-pub timely : (name : Name) (info : MemberInfo) (standbys : List Name) → IsTimely declared.margin (book_of (transitions name info standbys))
+pub timely : (name : Name) (info : MemberInfo) (standbys : List Name)
+    → IsTimely declared.margin (book_of (transitions name info standbys))
 timely name info standbys = (tt, (tt, (tt, (tt, (tt, (omega arith, (tt, tt)))))))
 
-pub writes : (name : Name) (info : MemberInfo) (standbys : List Name) → AcceptsWrites (book_of (transitions name info standbys)) 0
+pub writes : (name : Name) (info : MemberInfo) (standbys : List Name)
+    → AcceptsWrites (book_of (transitions name info standbys)) 0
 writes name info standbys = refl

@@ -1,5 +1,6 @@
--- A run that is allowed: member 0 begins, a commit is acknowledged by nobody, member 1 is required and published, a second commit is
--- acknowledged by its confirmation, member 0 ends, and member 1 claims and begins. So no condition of the law keeps all out.
+-- A run that is allowed: member 0 begins, a commit is acknowledged by nobody, member 1
+-- is required and published, a second commit is acknowledged by its confirmation, member
+-- 0 ends, and member 1 claims and begins. So no condition of the law keeps all out.
 use Rattle.std.proofs.Common.{◌≡◌, ◌⊎◌, ℕ, ◌≤◌, ◌<◌, ◌==◌, Bool, true, false, List, [], ◌∷◌, Option, Some, None, refl, ◌∙◌, ap, sym, subst, arith, inl, inr}
 use Rattle.wal_model.specs.declared.entry.Entry.{Entry}
 use Rattle.event_book.specs.Functions.{put_at}
@@ -30,10 +31,18 @@ abbrev pub leading : ℕ → Option ℕ → ℕ → Agent
 leading last waits noted = record (fresh_agent 1) { last = last; waits = waits; leads = true; noted = noted }
 
 abbrev pub resting : Agent → Bool → Confirmers → Option ℕ → AgentInput
-resting agent live required heard = record { heard = heard; agent = agent; live = live; required = required; sends = None; holder_was_live = false }
+resting agent live required heard =
+    record { heard = heard; agent = agent; live = live; required = required; sends = None; holder_was_live = false }
 
 abbrev pub sending : Agent → Bool → Confirmers → ℕ → ℕ → SyncRequest → AgentInput
-sending agent live required heard number request = record { heard = Some heard; agent = agent; live = live; required = required; sends = Some (record { number = number; request = request }); holder_was_live = false }
+sending agent live required heard number request = record {
+  heard = Some heard;
+  agent = agent;
+  live = live;
+  required = required;
+  sends = Some (record { number = number; request = request });
+  holder_was_live = false;
+}
 
 abbrev pub asks : AgentInput
 asks = resting (idle 1 (Some 1)) false Nobody None
@@ -208,8 +217,10 @@ actions =
 abbrev pub Only : (ℕ → Machine) → Type 0
 Only members = (n : ℕ) → Acts (members n) → (n ≡ 0) ⊎ (n ≡ 1)
 
-pub only-put : (members : ℕ → Machine) (k : ℕ) (y : Machine) → (k ≡ 0) ⊎ (k ≡ 1) → Only members → Only (put_at members k y)
-only-put members k y which event_at = put-all members k y (λ n z. Acts z → (n ≡ 0) ⊎ (n ≡ 1)) (λ acts. which) (λ n other acts. event_at n acts)
+pub only-put : (members : ℕ → Machine) (k : ℕ) (y : Machine) → (k ≡ 0) ⊎ (k ≡ 1) → Only members
+    → Only (put_at members k y)
+only-put members k y which event_at =
+    put-all members k y (λ n z. Acts z → (n ≡ 0) ⊎ (n ≡ 1)) (λ acts. which) (λ n other acts. event_at n acts)
 
 nobody : (n : ℕ) → Acts (s0.members n) → ⊥
 nobody n (inl e) = both e
@@ -296,17 +307,23 @@ only25 = only-put s24.members 1 (s25.members 1) (inr refl) only24
 only26 : Only s26.members
 only26 = only25
 
-pub same-waits : (last : ℕ) (was after : Option ℕ) → after ≡ None → (sequence : ℕ) → after ≡ Some sequence → (was ≡ Some sequence) ⊎ (last < sequence)
+pub same-waits : (last : ℕ) (was after : Option ℕ) → after ≡ None → (sequence : ℕ) → after ≡ Some sequence
+    → (was ≡ Some sequence) ⊎ (last < sequence)
 same-waits last was after none sequence e = absurd (none-some sequence (sym none ∙ e))
 
-pub new-waits : (last next : ℕ) (was : Option ℕ) → last < next → (sequence : ℕ) → ◌≡◌ {A = Option ℕ} (Some next) (Some sequence) → (was ≡ Some sequence) ⊎ (last < sequence)
+pub new-waits : (last next : ℕ) (was : Option ℕ) → last < next → (sequence : ℕ)
+    → ◌≡◌ {A = Option ℕ} (Some next) (Some sequence) → (was ≡ Some sequence) ⊎ (last < sequence)
 new-waits last next was less sequence e = inr (subst (λ (n : ℕ). last < n) (some-is next sequence e) less)
 
 pub stays : (a b : Agent) → b.turn ≡ a.turn → b.race ≡ a.race → (b.won ≡ true → a.won ≡ true) → KeepsTurn a b
 stays a b turn race won = record { turn = turn; race = inl race; won = won }
 
-pub numbered : (last : ℕ) (x : Machine) (g : Agent) → x.agent ≡ Some g → (sequence : ℕ) → sequence ≤ g.last → x.runs ≡ 1 → IsNumbered x 1 sequence
-numbered last x g is sequence le runs = record { run_old = omega (arith, runs); sequence_old = λ h e same. omega (arith, le, ap (λ (y : Agent). y.last) (some-is g h (sym is ∙ e))) }
+pub numbered : (last : ℕ) (x : Machine) (g : Agent) → x.agent ≡ Some g → (sequence : ℕ) → sequence ≤ g.last
+    → x.runs ≡ 1 → IsNumbered x 1 sequence
+numbered last x g is sequence le runs = record {
+  run_old = omega (arith, runs);
+  sequence_old = λ h e same. omega (arith, le, ap (λ (y : Agent). y.last) (some-is g h (sym is ∙ e)));
+}
 
 law0 : IsAllowed s0 (Input 0 asks)
 law0 = (
@@ -317,13 +334,18 @@ law0 = (
     last = omega arith;
     waits = new-waits 0 1 None (omega arith);
     holder_was_live = inl refl;
-    does = Idling (record { keeps = record { server = record { live = refl; required = refl }; ready = λ e. e; leads = λ e. e; noted = refl }; sends = refl; turn = inl (stays (fresh_agent 1) asks.agent refl refl (λ e. e)) });
+    does = Idling (record {
+      keeps = record { server = record { live = refl; required = refl }; ready = λ e. e; leads = λ e. e; noted = refl };
+      sends = refl;
+      turn = inl (stays (fresh_agent 1) asks.agent refl refl (λ e. e));
+    });
   },
   tt,
 )
 
 alone2 : (n : ℕ) → Acts (s2.members n) → n ≡ 0
-alone2 = put-all s0.members 0 (s2.members 0) (λ n z. Acts z → n ≡ 0) (λ acts. refl) (λ n other acts. absurd (nobody n acts))
+alone2 =
+    put-all s0.members 0 (s2.members 0) (λ n z. Acts z → n ≡ 0) (λ acts. refl) (λ n other acts. absurd (nobody n acts))
 
 law2 : IsAllowed s2 (Input 0 arms0)
 law2 = (
@@ -341,7 +363,15 @@ law2 = (
       not_live = refl;
       turn = stays asks.agent arms0.agent refl refl (λ e. e);
       request = claim0;
-      sends = record { number = 11; is = refl; member = refl; incarnation = refl; later = omega arith; counted = omega arith; waits = refl };
+      sends = record {
+        number = 11;
+        is = refl;
+        member = refl;
+        incarnation = refl;
+        later = omega arith;
+        counted = omega arith;
+        waits = refl;
+      };
       aim = refl;
       leader = refl;
       sync = refl;
@@ -362,7 +392,12 @@ law4 = (
     waits = same-waits 2 (Some 2) None refl;
     holder_was_live = inl refl;
     does = Promoting (record {
-      sync_grant = record { member = 0; incarnation = 1; sequence = 2; key = record { leader = 0; standbys = λ n. false; quorum = 0; revision = 3 } };
+      sync_grant = record {
+        member = 0;
+        incarnation = 1;
+        sequence = 2;
+        key = record { leader = 0; standbys = λ n. false; quorum = 0; revision = 3 };
+      };
       hears = record { number = 12; heard = refl; is = refl; member = refl; incarnation = refl; waits = refl };
       was_ready = refl;
       ready = refl;
@@ -377,13 +412,37 @@ law4 = (
 )
 
 ack1 : MayAcknowledge s7 0 (base ∷ first ∷ []) 1
-ack1 = record { writes = refl; mine = base ∷ first ∷ []; mine_is = refl; prefix = prefix-self (base ∷ first ∷ []); entry = record { front = base ∷ []; entry = first; rest = []; whole = refl; serial = refl }; met = tt }
+ack1 = record {
+  writes = refl;
+  mine = base ∷ first ∷ [];
+  mine_is = refl;
+  prefix = prefix-self (base ∷ first ∷ []);
+  entry = record { front = base ∷ []; entry = first; rest = []; whole = refl; serial = refl };
+  met = tt;
+}
 
 receive8 : MayReceive s8 1 0
-receive8 = record { copies = record { mine = base ∷ []; mine_is = refl; theirs = base ∷ first ∷ []; theirs_is = refl; not_live = refl; writes = refl }; prefix = record { rest = first ∷ []; whole = refl } }
+receive8 = record {
+  copies = record {
+    mine = base ∷ [];
+    mine_is = refl;
+    theirs = base ∷ first ∷ [];
+    theirs_is = refl;
+    not_live = refl;
+    writes = refl;
+  };
+  prefix = record { rest = first ∷ []; whole = refl };
+}
 
 confirm9 : MayConfirm s9 0 1
-confirm9 = record { writes = refl; mine = base ∷ first ∷ []; mine_is = refl; theirs = base ∷ first ∷ []; theirs_is = refl; prefix = prefix-self (base ∷ first ∷ []) }
+confirm9 = record {
+  writes = refl;
+  mine = base ∷ first ∷ [];
+  mine_is = refl;
+  theirs = base ∷ first ∷ [];
+  theirs_is = refl;
+  prefix = prefix-self (base ∷ first ∷ []);
+}
 
 law10 : IsAllowed s10 (Input 0 renews3)
 law10 = (
@@ -394,7 +453,11 @@ law10 = (
     last = omega arith;
     waits = new-waits 2 3 None (omega arith);
     holder_was_live = inl refl;
-    does = Idling (record { keeps = record { server = record { live = refl; required = refl }; ready = λ e. e; leads = λ e. e; noted = refl }; sends = refl; turn = inl (stays begins0.agent renews3.agent refl refl (λ e. e)) });
+    does = Idling (record {
+      keeps = record { server = record { live = refl; required = refl }; ready = λ e. e; leads = λ e. e; noted = refl };
+      sends = refl;
+      turn = inl (stays begins0.agent renews3.agent refl refl (λ e. e));
+    });
   },
   tt,
 )
@@ -409,7 +472,13 @@ law12 = (
     waits = same-waits 3 (Some 3) None refl;
     holder_was_live = inl refl;
     does = ChangingRequired (record {
-      grant = record { member = 0; incarnation = 1; sequence = 3; revision = 4; sync = Some (record { leader = 0; standbys = λ n. false; quorum = 0; revision = 3 }) };
+      grant = record {
+        member = 0;
+        incarnation = 1;
+        sequence = 3;
+        revision = 4;
+        sync = Some (record { leader = 0; standbys = λ n. false; quorum = 0; revision = 3 });
+      };
       hears = record { number = 13; heard = refl; is = refl; member = refl; incarnation = refl; waits = refl };
       live = refl;
       sends = refl;
@@ -434,7 +503,11 @@ law13 = (
     last = omega arith;
     waits = new-waits 3 4 None (omega arith);
     holder_was_live = inl refl;
-    does = Idling (record { keeps = record { server = record { live = refl; required = refl }; ready = λ e. e; leads = λ e. e; noted = refl }; sends = refl; turn = inl (stays requires0.agent renews4.agent refl refl (λ e. e)) });
+    does = Idling (record {
+      keeps = record { server = record { live = refl; required = refl }; ready = λ e. e; leads = λ e. e; noted = refl };
+      sends = refl;
+      turn = inl (stays requires0.agent renews4.agent refl refl (λ e. e));
+    });
   },
   tt,
 )
@@ -452,7 +525,13 @@ law15 = (
     waits = new-waits 4 5 (Some 4) (omega arith);
     holder_was_live = inl refl;
     does = Publishing (record {
-      grant = record { member = 0; incarnation = 1; sequence = 4; revision = 5; sync = Some (record { leader = 0; standbys = λ n. false; quorum = 0; revision = 3 }) };
+      grant = record {
+        member = 0;
+        incarnation = 1;
+        sequence = 4;
+        revision = 5;
+        sync = Some (record { leader = 0; standbys = λ n. false; quorum = 0; revision = 3 });
+      };
       hears = record { number = 14; heard = refl; is = refl; member = refl; incarnation = refl; waits = refl };
       keeps = record { live = refl; required = refl };
       live = refl;
@@ -463,25 +542,54 @@ law15 = (
       key = record { leader = 0; standbys = λ n. false; quorum = 0; revision = 3 };
       key_is = refl;
       request = publish0;
-      sends = record { number = 15; is = refl; member = refl; incarnation = refl; later = omega arith; counted = omega arith; waits = refl };
+      sends = record {
+        number = 15;
+        is = refl;
+        member = refl;
+        incarnation = refl;
+        later = omega arith;
+        counted = omega arith;
+        waits = refl;
+      };
       leader = refl;
       sync = refl;
       standbys = one;
       quorum = 0;
       aim = refl;
       overlaps = λ m e. e;
-      connected = λ n e. inr (refl, subst (λ (k : ℕ). Reaches 0 ((s15.members 0).confirmed k)) (sym (is-one n e)) (omega arith));
-      may = Added (λ n e. inr (refl, subst (λ (k : ℕ). Reaches 16 ((s15.members 0).confirmed k)) (sym (is-one n e)) (omega arith))) (omega arith);
+      connected = λ n e.
+          inr (refl, subst (λ (k : ℕ). Reaches 0 ((s15.members 0).confirmed k)) (sym (is-one n e)) (omega arith));
+      may =
+          Added (λ n e.
+          inr (refl, subst (λ (k : ℕ). Reaches 16 ((s15.members 0).confirmed k)) (sym (is-one n e)) (omega arith)))
+          (omega arith);
     });
   },
   tt,
 )
 
 receive18 : MayReceive s18 1 0
-receive18 = record { copies = record { mine = base ∷ first ∷ []; mine_is = refl; theirs = base ∷ first ∷ second ∷ []; theirs_is = refl; not_live = refl; writes = refl }; prefix = record { rest = second ∷ []; whole = refl } }
+receive18 = record {
+  copies = record {
+    mine = base ∷ first ∷ [];
+    mine_is = refl;
+    theirs = base ∷ first ∷ second ∷ [];
+    theirs_is = refl;
+    not_live = refl;
+    writes = refl;
+  };
+  prefix = record { rest = second ∷ []; whole = refl };
+}
 
 confirm19 : MayConfirm s19 0 1
-confirm19 = record { writes = refl; mine = base ∷ first ∷ second ∷ []; mine_is = refl; theirs = base ∷ first ∷ second ∷ []; theirs_is = refl; prefix = prefix-self (base ∷ first ∷ second ∷ []) }
+confirm19 = record {
+  writes = refl;
+  mine = base ∷ first ∷ second ∷ [];
+  mine_is = refl;
+  theirs = base ∷ first ∷ second ∷ [];
+  theirs_is = refl;
+  prefix = prefix-self (base ∷ first ∷ second ∷ []);
+}
 
 ack2 : MayAcknowledge s20 0 (base ∷ first ∷ second ∷ []) 2
 ack2 = record {
@@ -502,7 +610,22 @@ law24 = (
     last = omega arith;
     waits = new-waits 0 1 None (omega arith);
     holder_was_live = inl refl;
-    does = Idling (record { keeps = record { server = record { live = refl; required = refl }; ready = λ e. e; leads = λ e. e; noted = refl }; sends = refl; turn = inr (record { view = record { keyless = false; leaderless = false; failsafe_revision = None; number = 17; heard = refl; is = refl }; race = refl; won = refl }) });
+    does = Idling (record {
+      keeps = record { server = record { live = refl; required = refl }; ready = λ e. e; leads = λ e. e; noted = refl };
+      sends = refl;
+      turn = inr (record {
+        view = record {
+          keyless = false;
+          leaderless = false;
+          failsafe_revision = None;
+          number = 17;
+          heard = refl;
+          is = refl;
+        };
+        race = refl;
+        won = refl;
+      });
+    });
   },
   tt,
 )
@@ -533,7 +656,15 @@ law26 = (
       not_live = refl;
       turn = stays turns1.agent arms1.agent refl refl (λ e. e);
       request = claim1;
-      sends = record { number = 19; is = refl; member = refl; incarnation = refl; later = omega arith; counted = omega arith; waits = refl };
+      sends = record {
+        number = 19;
+        is = refl;
+        member = refl;
+        incarnation = refl;
+        later = omega arith;
+        counted = omega arith;
+        waits = refl;
+      };
       aim = refl;
       leader = refl;
       sync = refl;
@@ -554,7 +685,12 @@ law28 = (
     waits = same-waits 2 (Some 2) None refl;
     holder_was_live = inl refl;
     does = Promoting (record {
-      sync_grant = record { member = 1; incarnation = 1; sequence = 2; key = record { leader = 1; standbys = λ n. false; quorum = 0; revision = 8 } };
+      sync_grant = record {
+        member = 1;
+        incarnation = 1;
+        sequence = 2;
+        key = record { leader = 1; standbys = λ n. false; quorum = 0; revision = 8 };
+      };
       hears = record { number = 20; heard = refl; is = refl; member = refl; incarnation = refl; waits = refl };
       was_ready = refl;
       ready = refl;
@@ -572,7 +708,88 @@ unfenced : {s : State} → s.creates_compare ≡ false → MayRenew s false
 unfenced not_live = record { leader = λ e. absurd (not-false _ not_live e); holder_was_live = λ e c. absurd (both c) }
 
 pub allowed : MayFollow s0 actions
-allowed = (law0, ((numbered 1 (s1.members 0) asks.agent refl 1 (omega arith) refl, refl), (law2, (tt, (law4, (refl, ((refl, omega arith), (ack1, (receive8, (confirm9, (law10, ((numbered 3 (s11.members 0) renews3.agent refl 3 (omega arith) refl, unfenced refl), (law12, (law13, ((numbered 4 (s14.members 0) renews4.agent refl 4 (omega arith) refl, unfenced refl), (law15, (tt, ((refl, omega arith), (receive18, (confirm19, (ack2, (tt, (tt, ((λ e. absurd (both e), λ e. absurd (both e)), (law24, ((numbered 1 (s25.members 1) turns1.agent refl 1 (omega arith) refl, refl), (law26, (tt, (law28, (refl, tt))))))))))))))))))))))))))))))
+allowed = (
+  law0,
+  (
+    (numbered 1 (s1.members 0) asks.agent refl 1 (omega arith) refl, refl),
+    (
+      law2,
+      (
+        tt,
+        (
+          law4,
+          (
+            refl,
+            (
+              (refl, omega arith),
+              (
+                ack1,
+                (
+                  receive8,
+                  (
+                    confirm9,
+                    (
+                      law10,
+                      (
+                        (numbered 3 (s11.members 0) renews3.agent refl 3 (omega arith) refl, unfenced refl),
+                        (
+                          law12,
+                          (
+                            law13,
+                            (
+                              (numbered 4 (s14.members 0) renews4.agent refl 4 (omega arith) refl, unfenced refl),
+                              (
+                                law15,
+                                (
+                                  tt,
+                                  (
+                                    (refl, omega arith),
+                                    (
+                                      receive18,
+                                      (
+                                        confirm19,
+                                        (
+                                          ack2,
+                                          (
+                                            tt,
+                                            (
+                                              tt,
+                                              (
+                                                (λ e. absurd (both e), λ e. absurd (both e)),
+                                                (
+                                                  law24,
+                                                  (
+                                                    (
+                                                      numbered 1 (s25.members 1) turns1.agent refl 1 (omega arith) refl,
+                                                      refl,
+                                                    ),
+                                                    (law26, (tt, (law28, (refl, tt)))),
+                                                  ),
+                                                ),
+                                              ),
+                                            ),
+                                          ),
+                                        ),
+                                      ),
+                                    ),
+                                  ),
+                                ),
+                              ),
+                            ),
+                          ),
+                        ),
+                      ),
+                    ),
+                  ),
+                ),
+              ),
+            ),
+          ),
+        ),
+      ),
+    ),
+  ),
+)
 
 pub writes : ((state_after s0 actions).members 1).writes ≡ true
 writes = refl

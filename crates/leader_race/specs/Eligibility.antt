@@ -39,14 +39,15 @@ abbrev pub other_candidate : MemberId → Option MemberId → Option Ineligibili
 other_candidate me None = None
 other_candidate me (Some candidate) = bar_where (not (is_member me (Some candidate))) (bars.Candidate candidate)
 
--- the synchronous mode is active, and the sync key doesn't name it; a failover to it, which names no leader, lets it race
--- all the same
+-- the synchronous mode is active, and the sync key doesn't name it; a
+-- failover to it, which names no leader, lets it race all the same
 abbrev pub not_sync : MemberId → Option FailoverKey → Option SyncKey → Option Ineligibility
 not_sync me failover None = None
 not_sync me failover (Some sync) = bar_where (not (is_named me sync) && not (is_failover_to me failover)) bars.NotSync
 
--- a log is behind by more bytes than these: the end that the leader told of its own log, minus this end, is above them. A log
--- that ends further on is behind by none, and so is each where the leader told nothing; no log lies below every end
+-- a log is behind by more bytes than these: the end that the leader told of its
+-- own log, minus this end, is above them. A log that ends further on is behind by
+-- none, and so is each where the leader told nothing; no log lies below every end
 abbrev pub is_behind_by : ℕ → Option Lsn → Option Lsn → Bool
 is_behind_by bytes None end = false
 is_behind_by bytes (Some status) None = true
@@ -74,7 +75,8 @@ eligibility_of view seen = first_bar (
     ∷ paused (config_in seen).pause (is_candidate view.me (failover_in seen))
     ∷ other_candidate view.me (candidate_of (failover_in seen))
     ∷ not_sync view.me (failover_in seen) (active_sync_in seen)
-    ∷ too_far_behind (config_in seen).maximum_lag_on_failover (status_in seen) view.end (is_candidate view.me (failover_in seen))
+    ∷ too_far_behind (config_in seen).maximum_lag_on_failover (status_in seen) view.end
+    (is_candidate view.me (failover_in seen))
     ∷ not_listed view.me (config_in seen).failsafe_mode (failsafe_in seen)
     ∷ holding view.moment view.hold
     ∷ [])

@@ -15,7 +15,8 @@ use Rattle.leader_race.specs.Peers.{is_compared, bars_by, first_of}
 
 -- the member that races: what answers are compared with
 abbrev pub racer_of : AgentView → SnapshotFacts → Racer
-racer_of view seen = record { me = view.me; end = view.end; priority = view.tags.failover_priority; sync = active_sync_in seen }
+racer_of view seen =
+    record { me = view.me; end = view.end; priority = view.tags.failover_priority; sync = active_sync_in seen }
 
 -- the server of another member accepts writes
 abbrev pub other_writes : Racer → List PeerAnswer → Option Ineligibility
@@ -34,8 +35,8 @@ abbrev pub unless : Bool → Option Ineligibility → Option Ineligibility
 unless false bar = bar
 unless true bar = None
 
--- why a member that may race doesn't win, by the first rule that applies; nothing where it wins. Nobody is compared with a
--- member that a failover names as candidate
+-- why a member that may race doesn't win, by the first rule that applies; nothing
+-- where it wins. Nobody is compared with a member that a failover names as candidate
 abbrev pub outcome_of : AgentView → SnapshotFacts → List PeerAnswer → Option Ineligibility
 outcome_of view seen answers = first_bar (
     other_writes (racer_of view seen) answers
@@ -43,9 +44,10 @@ outcome_of view seen answers = first_bar (
     ∷ unless (is_candidate view.me (failover_in seen)) (priority (racer_of view seen) answers)
     ∷ [])
 
--- a member is compared with another one by what that one told truly: the answer was heard and counts, and no failover names
--- the member as candidate
-pub record ComparesWith (view : AgentView) (seen : SnapshotFacts) (answers : List PeerAnswer) (other : AgentView) : Type 0 where
+-- a member is compared with another one by what that one told truly: the
+-- answer was heard and counts, and no failover names the member as candidate
+pub record ComparesWith (view : AgentView) (seen : SnapshotFacts) (answers : List PeerAnswer) (other : AgentView) : Type
+    0 where
   pub answer : PeerAnswer
   pub member : answer.member ≡ other.me
   pub end : answer.end ≡ other.end

@@ -45,7 +45,8 @@ is_ahead racer answer = is_compared racer answer && is_below racer.end answer.en
 
 -- the member is compared, its log ends at the same position, and its priority is higher
 abbrev pub is_preferred : Racer → PeerAnswer → Bool
-is_preferred racer answer = is_compared racer answer && (is_level racer.end answer.end && int_lt racer.priority answer.tags.failover_priority)
+is_preferred racer answer =
+    is_compared racer answer && (is_level racer.end answer.end && int_lt racer.priority answer.tags.failover_priority)
 
 -- an answer bars by this rule
 abbrev pub bars_by : Racer → Rule → PeerAnswer → Bool

@@ -36,21 +36,35 @@ use Rattle.lease_book.proofs.Hearing.{heard-request}
 pub book-first : (first : Settings) (names : List Name) (base : ℕ) → IsSameBook first_past (start_of first names base)
 book-first first names base = record { store = same-first first names base; flight = flight-first first names base }
 
-pub book-by : (past : Past) (facts : Facts) (kind : EventKind) → IsSpanned kind → IsCausal past facts kind → IsSameBook past facts → IsSameBook (past_after past kind) (facts_after facts kind)
-book-by past facts kind span causal old = record { store = same-by past facts kind span old.store; flight = flight-by past facts kind causal old.store old.flight }
+pub book-by : (past : Past) (facts : Facts) (kind : EventKind) → IsSpanned kind → IsCausal past facts kind
+    → IsSameBook past facts → IsSameBook (past_after past kind) (facts_after facts kind)
+book-by past facts kind span causal old = record {
+  store = same-by past facts kind span old.store;
+  flight = flight-by past facts kind causal old.store old.flight;
+}
 
-pub book-after : (past : Past) (facts : Facts) (events : List Event) → AreCausal past facts events → IsSameBook past facts → IsSameBook (past_over past events) (facts_over facts events)
+pub book-after : (past : Past) (facts : Facts) (events : List Event) → AreCausal past facts events
+    → IsSameBook past facts → IsSameBook (past_over past events) (facts_over facts events)
 book-after past facts [] causal old = old
-book-after past facts (event ∷ events) causal old = book-after (past_after past event.kind) (facts_after facts event.kind) events causal.1.1 (book-by past facts event.kind causal.0 causal.1.0 old)
+book-after past facts (event ∷ events) causal old = book-after (past_after past event.kind)
+    (facts_after facts event.kind) events causal.1.1 (book-by past facts event.kind causal.0 causal.1.0 old)
 
 -- one group after another, and a front
-pub causal-both : (past : Past) (facts : Facts) (front rest : List Event) → AreCausal past facts front → AreCausal (past_over past front) (facts_over facts front) rest → AreCausal past facts (front ++ rest)
+pub causal-both : (past : Past) (facts : Facts) (front rest : List Event) → AreCausal past facts front
+    → AreCausal (past_over past front) (facts_over facts front) rest → AreCausal past facts (front ++ rest)
 causal-both past facts [] rest first second = second
-causal-both past facts (event ∷ front) rest first second = (first.0, (first.1.0, causal-both (past_after past event.kind) (facts_after facts event.kind) front rest first.1.1 second))
+causal-both past facts (event ∷ front) rest first second = (
+  first.0,
+  (first.1.0, causal-both (past_after past event.kind) (facts_after facts event.kind) front rest first.1.1 second),
+)
 
-pub causal-front : (past : Past) (facts : Facts) (front rest : List Event) → AreCausal past facts (front ++ rest) → AreCausal past facts front
+pub causal-front : (past : Past) (facts : Facts) (front rest : List Event)
+    → AreCausal past facts (front ++ rest) → AreCausal past facts front
 causal-front past facts [] rest causal = tt
-causal-front past facts (event ∷ front) rest causal = (causal.0, (causal.1.0, causal-front (past_after past event.kind) (facts_after facts event.kind) front rest causal.1.1))
+causal-front past facts (event ∷ front) rest causal = (
+  causal.0,
+  (causal.1.0, causal-front (past_after past event.kind) (facts_after facts event.kind) front rest causal.1.1),
+)
 
 -- ---- a delivery to the key store
 leasing-is : (txn : Txn) → is_leasing (query_of txn) ≡ is_lease txn
@@ -58,18 +72,56 @@ leasing-is (txns.Create info ttl failsafe sync) = refl
 leasing-is (txns.Renew revision info ttl status row failsafe) = refl
 leasing-is _ = refl
 
-pub granted-causal : (past : Past) (facts : Facts) (tick : Ticks) (i j : ℕ) (carried : InFlightFacts) (by : Member) (incarnation sequence : ℕ) (txn : Txn) (standbys : List Name) → IsSameFlight past facts
-    → in_flight facts.flight i ≡ Some carried → carried.message ≡ record { from = ends.Member by; to = ends.Store; incarnation = incarnation; sequence = sequence; body = bodies.Request txn }
-    → facts.sent < j → IsSpannedTxn txn → AreCausal past facts (granted_events tick i j by incarnation sequence txn standbys)
+pub granted-causal : (past : Past) (facts : Facts) (tick : Ticks) (i j : ℕ) (carried : InFlightFacts)
+    (by : Member) (incarnation sequence : ℕ) (txn : Txn) (standbys : List Name) → IsSameFlight past facts
+    → in_flight facts.flight i ≡ Some carried → carried.message ≡ record {
+      from = ends.Member by;
+      to = ends.Store;
+      incarnation = incarnation;
+      sequence = sequence;
+      body = bodies.Request txn;
+    }
+    → facts.sent < j → IsSpannedTxn txn
+    → AreCausal past facts (granted_events tick i j by incarnation sequence txn standbys)
 granted-causal past facts tick i j carried by incarnation sequence txn standbys old here is above span =
-    let heard = heard-request past facts i carried by incarnation sequence txn old here is in
-    (tt, (tt, (span, (tt, (tt, ((above, record { question = heard.0; is = old.kept i heard.0 heard.1.0; asker = heard.1.1.0; in_run = heard.1.1.1.0; numbered = heard.1.1.1.1.0; leasing = ap is_leasing heard.1.1.1.1.1 ∙ leasing-is txn }), tt))))))
+    let heard = heard-request past facts i carried by incarnation sequence txn old here is in (
+      tt,
+      (
+        tt,
+        (
+          span,
+          (
+            tt,
+            (
+              tt,
+              (
+                (
+                  above,
+                  record {
+                    question = heard.0;
+                    is = old.kept i heard.0 heard.1.0;
+                    asker = heard.1.1.0;
+                    in_run = heard.1.1.1.0;
+                    numbered = heard.1.1.1.1.0;
+                    leasing = ap is_leasing heard.1.1.1.1.1 ∙ leasing-is txn;
+                  },
+                ),
+                tt,
+              ),
+            ),
+          ),
+        ),
+      ),
+    )
 
-pub refused-causal : (past : Past) (facts : Facts) (tick : Ticks) (i j : ℕ) (by : Member) (incarnation sequence : ℕ) (request : TxnKind) (key : Key) (found : Expected) → facts.sent < j
+pub refused-causal : (past : Past) (facts : Facts) (tick : Ticks) (i j : ℕ) (by : Member)
+    (incarnation sequence : ℕ) (request : TxnKind) (key : Key) (found : Expected) → facts.sent < j
     → AreCausal past facts (refused_events tick i j by incarnation sequence request key found)
-refused-causal past facts tick i j by incarnation sequence request key found above = (tt, (tt, (tt, (tt, (tt, ((above, tt), tt))))))
+refused-causal past facts tick i j by incarnation sequence request key found above =
+    (tt, (tt, (tt, (tt, (tt, ((above, tt), tt))))))
 
-pub read-causal : (past : Past) (facts : Facts) (tick : Ticks) (i j : ℕ) (by : Member) (incarnation sequence : ℕ) → facts.sent < j → AreCausal past facts (read_events tick i j by incarnation sequence)
+pub read-causal : (past : Past) (facts : Facts) (tick : Ticks) (i j : ℕ) (by : Member) (incarnation sequence : ℕ)
+    → facts.sent < j → AreCausal past facts (read_events tick i j by incarnation sequence)
 read-causal past facts tick i j by incarnation sequence above = (tt, (tt, (tt, ((above, tt), tt))))
 
 -- ---- a tick, a loss, a delivery to an agent, and all that its input brings
@@ -80,22 +132,32 @@ members-spanned (kinds.Store (stores.LeaderExpired holder)) is = tt
 members-spanned (kinds.Store (stores.Expired key)) is = tt
 members-spanned _ is = tt
 
-member-answers : (asked : ℕ → Option Question) (from to : LinkEnd) (incarnation sequence : ℕ) (body : Body) → IsMemberEnd from → Answers asked from to incarnation sequence body
+member-answers : (asked : ℕ → Option Question) (from to : LinkEnd) (incarnation sequence : ℕ) (body : Body)
+    → IsMemberEnd from → Answers asked from to incarnation sequence body
 member-answers asked (ends.Member by) to incarnation sequence body is = tt
 member-answers asked ends.Store to incarnation sequence body is = absurd is
 
-members-causal : (past : Past) (facts : Facts) (kind : EventKind) → IsOfMembers kind → IsNumberedAbove facts.sent kind → IsCausal past facts kind
-members-causal past facts (kinds.Message (Sent number message)) is above = (above, member-answers past.asked message.from message.to message.incarnation message.sequence message.body is)
+members-causal : (past : Past) (facts : Facts) (kind : EventKind) → IsOfMembers kind
+    → IsNumberedAbove facts.sent kind → IsCausal past facts kind
+members-causal past facts (kinds.Message (Sent number message)) is above =
+    (above, member-answers past.asked message.from message.to message.incarnation message.sequence message.body is)
 members-causal past facts (kinds.Message (Delivered number)) is above = tt
 members-causal past facts (kinds.Message (Lost number)) is above = tt
 members-causal past facts _ is above = tt
 
-pub own-causal : (past : Past) (facts : Facts) (events : List Event) → AllAre IsOfMembers events → AreNumberedAbove facts.sent events → AreCausal past facts events
+pub own-causal : (past : Past) (facts : Facts) (events : List Event) → AllAre IsOfMembers events
+    → AreNumberedAbove facts.sent events → AreCausal past facts events
 own-causal past facts [] all numbered = tt
-own-causal past facts (event ∷ events) all numbered =
-    (members-spanned event.kind all.0, (members-causal past facts event.kind all.0 numbered.0, own-causal (past_after past event.kind) (facts_after facts event.kind) events all.1 numbered.1))
+own-causal past facts (event ∷ events) all numbered = (
+  members-spanned event.kind all.0,
+  (
+    members-causal past facts event.kind all.0 numbered.0,
+    own-causal (past_after past event.kind) (facts_after facts event.kind) events all.1 numbered.1,
+  ),
+)
 
 -- ---- a front of events in which only who may begin begins
-pub begins-front : (P : List Event → ℕ → Type 0) (before front rest : List Event) → BeginsBehind P before (front ++ rest) → BeginsBehind P before front
+pub begins-front : (P : List Event → ℕ → Type 0) (before front rest : List Event)
+    → BeginsBehind P before (front ++ rest) → BeginsBehind P before front
 begins-front P before [] rest is = tt
 begins-front P before (event ∷ front) rest is = (is.0, begins-front P (before ++ event ∷ []) front rest is.1)

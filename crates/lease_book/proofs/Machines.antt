@@ -34,25 +34,31 @@ use Rattle.std.proofs.lemmas.Bool.{cases_eq}
 use Rattle.lease_book.specs.Machines.{deadline_if, hold_if, run_if, IsSameMachines, FeedsByGrants}
 
 -- ---- a list of which one item changes, and a function that is put at that place
-length-found : {A : Type 0} (items : List A) (k : ℕ) (change : A → A) (found : Option A) → length (changed_at items k change found) ≡ length items
+length-found : {A : Type 0} (items : List A) (k : ℕ) (change : A → A) (found : Option A)
+    → length (changed_at items k change found) ≡ length items
 length-found items k change None = refl
 length-found items k change (Some item) = length-set items k (change item)
 
-length-changed : {A : Type 0} (items : List A) (k : ℕ) (change : A → A) → length (with_changed items k change) ≡ length items
+length-changed : {A : Type 0} (items : List A) (k : ℕ) (change : A → A)
+    → length (with_changed items k change) ≡ length items
 length-changed items k change = length-found items k change (slice_get items k)
 
 there-is : {A : Type 0} (items : List A) (k : ℕ) → k < length items → (item : A) × (slice_get items k ≡ Some item)
 there-is [] k small = absurd (omega (arith, small))
 there-is (x ∷ items) k small = (get_or (x ∷ items) k x, slice_get-get_or (x ∷ items) k x small)
 
-changed-here : {A : Type 0} (items : List A) (k : ℕ) (change : A → A) (item : A) → slice_get items k ≡ Some item → slice_get (with_changed items k change) k ≡ Some (change item)
-changed-here items k change item is = ap (λ (o : Option _). slice_get (changed_at items k change o) k) is ∙ got-set_same items k (change item) (slice_get_within items k item is)
+changed-here : {A : Type 0} (items : List A) (k : ℕ) (change : A → A) (item : A)
+    → slice_get items k ≡ Some item → slice_get (with_changed items k change) k ≡ Some (change item)
+changed-here items k change item is = ap (λ (o : Option _). slice_get (changed_at items k change o) k) is
+    ∙ got-set_same items k (change item) (slice_get_within items k item is)
 
-changed-at-there : {A : Type 0} (items : List A) (k : ℕ) (change : A → A) (found : Option A) (m : ℕ) → (m ≡ k → ⊥) → slice_get (changed_at items k change found) m ≡ slice_get items m
+changed-at-there : {A : Type 0} (items : List A) (k : ℕ) (change : A → A) (found : Option A) (m : ℕ)
+    → (m ≡ k → ⊥) → slice_get (changed_at items k change found) m ≡ slice_get items m
 changed-at-there items k change None m other = refl
 changed-at-there items k change (Some item) m other = got-set_other items k m (change item) other
 
-changed-there : {A : Type 0} (items : List A) (k : ℕ) (change : A → A) (m : ℕ) → (m ≡ k → ⊥) → slice_get (with_changed items k change) m ≡ slice_get items m
+changed-there : {A : Type 0} (items : List A) (k : ℕ) (change : A → A) (m : ℕ) → (m ≡ k → ⊥)
+    → slice_get (with_changed items k change) m ≡ slice_get items m
 changed-there items k change m other = changed-at-there items k change (slice_get items k) m other
 
 -- a function has of each item what is found of it in the list
@@ -72,10 +78,12 @@ module _ {A B : Type 0} (found : Option A → B) (items : List A) (f : ℕ → B
           let there = there-is items m few in
           let is : slice_get items k ≡ Some there.0 = ap (λ (n : ℕ). slice_get items n) (sym e) ∙ there.1 in
           ap (λ (n : ℕ). put_at f k x n) e ∙ put-here f k x ∙ here there.0 is
-          ∙ ap found (sym (ap (λ (n : ℕ). slice_get (with_changed items k change) n) e ∙ changed-here items k change there.0 is))
+          ∙ ap found
+          (sym (ap (λ (n : ℕ). slice_get (with_changed items k change) n) e ∙ changed-here items k change there.0 is))
       at-place (inr other) = put-there f k x m other ∙ old m few ∙ ap found (sym (changed-there items k change m other))
 
-  pub agrees-kept : ((item : A) → found (Some (change item)) ≡ found (Some item)) → Agrees found items f → Agrees found (with_changed items k change) f
+  pub agrees-kept : ((item : A) → found (Some (change item)) ≡ found (Some item)) → Agrees found items f
+      → Agrees found (with_changed items k change) f
   agrees-kept same old m small = at-place (cases_eq m k)
     where
       few : m < length items
@@ -86,67 +94,83 @@ module _ {A B : Type 0} (found : Option A → B) (items : List A) (f : ℕ → B
           let there = there-is items m few in
           let is : slice_get items k ≡ Some there.0 = ap (λ (n : ℕ). slice_get items n) (sym e) ∙ there.1 in
           old m few ∙ ap found there.1 ∙ sym (same there.0)
-          ∙ ap found (sym (ap (λ (n : ℕ). slice_get (with_changed items k change) n) e ∙ changed-here items k change there.0 is))
+          ∙ ap found
+          (sym (ap (λ (n : ℕ). slice_get (with_changed items k change) n) e ∙ changed-here items k change there.0 is))
       at-place (inr other) = old m few ∙ ap found (sym (changed-there items k change m other))
 
 -- ---- deadlines
-deadlines-long-by : (deadlines : List (Option Ticks)) (happening : WatchdogEvent) → length (deadlines_by deadlines happening) ≡ length deadlines
+deadlines-long-by : (deadlines : List (Option Ticks)) (happening : WatchdogEvent)
+    → length (deadlines_by deadlines happening) ≡ length deadlines
 deadlines-long-by deadlines (watchdogs.Armed member until answer) = length-changed deadlines member.id.number _
 deadlines-long-by deadlines (watchdogs.Fed member until basis) = length-changed deadlines member.id.number _
 deadlines-long-by deadlines (watchdogs.Disarmed member) = length-changed deadlines member.id.number _
 deadlines-long-by deadlines (watchdogs.Reset member) = length-changed deadlines member.id.number _
 deadlines-long-by deadlines _ = refl
 
-deadlines-long : (deadlines : List (Option Ticks)) (kind : EventKind) → length (deadlines_after deadlines kind) ≡ length deadlines
+deadlines-long : (deadlines : List (Option Ticks)) (kind : EventKind)
+    → length (deadlines_after deadlines kind) ≡ length deadlines
 deadlines-long deadlines (kinds.Watchdog happening) = deadlines-long-by deadlines happening
 deadlines-long deadlines _ = refl
 
 deadline-watched : (deadlines : List (Option Ticks)) (deadline : ℕ → Option ℕ) (happening : WatchdogEvent)
-    → Agrees deadline_if deadlines deadline → Agrees deadline_if (deadlines_by deadlines happening) (deadline_by deadline happening)
-deadline-watched deadlines deadline (watchdogs.Armed member until answer) old = agrees-put deadline_if deadlines deadline member.id.number (λ before. Some until) (Some until.0) (λ item is. refl) old
-deadline-watched deadlines deadline (watchdogs.Fed member until basis) old = agrees-put deadline_if deadlines deadline member.id.number (λ before. Some until) (Some until.0) (λ item is. refl) old
-deadline-watched deadlines deadline (watchdogs.Disarmed member) old = agrees-put deadline_if deadlines deadline member.id.number (λ before. None) None (λ item is. refl) old
-deadline-watched deadlines deadline (watchdogs.Reset member) old = agrees-put deadline_if deadlines deadline member.id.number (λ before. None) None (λ item is. refl) old
+    → Agrees deadline_if deadlines deadline
+    → Agrees deadline_if (deadlines_by deadlines happening) (deadline_by deadline happening)
+deadline-watched deadlines deadline (watchdogs.Armed member until answer) old = agrees-put deadline_if
+    deadlines deadline member.id.number (λ before. Some until) (Some until.0) (λ item is. refl) old
+deadline-watched deadlines deadline (watchdogs.Fed member until basis) old = agrees-put deadline_if deadlines
+    deadline member.id.number (λ before. Some until) (Some until.0) (λ item is. refl) old
+deadline-watched deadlines deadline (watchdogs.Disarmed member) old =
+    agrees-put deadline_if deadlines deadline member.id.number (λ before. None) None (λ item is. refl) old
+deadline-watched deadlines deadline (watchdogs.Reset member) old =
+    agrees-put deadline_if deadlines deadline member.id.number (λ before. None) None (λ item is. refl) old
 deadline-watched deadlines deadline _ old = old
 
 deadline-kept : (deadlines : List (Option Ticks)) (deadline : ℕ → Option ℕ) (kind : EventKind)
-    → Agrees deadline_if deadlines deadline → Agrees deadline_if (deadlines_after deadlines kind) (deadline_after deadline kind)
+    → Agrees deadline_if deadlines deadline
+    → Agrees deadline_if (deadlines_after deadlines kind) (deadline_after deadline kind)
 deadline-kept deadlines deadline (kinds.Watchdog happening) old = deadline-watched deadlines deadline happening old
 deadline-kept deadlines deadline _ old = old
 
 -- ---- holds
-holds-long-by : (holds : List (Option Ticks)) (happening : WatchdogEvent) → length (holds_by holds happening) ≡ length holds
-holds-long-by holds (watchdogs.HoldTaken member until from incarnation sequence) = length-changed holds member.id.number _
+holds-long-by : (holds : List (Option Ticks)) (happening : WatchdogEvent)
+    → length (holds_by holds happening) ≡ length holds
+holds-long-by holds (watchdogs.HoldTaken member until from incarnation sequence) =
+    length-changed holds member.id.number _
 holds-long-by holds _ = refl
 
 holds-long : (holds : List (Option Ticks)) (kind : EventKind) → length (holds_after holds kind) ≡ length holds
 holds-long holds (kinds.Watchdog happening) = holds-long-by holds happening
 holds-long holds _ = refl
 
-prolonged : (before : ℕ) (until : Ticks) (item : Option Ticks) → before ≡ hold_if (Some item) → max before until.0 ≡ hold_if (Some (prolonged_to until item))
+prolonged : (before : ℕ) (until : Ticks) (item : Option Ticks) → before ≡ hold_if (Some item)
+    → max before until.0 ≡ hold_if (Some (prolonged_to until item))
 prolonged before until None is = omega (arith, is)
 prolonged before until (Some one) is = ap (λ (n : ℕ). max n until.0) is
 
-hold-watched : (holds : List (Option Ticks)) (hold : ℕ → ℕ) (happening : WatchdogEvent) → Agrees hold_if holds hold → Agrees hold_if (holds_by holds happening) (hold_by hold happening)
+hold-watched : (holds : List (Option Ticks)) (hold : ℕ → ℕ) (happening : WatchdogEvent)
+    → Agrees hold_if holds hold → Agrees hold_if (holds_by holds happening) (hold_by hold happening)
 hold-watched holds hold (watchdogs.HoldTaken member until from incarnation sequence) old =
     let k = member.id.number in
     agrees-put hold_if holds hold k (prolonged_to until) (max (hold k) until.0)
     (λ item is. prolonged (hold k) until item (old k (slice_get_within holds k item is) ∙ ap hold_if is)) old
 hold-watched holds hold _ old = old
 
-hold-kept : (holds : List (Option Ticks)) (hold : ℕ → ℕ) (kind : EventKind) → Agrees hold_if holds hold → Agrees hold_if (holds_after holds kind) (hold_after hold kind)
+hold-kept : (holds : List (Option Ticks)) (hold : ℕ → ℕ) (kind : EventKind) → Agrees hold_if holds hold
+    → Agrees hold_if (holds_after holds kind) (hold_after hold kind)
 hold-kept holds hold (kinds.Watchdog happening) old = hold-watched holds hold happening old
 hold-kept holds hold _ old = old
 
 -- ---- incarnations
-agents-long-by : (states : List AgentProcess) (happening : AgentEvent) → length (processes_by states happening) ≡ length states
+agents-long-by : (states : List AgentProcess) (happening : AgentEvent)
+    → length (processes_by states happening) ≡ length states
 agents-long-by states (agents.Suspended agent) = length-changed states agent.id.number _
 agents-long-by states (agents.Resumed agent) = length-changed states agent.id.number _
 agents-long-by states (agents.Killed agent) = length-changed states agent.id.number _
 agents-long-by states (agents.Started agent incarnation) = length-changed states agent.id.number _
 agents-long-by states _ = refl
 
-agents-long-watched : (states : List AgentProcess) (happening : WatchdogEvent) → length (processes_by_watchdog states happening) ≡ length states
+agents-long-watched : (states : List AgentProcess) (happening : WatchdogEvent)
+    → length (processes_by_watchdog states happening) ≡ length states
 agents-long-watched states (watchdogs.Reset member) = length-changed states member.id.number _
 agents-long-watched states _ = refl
 
@@ -155,18 +179,24 @@ agents-long states (kinds.Agent happening) = agents-long-by states happening
 agents-long states (kinds.Watchdog happening) = agents-long-watched states happening
 agents-long states _ = refl
 
-runs-agent : (states : List AgentProcess) (runs : ℕ → ℕ) (happening : AgentEvent) → Agrees run_if states runs → Agrees run_if (processes_by states happening) (runs_after runs (kinds.Agent happening))
-runs-agent states runs (agents.Suspended agent) old = agrees-kept run_if states runs agent.id.number _ (λ item. refl) old
+runs-agent : (states : List AgentProcess) (runs : ℕ → ℕ) (happening : AgentEvent) → Agrees run_if states runs
+    → Agrees run_if (processes_by states happening) (runs_after runs (kinds.Agent happening))
+runs-agent states runs (agents.Suspended agent) old =
+    agrees-kept run_if states runs agent.id.number _ (λ item. refl) old
 runs-agent states runs (agents.Resumed agent) old = agrees-kept run_if states runs agent.id.number _ (λ item. refl) old
 runs-agent states runs (agents.Killed agent) old = agrees-kept run_if states runs agent.id.number _ (λ item. refl) old
-runs-agent states runs (agents.Started agent incarnation) old = agrees-put run_if states runs agent.id.number (λ state. running_in incarnation) incarnation (λ item is. refl) old
+runs-agent states runs (agents.Started agent incarnation) old =
+    agrees-put run_if states runs agent.id.number (λ state. running_in incarnation) incarnation (λ item is. refl) old
 runs-agent states runs _ old = old
 
-runs-watched : (states : List AgentProcess) (runs : ℕ → ℕ) (happening : WatchdogEvent) → Agrees run_if states runs → Agrees run_if (processes_by_watchdog states happening) runs
-runs-watched states runs (watchdogs.Reset member) old = agrees-kept run_if states runs member.id.number _ (λ item. refl) old
+runs-watched : (states : List AgentProcess) (runs : ℕ → ℕ) (happening : WatchdogEvent)
+    → Agrees run_if states runs → Agrees run_if (processes_by_watchdog states happening) runs
+runs-watched states runs (watchdogs.Reset member) old =
+    agrees-kept run_if states runs member.id.number _ (λ item. refl) old
 runs-watched states runs _ old = old
 
-runs-kept : (states : List AgentProcess) (runs : ℕ → ℕ) (kind : EventKind) → Agrees run_if states runs → Agrees run_if (processes_after states kind) (runs_after runs kind)
+runs-kept : (states : List AgentProcess) (runs : ℕ → ℕ) (kind : EventKind) → Agrees run_if states runs
+    → Agrees run_if (processes_after states kind) (runs_after runs kind)
 runs-kept states runs (kinds.Agent happening) old = runs-agent states runs happening old
 runs-kept states runs (kinds.Watchdog happening) old = runs-watched states runs happening old
 runs-kept states runs _ old = old
@@ -175,12 +205,15 @@ runs-kept states runs _ old = old
 abbrev WritesAgree : List ServerFacts → (ℕ → Bool) → Type 0
 WritesAgree servers writes = (m : ℕ) → m < length servers → writes m ≡ writes_in servers m
 
-writes-kept : (now : ℕ) (servers : List ServerFacts) (writes : ℕ → Bool) (kind : EventKind) → WritesAgree servers writes → WritesAgree (servers_after now servers kind) (writes_after writes kind)
+writes-kept : (now : ℕ) (servers : List ServerFacts) (writes : ℕ → Bool) (kind : EventKind)
+    → WritesAgree servers writes → WritesAgree (servers_after now servers kind) (writes_after writes kind)
 writes-kept now servers writes kind old m small =
     let few : m < length servers = omega (arith, small, count-of now servers kind) in
-    writes-same writes (writes_in servers) (record { tick = record { 0 = 0 }; kind = kind } ∷ []) m (old m few) ∙ sym (writes-of now servers kind m few)
+    writes-same writes (writes_in servers) (record { tick = record { 0 = 0 }; kind = kind } ∷ []) m (old m few)
+    ∙ sym (writes-of now servers kind m few)
 
-pub machines-by : (past : Past) (facts : Facts) (kind : EventKind) → IsSameMachines past facts → IsSameMachines (past_after past kind) (facts_after facts kind)
+pub machines-by : (past : Past) (facts : Facts) (kind : EventKind) → IsSameMachines past facts
+    → IsSameMachines (past_after past kind) (facts_after facts kind)
 machines-by past facts kind old =
     let now : ℕ = now_after facts.clock kind in
     let agents_are = agents-long facts.processes kind in
@@ -191,10 +224,15 @@ machines-by past facts kind old =
       deadline_count = deadlines_are ∙ old.deadline_count ∙ sym agents_are;
       hold_count = holds_are ∙ old.hold_count ∙ sym agents_are;
       server_count = servers_are ∙ old.server_count ∙ sym agents_are;
-      deadline = λ m small. deadline-kept facts.deadlines past.deadline kind (λ n few. old.deadline n (omega (arith, few, old.deadline_count))) m (omega (arith, small, agents_are, deadlines_are, old.deadline_count));
-      hold = λ m small. hold-kept facts.holds past.hold kind (λ n few. old.hold n (omega (arith, few, old.hold_count))) m (omega (arith, small, agents_are, holds_are, old.hold_count));
+      deadline = λ m small. deadline-kept facts.deadlines past.deadline kind
+          (λ n few. old.deadline n (omega (arith, few, old.deadline_count))) m
+          (omega (arith, small, agents_are, deadlines_are, old.deadline_count));
+      hold = λ m small. hold-kept facts.holds past.hold kind (λ n few. old.hold n (omega (arith, few, old.hold_count)))
+          m (omega (arith, small, agents_are, holds_are, old.hold_count));
       runs = λ m small. runs-kept facts.processes past.runs kind old.runs m small;
-      writes = λ m small. writes-kept now facts.servers past.writes kind (λ n few. old.writes n (omega (arith, few, old.server_count))) m (omega (arith, small, agents_are, servers_are, old.server_count));
+      writes = λ m small. writes-kept now facts.servers past.writes kind
+          (λ n few. old.writes n (omega (arith, few, old.server_count))) m
+          (omega (arith, small, agents_are, servers_are, old.server_count));
     }
 
 -- ---- at the start
@@ -222,7 +260,8 @@ none-writes base zero m = refl
 none-writes base (suc count) zero = refl
 none-writes base (suc count) (suc m) = none-writes base count m
 
-pub machines-first : (first : Settings) (names : List Name) (base : ℕ) → IsSameMachines first_past (start_of first names base)
+pub machines-first : (first : Settings) (names : List Name) (base : ℕ)
+    → IsSameMachines first_past (start_of first names base)
 machines-first first names base =
     let count : ℕ = length names in
     record {
@@ -236,18 +275,24 @@ machines-first first names base =
     }
 
 -- ---- over books
-machines-over : (past : Past) (facts : Facts) (book : List Event) → IsSameMachines past facts → IsSameMachines (past_over past book) (facts_over facts book)
+machines-over : (past : Past) (facts : Facts) (book : List Event) → IsSameMachines past facts
+    → IsSameMachines (past_over past book) (facts_over facts book)
 machines-over past facts [] old = old
-machines-over past facts (event ∷ events) old = machines-over (past_after past event.kind) (facts_after facts event.kind) events (machines-by past facts event.kind old)
+machines-over past facts (event ∷ events) old = machines-over (past_after past event.kind)
+    (facts_after facts event.kind) events (machines-by past facts event.kind old)
 
-pub machines-of : (first : Settings) (names : List Name) (base : ℕ) (book : List Event) → IsSameMachines (past_of book) (facts_over (start_of first names base) book)
-machines-of first names base book = machines-over first_past (start_of first names base) book (machines-first first names base)
+pub machines-of : (first : Settings) (names : List Name) (base : ℕ) (book : List Event)
+    → IsSameMachines (past_of book) (facts_over (start_of first names base) book)
+machines-of first names base book =
+    machines-over first_past (start_of first names base) book (machines-first first names base)
 
 count-over : (facts : Facts) (book : List Event) → length (facts_over facts book).processes ≡ length facts.processes
 count-over facts [] = refl
-count-over facts (event ∷ events) = count-over (facts_after facts event.kind) events ∙ agents-long facts.processes event.kind
+count-over facts (event ∷ events) =
+    count-over (facts_after facts event.kind) events ∙ agents-long facts.processes event.kind
 
-pub count-in : (first : Settings) (names : List Name) (base : ℕ) (book : List Event) → length (facts_over (start_of first names base) book).processes ≡ length names
+pub count-in : (first : Settings) (names : List Name) (base : ℕ) (book : List Event)
+    → length (facts_over (start_of first names base) book).processes ≡ length names
 count-in first names base book = count-over (start_of first names base) book ∙ first-long (length names)
 
 writes-over : (past : Past) (book : List Event) → (past_over past book).writes ≡ writes_over past.writes book
@@ -259,18 +304,25 @@ writes-in book = writes-over first_past book
 
 -- ---- feeds by grants
 granted-feed : (by_failsafe : ℕ → Bool) (k m : ℕ) → by_failsafe m ≡ false → put_at by_failsafe k false m ≡ false
-granted-feed by_failsafe k m old = put-all by_failsafe k false (λ n b. by_failsafe n ≡ false → b ≡ false) (λ e. refl) (λ n other e. e) m old
+granted-feed by_failsafe k m old =
+    put-all by_failsafe k false (λ n b. by_failsafe n ≡ false → b ≡ false) (λ e. refl) (λ n other e. e) m old
 
-pub grants-by : (past : Past) (kind : EventKind) (m : ℕ) → FeedsByGrants m kind → past.by_failsafe m ≡ false → (past_after past kind).by_failsafe m ≡ false
-grants-by past (kinds.Watchdog (watchdogs.Armed member until answer)) m feeds old = granted-feed past.by_failsafe member.id.number m old
-grants-by past (kinds.Watchdog (watchdogs.Fed member until (bases.Grant answer))) m feeds old = granted-feed past.by_failsafe member.id.number m old
-grants-by past (kinds.Watchdog (watchdogs.Fed member until (bases.Acknowledgements members sequence))) m feeds old = put-there past.by_failsafe member.id.number true m (λ e. feeds (sym e)) ∙ old
+pub grants-by : (past : Past) (kind : EventKind) (m : ℕ) → FeedsByGrants m kind → past.by_failsafe m ≡ false
+    → (past_after past kind).by_failsafe m ≡ false
+grants-by past (kinds.Watchdog (watchdogs.Armed member until answer)) m feeds old =
+    granted-feed past.by_failsafe member.id.number m old
+grants-by past (kinds.Watchdog (watchdogs.Fed member until (bases.Grant answer))) m feeds old =
+    granted-feed past.by_failsafe member.id.number m old
+grants-by past (kinds.Watchdog (watchdogs.Fed member until (bases.Acknowledgements members sequence))) m feeds old =
+    put-there past.by_failsafe member.id.number true m (λ e. feeds (sym e)) ∙ old
 grants-by past (kinds.Watchdog _) m feeds old = old
 grants-by past _ m feeds old = old
 
-grants-over : (past : Past) (book : List Event) (m : ℕ) → AllAre (FeedsByGrants m) book → past.by_failsafe m ≡ false → (past_over past book).by_failsafe m ≡ false
+grants-over : (past : Past) (book : List Event) (m : ℕ) → AllAre (FeedsByGrants m) book
+    → past.by_failsafe m ≡ false → (past_over past book).by_failsafe m ≡ false
 grants-over past [] m feeds old = old
-grants-over past (event ∷ events) m feeds old = grants-over (past_after past event.kind) events m feeds.1 (grants-by past event.kind m feeds.0 old)
+grants-over past (event ∷ events) m feeds old =
+    grants-over (past_after past event.kind) events m feeds.1 (grants-by past event.kind m feeds.0 old)
 
 pub grants-in : (book : List Event) (m : ℕ) → AllAre (FeedsByGrants m) book → (past_of book).by_failsafe m ≡ false
 grants-in book m feeds = grants-over first_past book m feeds refl

@@ -19,7 +19,16 @@ create_of info = txns.Create info (record { 0 = 300 }) None None
 -- this member asks for the leader key, and the key store grants it
 abbrev pub asked_and_granted : Member → MemberInfo → List Event
 asked_and_granted by info =
-    record { tick = record { 0 = 0 }; kind = kinds.Message (messages.Sent 1 (record { from = ends.Member by; to = ends.Store; incarnation = 1; sequence = 1; body = bodies.Request (create_of info) })) }
+    record {
+      tick = record { 0 = 0 };
+      kind = kinds.Message (messages.Sent 1 (record {
+        from = ends.Member by;
+        to = ends.Store;
+        incarnation = 1;
+        sequence = 1;
+        body = bodies.Request (create_of info);
+      }));
+    }
     ∷ granted_events (record { 0 = 0 }) 1 2 by 1 1 (create_of info) []
 
 -- the answer that is in flight then

@@ -23,8 +23,8 @@ abbrev pub revision_of : Option Granted → ℕ
 revision_of None = 0
 revision_of (Some granted) = granted.revision
 
--- what the law reads of a book as this message is sent: its moment, the keys of its snapshot, the revision of its grant, and these
--- questions so far
+-- what the law reads of a book as this message is sent: its moment, the keys
+-- of its snapshot, the revision of its grant, and these questions so far
 abbrev pub past_at_sending : (ℕ → Option Question) → InFlightFacts → Past
 past_at_sending asked carried = record first_past {
   clock = carried.sent.0;
@@ -36,7 +36,8 @@ past_at_sending asked carried = record first_past {
 
 -- what the law has of a message that is in flight with this snapshot and this grant
 abbrev pub flying_carried : (ℕ → Option Question) → InFlightFacts → Option Flying
-flying_carried asked carried = flying_of (past_at_sending asked carried) carried.message.from carried.message.to carried.message.incarnation carried.message.sequence carried.message.body
+flying_carried asked carried = flying_of (past_at_sending asked carried) carried.message.from
+    carried.message.to carried.message.incarnation carried.message.sequence carried.message.body
 
 -- the same of a message that may be in flight
 abbrev pub flying_if : (ℕ → Option Question) → Option InFlightFacts → Option Flying
@@ -49,8 +50,10 @@ is_leasing (Create ttl expected) = true
 is_leasing (Renew revision ttl carried) = true
 is_leasing _ = false
 
--- the request of this number was asked by this member, in this incarnation and under this number of a question, for the lease or not
-pub record IsAnswerTo (asked : ℕ → Option Question) (member incarnation sequence request : ℕ) (leased : Bool) : Type 0 where
+-- the request of this number was asked by this member, in this
+-- incarnation and under this number of a question, for the lease or not
+pub record IsAnswerTo (asked : ℕ → Option Question) (member incarnation sequence request : ℕ) (leased : Bool) : Type
+    0 where
   pub question : Question
   pub is : asked request ≡ Some question
   pub asker : question.member ≡ member
@@ -60,12 +63,14 @@ pub record IsAnswerTo (asked : ℕ → Option Question) (member incarnation sequ
 
 -- a grant that the key store sends this member answers a question that was asked
 abbrev pub AnswersBody : (ℕ → Option Question) → ℕ → ℕ → ℕ → Body → Type 0
-AnswersBody asked member incarnation sequence (bodies.Granted request leased) = IsAnswerTo asked member incarnation sequence request leased
+AnswersBody asked member incarnation sequence (bodies.Granted request leased) =
+    IsAnswerTo asked member incarnation sequence request leased
 AnswersBody asked member incarnation sequence _ = Unit {0}
 
 -- where a message is a grant of the key store, it answers a question that was asked
 abbrev pub Answers : (ℕ → Option Question) → LinkEnd → LinkEnd → ℕ → ℕ → Body → Type 0
-Answers asked ends.Store (ends.Member member) incarnation sequence body = AnswersBody asked member.id.number incarnation sequence body
+Answers asked ends.Store (ends.Member member) incarnation sequence body =
+    AnswersBody asked member.id.number incarnation sequence body
 Answers asked _ to incarnation sequence body = Unit {0}
 
 -- the numbers rise from this one on
@@ -81,24 +86,30 @@ pub record IsSameFlight (past : Past) (facts : Facts) : Type 0 where
   pub flown : (i : ℕ) (carried : InFlightFacts) → in_flight facts.flight i ≡ Some carried → i ≤ facts.sent
   pub asked : (i : ℕ) (question : Question) → past.asked i ≡ Some question → i ≤ facts.sent
   -- a message in flight carries the moment of its sending, and a question has it
-  pub moments : (i : ℕ) (carried : InFlightFacts) → in_flight facts.flight i ≡ Some carried → (past.sent i ≡ Some carried.sent.0) × (carried.sent.0 ≤ past.clock)
+  pub moments : (i : ℕ) (carried : InFlightFacts) → in_flight facts.flight i ≡ Some carried
+      → (past.sent i ≡ Some carried.sent.0) × (carried.sent.0 ≤ past.clock)
   pub asked_when : (i : ℕ) (question : Question) → past.asked i ≡ Some question → past.sent i ≡ Some question.sent
   -- a question in flight was asked, and so was each one that an answer in flight grants
   pub kept : (i : ℕ) (question : Question) → past.flight i ≡ Some (Requested question) → past.asked i ≡ Some question
   -- an answer that grants carries the grant
-  pub grants : (i : ℕ) (carried : InFlightFacts) → in_flight facts.flight i ≡ Some carried → (revision : ℕ) × (carried.grant ≡ grant_for carried.message.body carried.message.to revision)
+  pub grants : (i : ℕ) (carried : InFlightFacts) → in_flight facts.flight i ≡ Some carried
+      → (revision : ℕ) × (carried.grant ≡ grant_for carried.message.body carried.message.to revision)
   pub answers : (i : ℕ) (carried : InFlightFacts) → in_flight facts.flight i ≡ Some carried
-      → Answers past.asked carried.message.from carried.message.to carried.message.incarnation carried.message.sequence carried.message.body
+      → Answers past.asked carried.message.from carried.message.to carried.message.incarnation
+      carried.message.sequence carried.message.body
 
--- causes come first: a message is sent under a number above those before it, and a grant only for a question that was asked
+-- causes come first: a message is sent under a number above those
+-- before it, and a grant only for a question that was asked
 abbrev pub IsCausal : Past → Facts → EventKind → Type 0
-IsCausal past facts (kinds.Message (Sent number message)) = (facts.sent < number) × Answers past.asked message.from message.to message.incarnation message.sequence message.body
+IsCausal past facts (kinds.Message (Sent number message)) =
+    (facts.sent < number) × Answers past.asked message.from message.to message.incarnation message.sequence message.body
 IsCausal past facts _ = Unit {0}
 
 -- each of these events is causal, and no leader key is created that is absent at once
 abbrev pub AreCausal : Past → Facts → List Event → Type 0
 AreCausal past facts [] = Unit {0}
-AreCausal past facts (event ∷ events) = IsSpanned event.kind × (IsCausal past facts event.kind × AreCausal (past_after past event.kind) (facts_after facts event.kind) events)
+AreCausal past facts (event ∷ events) = IsSpanned event.kind
+    × (IsCausal past facts event.kind × AreCausal (past_after past event.kind) (facts_after facts event.kind) events)
 
 -- the law has the keys of the lease and the messages in flight as the book leaves them
 pub record IsSameBook (past : Past) (facts : Facts) : Type 0 where

@@ -37,15 +37,24 @@ IsNumberedAbove last _ = Unit {0}
 -- each message has a number above this one and those before it
 abbrev pub AreNumberedAbove : ℕ → List Event → Type 0
 AreNumberedAbove last [] = Unit {0}
-AreNumberedAbove last (event ∷ events) = IsNumberedAbove last event.kind × AreNumberedAbove (sent_after last event.kind) events
+AreNumberedAbove last (event ∷ events) =
+    IsNumberedAbove last event.kind × AreNumberedAbove (sent_after last event.kind) events
 
 -- the grant that the law reads of an answer to this question, where it was one for the lease
 abbrev pub grant_if : Bool → ℕ → ℕ → Question → Option FailsafeKey → Option Grant
-grant_if true revision moment question failsafe = Some (record { revision = revision; sent = question.sent; moment = moment; ttl = lease_span question.query; failsafe = failsafe })
+grant_if true revision moment question failsafe = Some (record {
+  revision = revision;
+  sent = question.sent;
+  moment = moment;
+  ttl = lease_span question.query;
+  failsafe = failsafe;
+})
 grant_if false revision moment question failsafe = None
 
--- the answer of this number carries a grant: of a question that was asked, under the revision that it carries, given as it was sent
-pub record CarriesGrant (past : Past) (i : ℕ) (carried : InFlightFacts) (member : Member) (incarnation sequence request : ℕ) (leased : Bool) : Type 0 where
+-- the answer of this number carries a grant: of a question that was
+-- asked, under the revision that it carries, given as it was sent
+pub record CarriesGrant (past : Past) (i : ℕ) (carried : InFlightFacts) (member : Member)
+    (incarnation sequence request : ℕ) (leased : Bool) : Type 0 where
   pub revision : ℕ
   pub grant : carried.grant ≡ Some (record { revision = revision; by = member.id; leased = leased })
   pub answers : IsAnswerTo past.asked member.id.number incarnation sequence request leased
@@ -55,5 +64,6 @@ pub record CarriesGrant (past : Past) (i : ℕ) (carried : InFlightFacts) (membe
     sequence = sequence;
     leader = seen_of (leader_key_of (find key_cmp keys.Leader carried.snapshot));
     failsafe = failsafe_key_of (find key_cmp keys.Failsafe carried.snapshot);
-    grant = grant_if leased revision carried.sent.0 answers.question (failsafe_key_of (find key_cmp keys.Failsafe carried.snapshot));
+    grant = grant_if leased revision carried.sent.0 answers.question
+        (failsafe_key_of (find key_cmp keys.Failsafe carried.snapshot));
   }))

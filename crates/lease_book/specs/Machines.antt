@@ -25,8 +25,8 @@ abbrev pub run_if : Option AgentProcess → ℕ
 run_if None = 0
 run_if (Some process) = process.incarnation
 
--- the law has the deadline, the hold, the incarnation and the writing of each member as the book leaves them, and the book has each of these
--- for each agent
+-- the law has the deadline, the hold, the incarnation and the writing of each
+-- member as the book leaves them, and the book has each of these for each agent
 pub record IsSameMachines (past : Past) (facts : Facts) : Type 0 where
   pub deadline_count : length facts.deadlines ≡ length facts.processes
   pub hold_count : length facts.holds ≡ length facts.processes
@@ -38,5 +38,6 @@ pub record IsSameMachines (past : Past) (facts : Facts) : Type 0 where
 
 -- where this event feeds the watchdog of this member, it does so by a grant
 abbrev pub FeedsByGrants : ℕ → EventKind → Type 0
-FeedsByGrants m (kinds.Watchdog (watchdogs.Fed member until (bases.Acknowledgements members sequence))) = member.id.number ≡ m → ⊥
+FeedsByGrants m (kinds.Watchdog (watchdogs.Fed member until (bases.Acknowledgements members sequence))) =
+    member.id.number ≡ m → ⊥
 FeedsByGrants m _ = Unit {0}

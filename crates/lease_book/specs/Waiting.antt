@@ -9,11 +9,13 @@ use Rattle.lease_model.specs.Leases.{Question}
 
 -- a question of this name that was asked is this one
 abbrev pub IsAskedOnce : (ℕ → Option Question) → Question → Type 0
-IsAskedOnce asked question = (i : ℕ) (q : Question) → asked i ≡ Some q → q.member ≡ question.member → q.incarnation ≡ question.incarnation → q.sequence ≡ question.sequence → q ≡ question
+IsAskedOnce asked question = (i : ℕ) (q : Question) → asked i ≡ Some q → q.member ≡ question.member
+    → q.incarnation ≡ question.incarnation → q.sequence ≡ question.sequence → q ≡ question
 
 -- in this incarnation the member asked under no number above this one
 abbrev pub IsLastAsked : (ℕ → Option Question) → ℕ → ℕ → ℕ → Type 0
-IsLastAsked asked m incarnation last = (i : ℕ) (q : Question) → asked i ≡ Some q → q.member ≡ m → q.incarnation ≡ incarnation → q.sequence ≤ last
+IsLastAsked asked m incarnation last =
+    (i : ℕ) (q : Question) → asked i ≡ Some q → q.member ≡ m → q.incarnation ≡ incarnation → q.sequence ≤ last
 
 -- the member asked in no incarnation after this one
 abbrev pub IsLastRun : (ℕ → Option Question) → ℕ → ℕ → Type 0
@@ -26,5 +28,6 @@ AsksFrom P _ to incarnation sequence = Unit {0}
 
 -- of the question that this event sends, if it sends one, this holds by its name
 abbrev pub AsksOnly : (ℕ → ℕ → ℕ → Type 0) → EventKind → Type 0
-AsksOnly P (kinds.Message (Sent number message)) = AsksFrom P message.from message.to message.incarnation message.sequence
+AsksOnly P (kinds.Message (Sent number message)) =
+    AsksFrom P message.from message.to message.incarnation message.sequence
 AsksOnly P _ = Unit {0}

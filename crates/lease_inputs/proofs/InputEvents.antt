@@ -56,38 +56,52 @@ module _ (member : Member) (incarnation heard : ℕ) (Q : Output → Type 0) whe
   loss-mine true = (refl, tt)
   loss-mine false = tt
 
-  begin-mine : (acknowledged : List ℕ) (log : Option (List Entry)) (begins : Option Beginning) → IsToBegin Q → AllKinds Mine (kinds_by member acknowledged log begins)
+  begin-mine : (acknowledged : List ℕ) (log : Option (List Entry)) (begins : Option Beginning) → IsToBegin Q
+      → AllKinds Mine (kinds_by member acknowledged log begins)
   begin-mine acknowledged log None is = tt
-  begin-mine acknowledged log (Some (beginnings.AtOnce timeline)) is = ((refl, is), loss-mine (lacks_in (entries_of log) acknowledged))
+  begin-mine acknowledged log (Some (beginnings.AtOnce timeline)) is =
+      ((refl, is), loss-mine (lacks_in (entries_of log) acknowledged))
   begin-mine acknowledged log (Some beginnings.WithItsStart) is = (refl, tt)
 
-  begins-mine : (cluster : Cluster) (found : Option ServerFacts) → IsToBegin Q → AllAre Mine (for_some found (λ s. events_of cluster (begin_kinds member cluster.facts.acknowledged s)))
+  begins-mine : (cluster : Cluster) (found : Option ServerFacts) → IsToBegin Q
+      → AllAre Mine (for_some found (λ s. events_of cluster (begin_kinds member cluster.facts.acknowledged s)))
   begins-mine cluster None is = tt
-  begins-mine cluster (Some s) is = all-kinds Mine cluster (begin_kinds member cluster.facts.acknowledged s) (begin-mine cluster.facts.acknowledged s.log (beginning_of s) is)
+  begins-mine cluster (Some s) is = all-kinds Mine cluster (begin_kinds member cluster.facts.acknowledged s)
+      (begin-mine cluster.facts.acknowledged s.log (beginning_of s) is)
 
   -- it starts again
-  pub again-mine : (acknowledged : List ℕ) (state : State) (s : ServerFacts) → IsToBegin Q → AllKinds Mine (server_restart_in member acknowledged state s)
-  again-mine acknowledged states.Primary s is = (refl, begin-mine acknowledged s.log (Some (again_by s.timeline s.start_delay)) is)
+  pub again-mine : (acknowledged : List ℕ) (state : State) (s : ServerFacts) → IsToBegin Q
+      → AllKinds Mine (server_restart_in member acknowledged state s)
+  again-mine acknowledged states.Primary s is =
+      (refl, begin-mine acknowledged s.log (Some (again_by s.timeline s.start_delay)) is)
   again-mine acknowledged states.Replica s is = (refl, tt)
   again-mine acknowledged _ s is = tt
 
-  restarts-mine : (cluster : Cluster) (found : Option ServerFacts) → IsToBegin Q → AllAre Mine (for_some found (λ s. events_of cluster (server_restart_kinds member cluster.facts.acknowledged s)))
+  restarts-mine : (cluster : Cluster) (found : Option ServerFacts) → IsToBegin Q
+      → AllAre Mine (for_some found (λ s. events_of cluster (server_restart_kinds member cluster.facts.acknowledged s)))
   restarts-mine cluster None is = tt
-  restarts-mine cluster (Some s) is = all-kinds Mine cluster (server_restart_kinds member cluster.facts.acknowledged s) (again-mine cluster.facts.acknowledged s.state s is)
+  restarts-mine cluster (Some s) is = all-kinds Mine cluster
+      (server_restart_kinds member cluster.facts.acknowledged s) (again-mine cluster.facts.acknowledged s.state s is)
 
   follow-mine : (leader : Option Member) → HoldsIf Mine (following_of member leader)
   follow-mine None = tt
   follow-mine (Some leader) = refl
 
-  upstream-mine : (leader : Option Member) (test : Bool) → HoldsIf Mine (if test then following_of member leader else None)
+  upstream-mine : (leader : Option Member) (test : Bool)
+      → HoldsIf Mine (if test then following_of member leader else None)
   upstream-mine leader true = follow-mine leader
   upstream-mine leader false = tt
 
-  stop-mine : (test : Bool) → Mine (if test then kinds.Server (servers.Ended (server_of member)) else kinds.Server (servers.Stops (server_of member)))
+  stop-mine : (test : Bool)
+      → Mine (if test then kinds.Server (servers.Ended (server_of member))
+      else kinds.Server (servers.Stops (server_of member)))
   stop-mine true = refl
   stop-mine false = refl
 
-  started-mine : (leader : Option Member) (test : Bool) → AllKinds Mine (if test then kinds.Server (servers.StartsAsReplica (server_of member)) ∷ kinds_of (following_of member leader) else [])
+  started-mine : (leader : Option Member) (test : Bool)
+      → AllKinds Mine
+      (if test then kinds.Server (servers.StartsAsReplica (server_of member)) ∷ kinds_of (following_of member leader)
+      else [])
   started-mine leader true = (refl, one-kind Mine (following_of member leader) (follow-mine leader))
   started-mine leader false = tt
 
@@ -95,85 +109,155 @@ module _ (member : Member) (incarnation heard : ℕ) (Q : Output → Type 0) whe
   unless-mine kind true is = tt
   unless-mine kind false is = is
 
-  starts-mine : (cluster : Cluster) (leader : Option Member) (found : Option ServerFacts) → AllAre Mine (for_some found (λ s. events_of cluster (replica_start_kinds member leader s)))
+  starts-mine : (cluster : Cluster) (leader : Option Member) (found : Option ServerFacts)
+      → AllAre Mine (for_some found (λ s. events_of cluster (replica_start_kinds member leader s)))
   starts-mine cluster leader None = tt
-  starts-mine cluster leader (Some s) = all-kinds Mine cluster (replica_start_kinds member leader s) (started-mine leader (is_down s.state))
+  starts-mine cluster leader (Some s) =
+      all-kinds Mine cluster (replica_start_kinds member leader s) (started-mine leader (is_down s.state))
 
-  stops-mine : (cluster : Cluster) (reason : Reason) (found : Option ServerFacts) → AllAre Mine (for_some found (λ s. events_of cluster (stop_kinds member reason s)))
+  stops-mine : (cluster : Cluster) (reason : Reason) (found : Option ServerFacts)
+      → AllAre Mine (for_some found (λ s. events_of cluster (stop_kinds member reason s)))
   stops-mine cluster reason None = tt
   stops-mine cluster reason (Some s) =
-      all-kinds Mine cluster (stop_kinds member reason s) (tt, one-kind Mine (stop_of member s) (holds-if Mine (is_up s.state) (stop_kind member s.state s.stop_delay) (stop-mine (is_primary s.state && s.stop_delay.0 == 0))))
+      all-kinds Mine cluster (stop_kinds member reason s) (
+        tt,
+        one-kind Mine (stop_of member s)
+            (holds-if Mine (is_up s.state) (stop_kind member s.state s.stop_delay)
+            (stop-mine (is_primary s.state && s.stop_delay.0 == 0))),
+      )
 
   lost-mine : (test : Bool) (number : ℕ) → AllKinds Mine (lost_at_once test number)
   lost-mine true number = (tt, tt)
   lost-mine false number = tt
 
-  sends-mine : (cluster : Cluster) (sequence : ℕ) (body : Body) (found : Option AgentProcess) → ((process : AgentProcess) → found ≡ Some process → process.incarnation ≡ incarnation) → Q (outputs.Send targets.Store sequence body)
+  sends-mine : (cluster : Cluster) (sequence : ℕ) (body : Body) (found : Option AgentProcess)
+      → ((process : AgentProcess) → found ≡ Some process → process.incarnation ≡ incarnation)
+      → Q (outputs.Send targets.Store sequence body)
       → AllAre Mine (sending_events cluster member found (Some ends.Store) sequence body)
   sends-mine cluster sequence body None runs is = tt
   sends-mine cluster sequence body (Some process) runs is =
-      all-kinds Mine cluster (kinds.Message (Sent (cluster.facts.sent + 1) (agent_message member ends.Store process.incarnation sequence body)) ∷ lost_at_once (nat_le most_in_flight (length cluster.facts.flight)) (cluster.facts.sent + 1))
-      (Asks (record { sequence = sequence; body = body; is = ap (λ (r : ℕ). agent_message member ends.Store r sequence body) (runs process refl); from = is }), lost-mine (nat_le most_in_flight (length cluster.facts.flight)) (cluster.facts.sent + 1))
+      all-kinds Mine cluster
+      (kinds.Message (Sent (cluster.facts.sent + 1) (agent_message member ends.Store process.incarnation sequence body))
+      ∷ lost_at_once (nat_le most_in_flight (length cluster.facts.flight)) (cluster.facts.sent + 1)) (
+        Asks (record {
+          sequence = sequence;
+          body = body;
+          is = ap (λ (r : ℕ). agent_message member ends.Store r sequence body) (runs process refl);
+          from = is;
+        }),
+        lost-mine (nat_le most_in_flight (length cluster.facts.flight)) (cluster.facts.sent + 1),
+      )
 
-  asks-mine : (cluster : Cluster) (id : MemberId) (sequence : ℕ) (body : Body) (found : Option AgentProcess) (peer : Option Member) → IsAsk body → ((process : AgentProcess) → found ≡ Some process → process.incarnation ≡ incarnation) → Q (outputs.Send (targets.Member id) sequence body)
-      → AllAre Mine (sending_events cluster member found (option_map (λ (m : Member). ends.Member m) peer) sequence body)
+  asks-mine : (cluster : Cluster) (id : MemberId) (sequence : ℕ) (body : Body) (found : Option AgentProcess)
+      (peer : Option Member) → IsAsk body
+      → ((process : AgentProcess) → found ≡ Some process → process.incarnation ≡ incarnation)
+      → Q (outputs.Send (targets.Member id) sequence body)
+      → AllAre Mine
+      (sending_events cluster member found (option_map (λ (m : Member). ends.Member m) peer) sequence body)
   asks-mine cluster id sequence body None peer ask runs is = tt
   asks-mine cluster id sequence body (Some process) None ask runs is = tt
   asks-mine cluster id sequence body (Some process) (Some peer) ask runs is =
-      all-kinds Mine cluster (kinds.Message (Sent (cluster.facts.sent + 1) (agent_message member (ends.Member peer) process.incarnation sequence body)) ∷ lost_at_once (nat_le most_in_flight (length cluster.facts.flight)) (cluster.facts.sent + 1))
-      (AsksPeer peer id sequence body ask (ap (λ (r : ℕ). agent_message member (ends.Member peer) r sequence body) (runs process refl)) is, lost-mine (nat_le most_in_flight (length cluster.facts.flight)) (cluster.facts.sent + 1))
+      all-kinds Mine cluster
+      (kinds.Message (Sent (cluster.facts.sent + 1)
+      (agent_message member (ends.Member peer) process.incarnation sequence body))
+      ∷ lost_at_once (nat_le most_in_flight (length cluster.facts.flight)) (cluster.facts.sent + 1)) (
+        AsksPeer peer id sequence body ask
+            (ap (λ (r : ℕ). agent_message member (ends.Member peer) r sequence body) (runs process refl)) is,
+        lost-mine (nat_le most_in_flight (length cluster.facts.flight)) (cluster.facts.sent + 1),
+      )
 
-  replies-mine : (cluster : Cluster) (id : MemberId) (asked sequence : ℕ) (answer : PeerAnswer) (peer : Option Member) → Q (outputs.Answer id asked sequence answer)
-      → AllAre Mine (replying_events cluster member (option_map (λ (m : Member). ends.Member m) peer) asked sequence (bodies.Answer answer))
+  replies-mine : (cluster : Cluster) (id : MemberId) (asked sequence : ℕ) (answer : PeerAnswer) (peer : Option Member)
+      → Q (outputs.Answer id asked sequence answer)
+      → AllAre Mine
+      (replying_events cluster member (option_map (λ (m : Member). ends.Member m) peer) asked sequence
+      (bodies.Answer answer))
   replies-mine cluster id asked sequence answer None is = tt
   replies-mine cluster id asked sequence answer (Some peer) is =
-      all-kinds Mine cluster (kinds.Message (Sent (cluster.facts.sent + 1) (agent_message member (ends.Member peer) asked sequence (bodies.Answer answer))) ∷ lost_at_once (nat_le most_in_flight (length cluster.facts.flight)) (cluster.facts.sent + 1))
-      (AnswersPeer peer id asked sequence answer refl is, lost-mine (nat_le most_in_flight (length cluster.facts.flight)) (cluster.facts.sent + 1))
+      all-kinds Mine cluster
+      (kinds.Message (Sent (cluster.facts.sent + 1)
+      (agent_message member (ends.Member peer) asked sequence (bodies.Answer answer)))
+      ∷ lost_at_once (nat_le most_in_flight (length cluster.facts.flight)) (cluster.facts.sent + 1)) (
+        AnswersPeer peer id asked sequence answer refl is,
+        lost-mine (nat_le most_in_flight (length cluster.facts.flight)) (cluster.facts.sent + 1),
+      )
 
-  says-mine : (cluster : Cluster) (id : MemberId) (asked sequence : ℕ) (accepted : Bool) (peer : Option Member) → ((found : Member) → peer ≡ Some found → found.id.number ≡ id.number) → Q (outputs.FailsafeAnswer id asked sequence accepted)
-      → AllAre Mine (replying_events cluster member (option_map (λ (m : Member). ends.Member m) peer) asked sequence (bodies.FailsafeAnswer accepted))
+  says-mine : (cluster : Cluster) (id : MemberId) (asked sequence : ℕ) (accepted : Bool) (peer : Option Member)
+      → ((found : Member) → peer ≡ Some found → found.id.number ≡ id.number)
+      → Q (outputs.FailsafeAnswer id asked sequence accepted)
+      → AllAre Mine
+      (replying_events cluster member (option_map (λ (m : Member). ends.Member m) peer) asked sequence
+      (bodies.FailsafeAnswer accepted))
   says-mine cluster id asked sequence accepted None at is = tt
   says-mine cluster id asked sequence accepted (Some peer) at is =
-      all-kinds Mine cluster (kinds.Message (Sent (cluster.facts.sent + 1) (agent_message member (ends.Member peer) asked sequence (bodies.FailsafeAnswer accepted))) ∷ lost_at_once (nat_le most_in_flight (length cluster.facts.flight)) (cluster.facts.sent + 1))
-      (AnswersRequest peer id asked sequence accepted (at peer refl) refl is, lost-mine (nat_le most_in_flight (length cluster.facts.flight)) (cluster.facts.sent + 1))
+      all-kinds Mine cluster
+      (kinds.Message (Sent (cluster.facts.sent + 1)
+      (agent_message member (ends.Member peer) asked sequence (bodies.FailsafeAnswer accepted)))
+      ∷ lost_at_once (nat_le most_in_flight (length cluster.facts.flight)) (cluster.facts.sent + 1)) (
+        AnswersRequest peer id asked sequence accepted (at peer refl) refl is,
+        lost-mine (nat_le most_in_flight (length cluster.facts.flight)) (cluster.facts.sent + 1),
+      )
 
-  holds-mine : (until : Ticks) (run sequence : ℕ) (id : MemberId) (peer : Option Member) → ((found : Member) → peer ≡ Some found → found.id.number ≡ id.number) → Q (outputs.HoldTaken until id sequence) → HoldsIf Mine (option_map (hold_taken member until run sequence) peer)
+  holds-mine : (until : Ticks) (run sequence : ℕ) (id : MemberId) (peer : Option Member)
+      → ((found : Member) → peer ≡ Some found → found.id.number ≡ id.number) → Q (outputs.HoldTaken until id sequence)
+      → HoldsIf Mine (option_map (hold_taken member until run sequence) peer)
   holds-mine until run sequence id None at is = tt
   holds-mine until run sequence id (Some peer) at is = (refl, record { id = id; at = at peer refl; by = is })
 
-  kinds-mine : (cluster : Cluster) (kind : Option EventKind) → HoldsIf Mine kind → AllAre Mine (events_of cluster (kinds_of kind))
+  kinds-mine : (cluster : Cluster) (kind : Option EventKind) → HoldsIf Mine kind
+      → AllAre Mine (events_of cluster (kinds_of kind))
   kinds-mine cluster kind is = all-kinds Mine cluster (kinds_of kind) (one-kind Mine kind is)
 
-  server-order-mine : (cluster : Cluster) (order : ServerFacts → Option EventKind) → ((s : ServerFacts) → HoldsIf Mine (order s)) → AllAre Mine (server_order_events cluster member order)
-  server-order-mine cluster order all = kinds-mine cluster (option_and_then order (server_at cluster member)) (holds-then Mine order (server_at cluster member) all)
+  server-order-mine : (cluster : Cluster) (order : ServerFacts → Option EventKind)
+      → ((s : ServerFacts) → HoldsIf Mine (order s)) → AllAre Mine (server_order_events cluster member order)
+  server-order-mine cluster order all = kinds-mine cluster (option_and_then order (server_at cluster member))
+      (holds-then Mine order (server_at cluster member) all)
 
-  pub output-mine : (cluster : Cluster) (message : HeardMessage) → message.number ≡ heard → RunsAmong member incarnation cluster.facts
+  pub output-mine : (cluster : Cluster) (message : HeardMessage) → message.number ≡ heard
+      → RunsAmong member incarnation cluster.facts
       → (output : Output) → IsOfTable output → Q output → AllAre Mine (output_events member message cluster output)
-  output-mine cluster message at runs (outputs.Send targets.Store sequence body) table is = sends-mine cluster sequence body (slice_get cluster.facts.processes member.id.number) runs.process is
-  output-mine cluster message at runs (outputs.Send (targets.Member id) sequence body) table is = asks-mine cluster id sequence body (slice_get cluster.facts.processes member.id.number) (slice_get cluster.facts.members id.number) table runs.process is
-  output-mine cluster message at runs (outputs.Answer to asked sequence answer) table is = replies-mine cluster to asked sequence answer (slice_get cluster.facts.members to.number) is
+  output-mine cluster message at runs (outputs.Send targets.Store sequence body) table is =
+      sends-mine cluster sequence body (slice_get cluster.facts.processes member.id.number) runs.process is
+  output-mine cluster message at runs (outputs.Send (targets.Member id) sequence body) table is =
+      asks-mine cluster id sequence body (slice_get cluster.facts.processes member.id.number)
+      (slice_get cluster.facts.members id.number) table runs.process is
+  output-mine cluster message at runs (outputs.Answer to asked sequence answer) table is =
+      replies-mine cluster to asked sequence answer (slice_get cluster.facts.members to.number) is
   output-mine cluster message at runs outputs.Begin table is = begins-mine cluster (server_at cluster member) (inl is)
-  output-mine cluster message at runs (outputs.StartReplica leader) table is = starts-mine cluster (declared_member cluster.facts.members leader) (server_at cluster member)
-  output-mine cluster message at runs (outputs.Stop reason) table is = stops-mine cluster reason (server_at cluster member)
+  output-mine cluster message at runs (outputs.StartReplica leader) table is =
+      starts-mine cluster (declared_member cluster.facts.members leader) (server_at cluster member)
+  output-mine cluster message at runs (outputs.Stop reason) table is =
+      stops-mine cluster reason (server_at cluster member)
   output-mine cluster message at runs outputs.ShutDown table is =
-      server-order-mine cluster (stop_of member) (λ s. holds-if Mine (is_up s.state) (stop_kind member s.state s.stop_delay) (stop-mine (is_primary s.state && s.stop_delay.0 == 0)))
-  output-mine cluster message at runs (outputs.Restart as_primary) table is = restarts-mine cluster (server_at cluster member) (inr (as_primary, is))
+      server-order-mine cluster (stop_of member)
+      (λ s. holds-if Mine (is_up s.state) (stop_kind member s.state s.stop_delay)
+      (stop-mine (is_primary s.state && s.stop_delay.0 == 0)))
+  output-mine cluster message at runs (outputs.Restart as_primary) table is =
+      restarts-mine cluster (server_at cluster member) (inr (as_primary, is))
   output-mine cluster message at runs outputs.Wipe table is =
-      server-order-mine cluster (wipe_of member) (λ s. unless-mine (kinds.Log (logs.Wiped (server_of member))) (is_creating s.state || live s.state) refl)
+      server-order-mine cluster (wipe_of member)
+      (λ s. unless-mine (kinds.Log (logs.Wiped (server_of member))) (is_creating s.state || live s.state) refl)
   output-mine cluster message at runs (outputs.Follow leader) table is =
       let found = slice_get cluster.facts.members leader.number in
       server-order-mine cluster (upstream_of member found) (λ s. upstream-mine found (is_replica s.state))
   output-mine cluster message at runs (outputs.Repair leader repair) table is =
       let found = slice_get cluster.facts.members leader.number in
       kinds-mine cluster (option_and_then (repair_over cluster.facts.cuts cluster.facts.servers member repair) found)
-      (repaired-holds Mine cluster.facts.cuts cluster.facts.servers member repair found (λ other r. refl) (λ other. refl))
+      (repaired-holds Mine cluster.facts.cuts cluster.facts.servers member repair found (λ other r. refl)
+      (λ other. refl))
   output-mine cluster message at runs (outputs.Require required) table is =
       server-order-mine cluster (require_of cluster.facts.members member required)
-      (λ s. unless-mine (kinds.Replication (replications.RequiredSet (server_of member) required (required_names cluster.facts.members required))) (is_same_required s.required required) refl)
-  output-mine cluster message at runs (outputs.Armed until) table is = all-kinds Mine cluster (feed_kinds member message.sent (arming member until message)) (refl, ((refl, at, is), tt))
-  output-mine cluster message at runs (outputs.Fed until) table is = all-kinds Mine cluster (feed_kinds member message.sent (feeding member until message)) (refl, ((refl, ByGrant (ap (λ (n : ℕ). bases.Grant n) at) is), tt))
+      (λ s.
+      unless-mine (kinds.Replication (replications.RequiredSet (server_of member) required
+      (required_names cluster.facts.members required)))
+      (is_same_required s.required required) refl)
+  output-mine cluster message at runs (outputs.Armed until) table is =
+      all-kinds Mine cluster (feed_kinds member message.sent (arming member until message)) (refl, ((refl, at, is), tt))
+  output-mine cluster message at runs (outputs.Fed until) table is =
+      all-kinds Mine cluster (feed_kinds member message.sent (feeding member until message))
+      (refl, ((refl, ByGrant (ap (λ (n : ℕ). bases.Grant n) at) is), tt))
   output-mine cluster message at runs (outputs.FedByFailsafe until members sequence since) table is =
-      all-kinds Mine cluster (feed_kinds member since (failsafe_feeding member until members sequence)) (refl, ((refl, ByFailsafe members sequence since refl is), tt))
+      all-kinds Mine cluster (feed_kinds member since (failsafe_feeding member until members sequence))
+      (refl, ((refl, ByFailsafe members sequence since refl is), tt))
   output-mine cluster message at runs outputs.StaysByFailsafe table is = (tt, tt)
   output-mine cluster message at runs outputs.Disarmed table is = (refl, tt)
   output-mine cluster message at runs (outputs.Note note) table is = (tt, tt)
@@ -181,6 +265,10 @@ module _ (member : Member) (incarnation heard : ℕ) (Q : Output → Type 0) whe
   output-mine cluster message at runs (outputs.Told request told) table is =
       let agent = agent_at cluster.agents member.id.number in
       kinds-mine cluster (told_kind member agent told) (told-holds Mine member agent told (λ reply. tt))
-  output-mine cluster message at runs (outputs.FailsafeAnswer to asked sequence accepted) table is = says-mine cluster to asked sequence accepted (slice_get cluster.facts.members to.number) (runs.numbered to.number) is
+  output-mine cluster message at runs (outputs.FailsafeAnswer to asked sequence accepted) table is = says-mine cluster
+      to asked sequence accepted (slice_get cluster.facts.members to.number) (runs.numbered to.number) is
   output-mine cluster message at runs (outputs.HoldTaken until from sequence) table is =
-      kinds-mine cluster (option_map (hold_taken member until message.incarnation sequence) (slice_get cluster.facts.members from.number)) (holds-mine until message.incarnation sequence from (slice_get cluster.facts.members from.number) (runs.numbered from.number) is)
+      kinds-mine cluster
+      (option_map (hold_taken member until message.incarnation sequence) (slice_get cluster.facts.members from.number))
+      (holds-mine until message.incarnation sequence from (slice_get cluster.facts.members from.number)
+      (runs.numbered from.number) is)

@@ -119,13 +119,42 @@ pub record IsBegun (m : ℕ) (cluster later : Cluster) : Type 0 where
   pub bases : later.failsafe_deadlines ≡ cluster.failsafe_deadlines
   pub sent : later.facts.sent ≡ cluster.facts.sent
 
-pub begun-by : (m : ℕ) (cluster : Cluster) (heard : Option ℕ) (kind : EventKind) → IsOpening heard kind → IsBegun m cluster (cluster_after cluster kind)
-begun-by m cluster heard (kinds.Agent (agents.Woken by)) is = record { processes = refl; clock = refl; servers = refl; deadlines = refl; holds = refl; members = refl; bases = refl; sent = refl }
-begun-by m cluster heard (kinds.Agent (agents.Operated by action)) is = record { processes = refl; clock = refl; servers = refl; deadlines = refl; holds = refl; members = refl; bases = refl; sent = refl }
-begun-by m cluster heard (kinds.Message (Delivered number)) is = record { processes = refl; clock = refl; servers = refl; deadlines = refl; holds = refl; members = refl; bases = refl; sent = refl }
+pub begun-by : (m : ℕ) (cluster : Cluster) (heard : Option ℕ) (kind : EventKind) → IsOpening heard kind
+    → IsBegun m cluster (cluster_after cluster kind)
+begun-by m cluster heard (kinds.Agent (agents.Woken by)) is = record {
+  processes = refl;
+  clock = refl;
+  servers = refl;
+  deadlines = refl;
+  holds = refl;
+  members = refl;
+  bases = refl;
+  sent = refl;
+}
+begun-by m cluster heard (kinds.Agent (agents.Operated by action)) is = record {
+  processes = refl;
+  clock = refl;
+  servers = refl;
+  deadlines = refl;
+  holds = refl;
+  members = refl;
+  bases = refl;
+  sent = refl;
+}
+begun-by m cluster heard (kinds.Message (Delivered number)) is = record {
+  processes = refl;
+  clock = refl;
+  servers = refl;
+  deadlines = refl;
+  holds = refl;
+  members = refl;
+  bases = refl;
+  sent = refl;
+}
 begun-by m cluster heard _ is = absurd is
 
-pub opening-addressed : (members : List Member) (mode : Bool) (heard : Option ℕ) (kind : EventKind) → IsOpening heard kind → SendsAddressed members mode kind
+pub opening-addressed : (members : List Member) (mode : Bool) (heard : Option ℕ) (kind : EventKind)
+    → IsOpening heard kind → SendsAddressed members mode kind
 opening-addressed members mode heard (kinds.Agent (agents.Woken by)) is = tt
 opening-addressed members mode heard (kinds.Agent (agents.Operated by action)) is = tt
 opening-addressed members mode heard (kinds.Message (Delivered number)) is = tt
@@ -143,8 +172,8 @@ opening-sent heard (kinds.Agent (agents.Operated by action)) last is = refl
 opening-sent heard (kinds.Message (Delivered number)) last is = refl
 opening-sent heard _ last is = absurd is
 
--- what outputs with this property ask: the key store is asked a question, each question has a number that counts from 1, and none asks to change
--- failsafe mode
+-- what outputs with this property ask: the key store is asked a question, each
+-- question has a number that counts from 1, and none asks to change failsafe mode
 pub record AskWell (mode : Bool) (Q : Output → Type 0) : Type 0 where
   pub store : (sequence : ℕ) (body : Body) → Q (outputs.Send targets.Store sequence body) → IsQuestion body
   pub numbered : (to : Target) (sequence : ℕ) (body : Body) → Q (outputs.Send to sequence body) → 0 < sequence
@@ -152,7 +181,8 @@ pub record AskWell (mode : Bool) (Q : Output → Type 0) : Type 0 where
 
 -- so is a message
 abbrev IsSentWell : Bool → Message → Type 0
-IsSentWell mode message = IsAddressed message.from message.to message.body × ((is_answer message.body ≡ false → 0 < message.sequence) × IsModeAsked mode message.body)
+IsSentWell mode message = IsAddressed message.from message.to message.body
+    × ((is_answer message.body ≡ false → 0 < message.sequence) × IsModeAsked mode message.body)
 
 asks-peer : (body : Body) → IsAsk body → IsPeerBody body
 asks-peer peer_bodies.Ask is = tt
@@ -162,37 +192,55 @@ asks-peer _ is = absurd is
 no-answer : true ≡ false → ⊥
 no-answer e = cc
 
-sent-well : (mode : Bool) (member : Member) (incarnation : ℕ) (Q : Output → Type 0) → AskWell mode Q → (message : Message) → IsMessageOf member incarnation Q message → IsSentWell mode message
+sent-well : (mode : Bool) (member : Member) (incarnation : ℕ) (Q : Output → Type 0) → AskWell mode Q
+    → (message : Message) → IsMessageOf member incarnation Q message → IsSentWell mode message
 sent-well mode member incarnation Q asks message (Asks is) =
-    subst (IsSentWell mode) (sym is.is) (asks.store is.sequence is.body is.from, ((λ _. asks.numbered targets.Store is.sequence is.body is.from), asks.leaves targets.Store is.sequence is.body is.from))
+    subst (IsSentWell mode) (sym is.is) (
+      asks.store is.sequence is.body is.from,
+      (
+        (λ _. asks.numbered targets.Store is.sequence is.body is.from),
+        asks.leaves targets.Store is.sequence is.body is.from,
+      ),
+    )
 sent-well mode member incarnation Q asks message (AsksPeer peer id sequence body ask is from) =
-    subst (IsSentWell mode) (sym is) (asks-peer body ask, ((λ _. asks.numbered (targets.Member id) sequence body from), asks.leaves (targets.Member id) sequence body from))
-sent-well mode member incarnation Q asks message (AnswersPeer peer id asked sequence answer is from) = subst (IsSentWell mode) (sym is) (tt, ((λ e. absurd (no-answer e)), tt))
-sent-well mode member incarnation Q asks message (AnswersRequest peer id asked sequence accepted at is from) = subst (IsSentWell mode) (sym is) (tt, ((λ e. absurd (no-answer e)), tt))
+    subst (IsSentWell mode) (sym is) (
+      asks-peer body ask,
+      ((λ _. asks.numbered (targets.Member id) sequence body from), asks.leaves (targets.Member id) sequence body from),
+    )
+sent-well mode member incarnation Q asks message (AnswersPeer peer id asked sequence answer is from) =
+    subst (IsSentWell mode) (sym is) (tt, ((λ e. absurd (no-answer e)), tt))
+sent-well mode member incarnation Q asks message (AnswersRequest peer id asked sequence accepted at is from) =
+    subst (IsSentWell mode) (sym is) (tt, ((λ e. absurd (no-answer e)), tt))
 
-mine-addressed : (members : List Member) (mode : Bool) (member : Member) (incarnation heard : ℕ) (Q : Output → Type 0) → AskWell mode Q → (kind : EventKind) → IsOfInput member incarnation heard Q kind → GoesBetween members kind → SendsAddressed members mode kind
+mine-addressed : (members : List Member) (mode : Bool) (member : Member) (incarnation heard : ℕ) (Q : Output → Type 0)
+    → AskWell mode Q → (kind : EventKind) → IsOfInput member incarnation heard Q kind
+    → GoesBetween members kind → SendsAddressed members mode kind
 mine-addressed members mode member incarnation heard Q asks (kinds.Message (Sent number message)) is between =
     let well = sent-well mode member incarnation Q asks message is in (well.0, (well.1.0, (well.1.1, between)))
 mine-addressed members mode member incarnation heard Q asks (kinds.Message (Delivered number)) is between = absurd is
 mine-addressed members mode member incarnation heard Q asks (kinds.Message (Lost number)) is between = tt
 mine-addressed members mode member incarnation heard Q asks _ is between = tt
 
-mine-mode : (mode : Bool) (member : Member) (incarnation heard : ℕ) (Q : Output → Type 0) (kind : EventKind) → IsOfInput member incarnation heard Q kind → LeavesMode mode kind
+mine-mode : (mode : Bool) (member : Member) (incarnation heard : ℕ) (Q : Output → Type 0) (kind : EventKind)
+    → IsOfInput member incarnation heard Q kind → LeavesMode mode kind
 mine-mode mode member incarnation heard Q (kinds.Store happening) is = absurd is
 mine-mode mode member incarnation heard Q _ is = tt
 
-both-are : (P R : EventKind → Type 0) (events : List Event) → AllAre P events → AllAre R events → AllAre (λ kind. P kind × R kind) events
+both-are : (P R : EventKind → Type 0) (events : List Event) → AllAre P events → AllAre R events
+    → AllAre (λ kind. P kind × R kind) events
 both-are P R [] p r = tt
 both-are P R (event ∷ events) p r = ((p.0, r.0), both-are P R events p.1 r.1)
 
 -- the premises say that watchdogs work
-pub kept-if-works : (head : HeadText) (book : List Event) (cluster : Cluster) (events : List Event) → (((m : ℕ) → works_of head m ≡ true) → IsKept head book cluster events) → IsKept head book cluster events
+pub kept-if-works : (head : HeadText) (book : List Event) (cluster : Cluster) (events : List Event)
+    → (((m : ℕ) → works_of head m ≡ true) → IsKept head book cluster events) → IsKept head book cluster events
 kept-if-works head book cluster events kept = record {
   inside = λ front rest e meets. (kept meets.hands_off.watched).inside front rest e meets;
   behind = λ meets. (kept meets.hands_off.watched).behind meets;
 }
 
-volatile-same : (a b : Bool) (x y : Option _) → a ≡ b → x ≡ y → ◌≡◌ {A = VolatileState} (record { live = a; agent = x }) (record { live = b; agent = y })
+volatile-same : (a b : Bool) (x y : Option _) → a ≡ b → x ≡ y
+    → ◌≡◌ {A = VolatileState} (record { live = a; agent = x }) (record { live = b; agent = y })
 volatile-same a b x y p q = cc
 
 -- an agent hears a grant in time, on which it may come to act, since no hold of it is active
@@ -224,14 +272,22 @@ record IsCheck (ask : Ask) (found : Option PendingQuestion) (failsafe_check : Fa
   sequence : failsafe_check.sequence ≡ waited.sequence
   members : failsafe_check.members ≡ set_members ask.members
 
-check-is : (ask : Ask) (found : Option PendingQuestion) (failsafe_check : FailsafeCheck) → check_seen ask found ≡ Some failsafe_check → IsCheck ask found failsafe_check
+check-is : (ask : Ask) (found : Option PendingQuestion) (failsafe_check : FailsafeCheck)
+    → check_seen ask found ≡ Some failsafe_check → IsCheck ask found failsafe_check
 check-is ask None failsafe_check e = absurd (none-some failsafe_check e)
 check-is ask (Some one) failsafe_check e = by (is_staying one.question) refl e
   where
     check-now : FailsafeCheck
-    check-now = record { sequence = one.sequence; ttl = one.ttl.0; sent = one.sent.0; members = set_members ask.members; yes = set_members ask.acknowledged }
+    check-now = record {
+      sequence = one.sequence;
+      ttl = one.ttl.0;
+      sent = one.sent.0;
+      members = set_members ask.members;
+      yes = set_members ask.acknowledged;
+    }
 
-    by : (test : Bool) → is_staying one.question ≡ test → (if test then Some check-now else None) ≡ Some failsafe_check → IsCheck ask (Some one) failsafe_check
+    by : (test : Bool) → is_staying one.question ≡ test
+        → (if test then Some check-now else None) ≡ Some failsafe_check → IsCheck ask (Some one) failsafe_check
     by true stay same = let is : check-now ≡ failsafe_check = some-is check-now failsafe_check same in record {
       waited = one;
       is = refl;
@@ -246,10 +302,14 @@ both-all : (P Q : Output → Type 0) (outs : List Output) → All P outs → All
 both-all P Q outs p q = λ k d h. (p k d h, q k d h)
 
 -- ---- the input
-module _ (head : HeadText) (book : List Event) (cluster : Cluster) (good : Bridged head book cluster) (member : Member) (agent : AgentFacts) (machine : Machine) (found : IsFound cluster member machine)
-    (here : slice_get cluster.agents member.id.number ≡ Some (Some agent)) (heard : Heard) (hn : Option ℕ) (message : HeardMessage) (opening : EventKind) (opens : IsOpening hn opening)
-    (numbered : (n : ℕ) → hn ≡ Some n → (message.number ≡ n) × (n ≤ cluster.facts.sent)) (low : message.number ≤ cluster.facts.sent)
-    (well : IsHeardWell (declared_of head).failsafe cluster.facts.members (past_of book).flight member heard hn message) where
+module _ (head : HeadText) (book : List Event) (cluster : Cluster) (good : Bridged head book cluster)
+    (member : Member) (agent : AgentFacts) (machine : Machine) (found : IsFound cluster member machine)
+    (here : slice_get cluster.agents member.id.number ≡ Some (Some agent)) (heard : Heard) (hn : Option ℕ)
+    (message : HeardMessage) (opening : EventKind) (opens : IsOpening hn opening)
+    (numbered : (n : ℕ) → hn ≡ Some n → (message.number ≡ n) × (n ≤ cluster.facts.sent))
+    (low : message.number ≤ cluster.facts.sent)
+    (well : IsHeardWell (declared_of head).failsafe cluster.facts.members
+    (past_of book).flight member heard hn message) where
   abbrev M : ℕ
   M = member.id.number
 
@@ -310,34 +370,48 @@ module _ (head : HeadText) (book : List Event) (cluster : Cluster) (good : Bridg
 
   pub runs : RunsAmong member agent.knows.incarnation First.facts
   runs = record {
-    process = λ process e. ap (λ (p : AgentProcess). p.incarnation) (some-is process knows-it.found (sym e ∙ ap (λ (l : List AgentProcess). slice_get l M) begun.processes ∙ knows-it.is)) ∙ sym knows-it.incarnation;
-    numbered = λ n peer e. good.matched.failsafe.numbered n peer (ap (λ (l : List Member). slice_get l n) (sym begun.members) ∙ e);
+    process = λ process e.
+        ap (λ (p : AgentProcess). p.incarnation)
+        (some-is process knows-it.found
+        (sym e ∙ ap (λ (l : List AgentProcess). slice_get l M) begun.processes ∙ knows-it.is))
+        ∙ sym knows-it.incarnation;
+    numbered = λ n peer e.
+        good.matched.failsafe.numbered n peer (ap (λ (l : List Member). slice_get l n) (sym begun.members) ∙ e);
   }
 
   modes : All (AsksMode Mode) After.outputs
-  modes = mode-asked-from Now (points_of cluster member) heard agent.role agent.knows machine (good.matched.waiting.agents M agent here).ends Mode well.told
+  modes = mode-asked-from Now (points_of cluster member) heard agent.role agent.knows machine
+      (good.matched.waiting.agents M agent here).ends Mode well.told
 
   pub mine : AllAre (IsOfInput member agent.knows.incarnation message.number Q) Rest
   mine = each-mine member agent.knows.incarnation message.number Q First message refl runs After.outputs table
-      (both-all (Contains After.outputs) (λ out. SendsBetween agent.knows.sequence After.knows.sequence out × AsksMode Mode out) After.outputs (All-contains_itself After.outputs)
-      (both-all (SendsBetween agent.knows.sequence After.knows.sequence) (AsksMode Mode) After.outputs anew.sends modes))
+      (both-all (Contains After.outputs)
+      (λ out. SendsBetween agent.knows.sequence After.knows.sequence out × AsksMode Mode out) After.outputs
+      (All-contains_itself After.outputs)
+      (both-all (SendsBetween agent.knows.sequence After.knows.sequence)
+      (AsksMode Mode) After.outputs anew.sends modes))
 
   pub stays : Stays M First Later
   stays = stays-over member agent.knows.incarnation message.number Q First Rest mine
 
   -- ---- all its events
-  all-events : (P : EventKind → Type 0) → P opening → ((kind : EventKind) → IsOfInput member agent.knows.incarnation message.number Q kind → P kind) → AllAre P Events
-  all-events P first rest = (first, all-more (IsOfInput member agent.knows.incarnation message.number Q) P Rest rest mine)
+  all-events : (P : EventKind → Type 0) → P opening
+      → ((kind : EventKind) → IsOfInput member agent.knows.incarnation message.number Q kind → P kind) → AllAre P Events
+  all-events P first rest =
+      (first, all-more (IsOfInput member agent.knows.incarnation message.number Q) P Rest rest mine)
 
   pub numbers : AreNumberedAbove cluster.facts.sent Events
   numbers = (
     opening-above cluster.facts.sent hn opening opens,
-    subst (λ (n : ℕ). AreNumberedAbove n Rest) (begun.sent ∙ sym (opening-sent hn opening cluster.facts.sent opens)) (each-numbered member agent.knows.incarnation message First After.outputs runs table),
+    subst (λ (n : ℕ). AreNumberedAbove n Rest) (begun.sent ∙ sym (opening-sent hn opening cluster.facts.sent opens))
+        (each-numbered member agent.knows.incarnation message First After.outputs runs table),
   )
 
   sends : AllAre (SendsOnly (IsSentBy M agent.knows.incarnation Told.clock After.outputs) Told.clock) Events
-  sends = all-events (SendsOnly (IsSentBy M agent.knows.incarnation Told.clock After.outputs) Told.clock) (opening-sends (IsSentBy M agent.knows.incarnation Told.clock After.outputs) Told.clock hn opening opens)
-      (mine-sends member agent.knows.incarnation message.number Q (IsSentBy M agent.knows.incarnation Told.clock After.outputs) Told.clock
+  sends = all-events (SendsOnly (IsSentBy M agent.knows.incarnation Told.clock After.outputs) Told.clock)
+      (opening-sends (IsSentBy M agent.knows.incarnation Told.clock After.outputs) Told.clock hn opening opens)
+      (mine-sends member agent.knows.incarnation message.number Q
+      (IsSentBy M agent.knows.incarnation Told.clock After.outputs) Told.clock
       (record {
         store = λ sequence body query is query-is. AsksStore sequence body query is.0 query-is refl;
         asks = λ to sequence ttl is. AsksMember to sequence ttl is.0 refl;
@@ -352,11 +426,17 @@ module _ (head : HeadText) (book : List Event) (cluster : Cluster) (good : Bridg
   }
 
   stands-all : All (StandsOn heard agent.knows) After.outputs
-  stands-all = (input-asks-from Now (points_of cluster member) heard agent.role agent.knows machine (good.matched.waiting.agents M agent here).ends).stands
+  stands-all =
+      (input-asks-from Now (points_of cluster member) heard agent.role agent.knows machine
+      (good.matched.waiting.agents M agent here).ends).stands
 
   known : (output : Output) → StandsOn heard agent.knows output → IsHeldFor cluster.facts.members output
   known (outputs.HoldTaken until from sequence) stands = elim stands [
-    | inl mine ↦ (member, ap (λ (id : MemberId). slice_get cluster.facts.members id.number) mine.1 ∙ ap (slice_get cluster.facts.members) knows-it.me ∙ well.stands)
+    | inl mine ↦ (
+      member,
+      ap (λ (id : MemberId). slice_get cluster.facts.members id.number) mine.1
+          ∙ ap (slice_get cluster.facts.members) knows-it.me ∙ well.stands,
+    )
     | inr asked ↦ let request = well.asked from asked.0 sequence asked.1 in (request.peer, request.there)
   ]
   known _ stands = tt
@@ -370,7 +450,8 @@ module _ (head : HeadText) (book : List Event) (cluster : Cluster) (good : Bridg
   between : AllAre (GoesBetween (declared_members head)) Rest
   between =
       subst (λ (l : List Member). AllAre (GoesBetween l) Rest) (begun.members ∙ good.matched.members)
-      (each-between member agent.knows.incarnation message First After.outputs (ap (λ (l : List Member). slice_get l M) begun.members ∙ well.stands) runs table)
+      (each-between member agent.knows.incarnation message First After.outputs
+      (ap (λ (l : List Member). slice_get l M) begun.members ∙ well.stands) runs table)
 
   pub small : M < member_count head
   small = subst (λ (n : ℕ). M < n) good.matched.agents_sized (slice_get_within cluster.agents M (Some agent) here)
@@ -383,28 +464,45 @@ module _ (head : HeadText) (book : List Event) (cluster : Cluster) (good : Bridg
 
   pub fitting : AllAre (IsFitting head) Events
   fitting = (
-    (opening-hands_off hn opening opens, (opening-members (member_count head) hn opening opens, (opening-addressed (declared_members head) Mode hn opening opens, opening-mode Mode hn opening opens))),
-    all-more (λ kind. IsOfInput member agent.knows.incarnation message.number Q kind × GoesBetween (declared_members head) kind) (IsFitting head) Rest
+    (
+      opening-hands_off hn opening opens,
+      (
+        opening-members (member_count head) hn opening opens,
+        (opening-addressed (declared_members head) Mode hn opening opens, opening-mode Mode hn opening opens),
+      ),
+    ),
+    all-more (λ kind.
+        IsOfInput member agent.knows.incarnation message.number Q kind × GoesBetween (declared_members head) kind)
+        (IsFitting head) Rest
         (λ kind is. (
           mine-hands_off member agent.knows.incarnation message.number Q kind is.0,
           (
             mine-members member agent.knows.incarnation message.number Q (member_count head) small kind is.0,
-            (mine-addressed (declared_members head) Mode member agent.knows.incarnation message.number Q asks kind is.0 is.1, mine-mode Mode member agent.knows.incarnation message.number Q kind is.0),
+            (
+              mine-addressed (declared_members head) Mode member agent.knows.incarnation message.number Q asks
+                  kind is.0 is.1,
+              mine-mode Mode member agent.knows.incarnation message.number Q kind is.0,
+            ),
           ),
         ))
-        (both-are (IsOfInput member agent.knows.incarnation message.number Q) (GoesBetween (declared_members head)) Rest mine between),
+        (both-are (IsOfInput member agent.knows.incarnation message.number Q)
+        (GoesBetween (declared_members head)) Rest mine between),
   )
 
   fits : Fits head (past_over Told Events) Later
   fits = fits-over head Told cluster Events
-      (own-causal Told cluster.facts Events (all-events IsFromMembers (opening-from hn opening opens) (mine-from member agent.knows.incarnation message.number Q)) numbers)
+      (own-causal Told cluster.facts Events
+      (all-events IsFromMembers (opening-from hn opening opens)
+      (mine-from member agent.knows.incarnation message.number Q))
+      numbers)
       fitting (fits-of head Told cluster good.matched)
 
   -- ---- agents
   clock-is : Now.0 ≡ Told.clock
   clock-is = sym good.matched.store.clock
 
-  pub questions : (i : ℕ) (q : Question) → (past_over Told Events).asked i ≡ Some q → (Told.asked i ≡ Some q) ⊎ IsSentBy M agent.knows.incarnation Told.clock After.outputs (Requested q)
+  pub questions : (i : ℕ) (q : Question) → (past_over Told Events).asked i ≡ Some q
+      → (Told.asked i ≡ Some q) ⊎ IsSentBy M agent.knows.incarnation Told.clock After.outputs (Requested q)
   questions = asked-over (IsSentBy M agent.knows.incarnation Told.clock After.outputs) Told.clock Told Events refl sends
 
   run-is : agent.knows.incarnation ≡ run_in cluster.facts.processes M
@@ -421,7 +519,8 @@ module _ (head : HeadText) (book : List Event) (cluster : Cluster) (good : Bridg
     ends-alone = input-ends Now (points_of cluster member) heard Before (good.matched.waiting.agents M agent here).ends
 
     after-here : slice_get Later.agents M ≡ Some (Some (record { role = After.role; knows = After.knows }))
-    after-here = ap (λ (l : List (Option AgentFacts)). slice_get l M) agents-are ∙ item-here cluster.agents M (agent_after (Some After)) (Some agent) here
+    after-here = ap (λ (l : List (Option AgentFacts)). slice_get l M) agents-are
+        ∙ item-here cluster.agents M (agent_after (Some After)) (Some agent) here
 
     -- ---- the machine
     mirrors-first : Mirrors First M machine
@@ -438,22 +537,27 @@ module _ (head : HeadText) (book : List Event) (cluster : Cluster) (good : Bridg
     pub basis-later : is_set_by_failsafe (slice_get Later.failsafe_deadlines M) ≡ After.machine.by_failsafe
     basis-later =
         let carried = step-carried-out Now (points_of cluster member) heard agent.role agent.knows machine in
-        ap is_set_by_failsafe (each-basis member agent.knows.incarnation message Now First machine After.outputs runs table (ap (λ (l : List Bool). slice_get l M) begun.bases ∙ basis-here))
+        ap is_set_by_failsafe
+        (each-basis member agent.knows.incarnation message Now First machine After.outputs runs table
+        (ap (λ (l : List Bool). slice_get l M) begun.bases ∙ basis-here))
         ∙ ap (λ (x : Machine). x.by_failsafe) (sym carried.machine_is)
 
     pub resembles-later : Resembles Later M After.machine
     resembles-later =
         let carried = step-carried-out Now (points_of cluster member) heard agent.role agent.knows machine in
         subst (λ (x : Machine). Resembles Later M x) (sym carried.machine_is)
-        (each-resembles member agent.knows.incarnation message Now First machine After.outputs runs table held carried.last begun.clock mirrors-first)
+        (each-resembles member agent.knows.incarnation message Now First machine After.outputs runs table held
+        carried.last begun.clock mirrors-first)
 
   -- ---- where it reads of no pause
-  module _ (acts : agent_facts_after cluster opening ≡ with_changed cluster.agents M (agent_after (Some After))) (calm : tells_pause (told_by heard) ≡ false) where
+  module _ (acts : agent_facts_after cluster opening ≡ with_changed cluster.agents M (agent_after (Some After)))
+      (calm : tells_pause (told_by heard) ≡ false) where
     unpaused : is_paused After.knows ≡ false
-    unpaused = false_from_ne_true (is_paused After.knows) (λ e. elim ((step-onward Now (points_of cluster member) heard Before).pauses e) [
-      | inl was ↦ not-false (is_paused agent.knows) knows-it.unpaused was
-      | inr told ↦ not-false (tells_pause (told_by heard)) calm told
-    ])
+    unpaused = false_from_ne_true (is_paused After.knows)
+        (λ e. elim ((step-onward Now (points_of cluster member) heard Before).pauses e) [
+          | inl was ↦ not-false (is_paused agent.knows) knows-it.unpaused was
+          | inr told ↦ not-false (tells_pause (told_by heard)) calm told
+        ])
 
     keeps : KeepsMode Mode After.knows
     keeps = mode-kept Now (points_of cluster member) heard Before Mode well.told knows-it.keeps
@@ -463,14 +567,19 @@ module _ (head : HeadText) (book : List Event) (cluster : Cluster) (good : Bridg
 
     matched-over : IsMatched head (past_over Told Events) Later
     matched-over = matched-from head (past_over Told Events) Later fits
-        (ap (λ (l : List (Option AgentFacts)). length l) (agents-are acts) ∙ length-changed cluster.agents M (agent_after (Some After)) ∙ good.matched.agents_sized)
+        (ap (λ (l : List (Option AgentFacts)). length l) (agents-are acts)
+        ∙ length-changed cluster.agents M (agent_after (Some After)) ∙ good.matched.agents_sized)
         (subst (λ (p : List AgentProcess). KnowThemselves Mode p Later.agents) (sym (processes-are acts))
         (subst (KnowThemselves Mode cluster.facts.processes) (sym (agents-are acts))
-        (knows-after Mode M agent After cluster.facts.processes cluster.agents here anew.who anew.incarnation keeps sees unpaused good.matched.agents)))
-        (λ n. subst (λ (p : List AgentProcess). IsLastRun (past_over Told Events).asked n (run_in p n)) (sym (processes-are acts))
-        (runs-after M Told.clock agent.knows.incarnation After.outputs Told.asked (past_over Told Events).asked cluster.facts.processes run-is questions good.matched.waiting.runs n))
+        (knows-after Mode M agent After cluster.facts.processes cluster.agents here anew.who anew.incarnation
+        keeps sees unpaused good.matched.agents)))
+        (λ n. subst (λ (p : List AgentProcess). IsLastRun (past_over Told Events).asked n (run_in p n))
+        (sym (processes-are acts))
+        (runs-after M Told.clock agent.knows.incarnation After.outputs Told.asked
+        (past_over Told Events).asked cluster.facts.processes run-is questions good.matched.waiting.runs n))
         (subst (AreAgentsSound (past_over Told Events).asked) (sym (agents-are acts))
-        (agents-after M Told.clock Now agent After Told.asked (past_over Told Events).asked cluster.agents here questions anew clock-is (ends-alone acts) good.matched.waiting.agents))
+        (agents-after M Told.clock Now agent After Told.asked (past_over Told Events).asked cluster.agents
+        here questions anew clock-is (ends-alone acts) good.matched.waiting.agents))
 
     behind : past_of (book ++ Events) ≡ past_over Told Events
     behind = past-append first_past book Events
@@ -478,19 +587,24 @@ module _ (head : HeadText) (book : List Event) (cluster : Cluster) (good : Bridg
     matched : IsMatched head (past_of (book ++ Events)) Later
     matched = subst (λ (p : Past). IsMatched head p Later) (sym behind) matched-over
 
-    machine-later : machine_told (past_over Told Events) (volatile_of Later M) M ≡ machine_seen After.role After.knows After.machine (run_in cluster.facts.processes M)
+    machine-later : machine_told (past_over Told Events) (volatile_of Later M) M
+        ≡ machine_seen After.role After.knows After.machine (run_in cluster.facts.processes M)
     machine-later =
         machine-is head (past_over Told Events) Later matched-over M
-        ∙ seen-of Later M (record { role = After.role; knows = After.knows }) After.machine (resembles-later acts) (basis-later acts) (after-here acts)
-        ∙ ap (λ (p : List AgentProcess). machine_seen After.role After.knows After.machine (run_in p M)) (processes-are acts)
+        ∙ seen-of Later M (record { role = After.role; knows = After.knows }) After.machine
+        (resembles-later acts) (basis-later acts) (after-here acts)
+        ∙ ap (λ (p : List AgentProcess). machine_seen After.role After.knows After.machine (run_in p M))
+        (processes-are acts)
 
     member-is : S.members M ≡ machine_seen agent.role agent.knows machine (run_in cluster.facts.processes M)
-    member-is = machine-is head Told cluster good.matched M ∙ seen-of cluster M agent machine (mirrored cluster M machine found.mirrors) found.basis here
+    member-is = machine-is head Told cluster good.matched M
+        ∙ seen-of cluster M agent machine (mirrored cluster M machine found.mirrors) found.basis here
 
     ready : is_ready agent.role ≡ true → machine.by_failsafe ≡ false
     ready e =
         ap (λ (x : MachineSeen). x.by_failsafe) (sym member-is)
-        ∙ good.carried.sound.ready_by_grant M (ap (λ (x : MachineSeen). ready_seen x.agent) member-is ∙ ready-seen agent.role agent.knows ∙ e)
+        ∙ good.carried.sound.ready_by_grant M
+        (ap (λ (x : MachineSeen). ready_seen x.agent) member-is ∙ ready-seen agent.role agent.knows ∙ e)
 
     pub stands : StandsIn S M (run_in cluster.facts.processes M) Now Before
     stands = record {
@@ -503,10 +617,12 @@ module _ (head : HeadText) (book : List Event) (cluster : Cluster) (good : Bridg
       unpaused = knows-it.unpaused;
     }
 
-    gone-if : (o : Option ℕ) (kind : EventKind) → IsOpening o kind → (number : ℕ) → o ≡ Some number → kind ≡ kinds.Message (Delivered number)
+    gone-if : (o : Option ℕ) (kind : EventKind) → IsOpening o kind → (number : ℕ) → o ≡ Some number
+        → kind ≡ kinds.Message (Delivered number)
     gone-if o (kinds.Agent (agents.Woken by)) is number e = absurd (none-some number (sym is ∙ e))
     gone-if o (kinds.Agent (agents.Operated by action)) is number e = absurd (none-some number (sym is ∙ e))
-    gone-if o (kinds.Message (Delivered n)) is number e = ap (λ (k : ℕ). kinds.Message (Delivered k)) (some-is n number (sym is ∙ e))
+    gone-if o (kinds.Message (Delivered n)) is number e =
+        ap (λ (k : ℕ). kinds.Message (Delivered k)) (some-is n number (sym is ∙ e))
     gone-if o _ is number e = absurd is
 
     is-input : IsInputOf S M (run_in cluster.facts.processes M) Before After Theirs
@@ -514,9 +630,11 @@ module _ (head : HeadText) (book : List Event) (cluster : Cluster) (good : Bridg
       feeds = refl;
       takes = refl;
       machine = machine-later;
-      gone = λ number e. heard-gone Told (record { tick = record { 0 = First.facts.clock }; kind = opening }) Rest cluster.facts.sent number (gone-if hn opening opens number e) (numbered number e).1
+      gone = λ number e. heard-gone Told (record { tick = record { 0 = First.facts.clock }; kind = opening })
+          Rest cluster.facts.sent number (gone-if hn opening opens number e) (numbered number e).1
           (subst (λ (n : ℕ). AreNumberedAbove n Rest) (opening-sent hn opening cluster.facts.sent opens) numbers.1);
-      flight = λ i flying e. old-or-sent (IsSentBy M agent.knows.incarnation Told.clock After.outputs) Told.clock Told Events refl sends i flying e;
+      flight = λ i flying e. old-or-sent (IsSentBy M agent.knows.incarnation Told.clock After.outputs)
+          Told.clock Told Events refl sends i flying e;
     }
 
     -- ---- who begins, and what is fed
@@ -532,18 +650,24 @@ module _ (head : HeadText) (book : List Event) (cluster : Cluster) (good : Bridg
       may.0,
       elim may.1 [
         | inl acts ↦ inl acts
-        | inr armed ↦ inr (record { fed = armed.fed; free = armed.free; armed = armed-more member agent.knows.incarnation message M armed.fed.hears.number before more armed.armed })
+        | inr armed ↦ inr (record {
+          fed = armed.fed;
+          free = armed.free;
+          armed = armed-more member agent.knows.incarnation message M armed.fed.hears.number before more armed.armed;
+        })
       ],
     )
 
-    makes : (outs : List Output) (before : List Event) → MayPromote S M Theirs outs → (has_one is_arming outs ≡ true → IsArmedIn M message.number before) → May before M
+    makes : (outs : List Output) (before : List Event) → MayPromote S M Theirs outs
+        → (has_one is_arming outs ≡ true → IsArmedIn M message.number before) → May before M
     makes outs before (inl acts) armed = (refl, inl acts)
     makes outs before (inr may) armed = (
       refl,
       inr (record {
         fed = may.fed;
         free = may.free;
-        armed = subst (λ (n : ℕ). IsArmedIn M n before) (numbered may.fed.hears.number may.fed.hears.heard_is).0 (armed may.armed);
+        armed = subst (λ (n : ℕ). IsArmedIn M n before)
+            (numbered may.fed.hears.number may.fed.hears.heard_is).0 (armed may.armed);
       }),
     )
 
@@ -559,12 +683,15 @@ module _ (head : HeadText) (book : List Event) (cluster : Cluster) (good : Bridg
     begins-all : IsLawfulAnd S M After Theirs → BeginsBehind (MayBeginBehind S (Input M Theirs)) [] Events
     begins-all lawful = (
       opening-begins (May []) hn opening opens,
-      each-begins member agent.knows.incarnation message (MayPromote S M Theirs) May grow makes First machine [] (record { tick = record { 0 = First.facts.clock }; kind = opening } ∷ []) After.outputs (mirrors-first acts)
-          (λ alive. (refl, inl (inl (ap (λ (x : MachineSeen). x.live) stands.member ∙ alive)))) runs table held (step-carried-out Now (points_of cluster member) heard agent.role agent.knows machine).last
+      each-begins member agent.knows.incarnation message (MayPromote S M Theirs) May grow makes First machine []
+          (record { tick = record { 0 = First.facts.clock }; kind = opening } ∷ []) After.outputs (mirrors-first acts)
+          (λ alive. (refl, inl (inl (ap (λ (x : MachineSeen). x.live) stands.member ∙ alive)))) runs table held
+          (step-carried-out Now (points_of cluster member) heard agent.role agent.knows machine).last
           (opening-moments message.number hn opening opens, tt) kept (λ e. absurd (no-one e)) lawful.begins,
     )
 
-    all-front : (xs ys : List Event) → AllAre (KeepsMomentOf message.number) (xs ++ ys) → AllAre (KeepsMomentOf message.number) xs
+    all-front : (xs ys : List Event) → AllAre (KeepsMomentOf message.number) (xs ++ ys)
+        → AllAre (KeepsMomentOf message.number) xs
     all-front [] ys all = tt
     all-front (x ∷ xs) ys all = (all.0, all-front xs ys all.1)
 
@@ -578,18 +705,27 @@ module _ (head : HeadText) (book : List Event) (cluster : Cluster) (good : Bridg
     IsFed b kind = IsFedAs member agent.knows.incarnation message (StandsOn heard agent.knows) b kind
 
     -- the last feed, as the deadline's basis is
-    fed-last : has_one is_feeding After.outputs ≡ true → FedIn member agent.knows.incarnation message (StandsOn heard agent.knows) Basis_ Rest
+    fed-last : has_one is_feeding After.outputs ≡ true
+        → FedIn member agent.knows.incarnation message (StandsOn heard agent.knows) Basis_ Rest
     fed-last is =
         let carried = step-carried-out Now (points_of cluster member) heard agent.role agent.knows machine in
         subst (λ (b : Bool). FedIn member agent.knows.incarnation message (StandsOn heard agent.knows) b Rest)
-        (ap (λ (x : Machine). x.by_failsafe) (sym carried.machine_is) ∙ ap (λ (x : MachineSeen). x.by_failsafe) (sym machine-later))
-        (each-fed member agent.knows.incarnation message (StandsOn heard agent.knows) Now First machine After.outputs stands-all is)
+        (ap (λ (x : Machine). x.by_failsafe) (sym carried.machine_is)
+        ∙ ap (λ (x : MachineSeen). x.by_failsafe) (sym machine-later))
+        (each-fed member agent.knows.incarnation message
+        (StandsOn heard agent.knows) Now First machine After.outputs stands-all is)
 
-    kept-front : (front rest : List Event) (event : Event) → front ++ event ∷ rest ≡ Rest → AllAre (KeepsMomentOf message.number) (First_ ∷ front)
-    kept-front front rest event is = (opening-moments message.number hn opening opens, all-front front (event ∷ rest) (subst (AllAre (KeepsMomentOf message.number)) (sym is) kept))
+    kept-front : (front rest : List Event) (event : Event) → front ++ event ∷ rest ≡ Rest
+        → AllAre (KeepsMomentOf message.number) (First_ ∷ front)
+    kept-front front rest event is = (
+      opening-moments message.number hn opening opens,
+      all-front front (event ∷ rest) (subst (AllAre (KeepsMomentOf message.number)) (sym is) kept),
+    )
 
     -- a feed on acknowledgements is on those that are waited for
-    fed-on : (kind : EventKind) → IsFed true kind → (failsafe_check : FailsafeCheck) → check_seen agent.knows.failsafe agent.knows.waited ≡ Some failsafe_check → IsFedOn M failsafe_check.members failsafe_check.sequence kind
+    fed-on : (kind : EventKind) → IsFed true kind → (failsafe_check : FailsafeCheck)
+        → check_seen agent.knows.failsafe agent.knows.waited ≡ Some failsafe_check
+        → IsFedOn M failsafe_check.members failsafe_check.sequence kind
     fed-on kind fed failsafe_check is =
         let check = check-is agent.knows.failsafe agent.knows.waited failsafe_check is in
         let on = fed.from.asked check.waited check.is check.staying in
@@ -611,14 +747,20 @@ module _ (head : HeadText) (book : List Event) (cluster : Cluster) (good : Bridg
           record {
             by_grant = λ _ granted number e.
                 let same = (numbered number e).0 in (
-                  subst (λ (n : ℕ). AllAre (KeepsMomentOf n) (First_ ∷ fed.front)) same (kept-front fed.front fed.rest fed.event fed.is),
-                  subst (λ (n : ℕ). IsFedBy M n fed.event.kind) same (subst (λ (b : Bool). IsFed b fed.event.kind) granted fed.fed),
+                  subst (λ (n : ℕ). AllAre (KeepsMomentOf n) (First_ ∷ fed.front)) same
+                      (kept-front fed.front fed.rest fed.event fed.is),
+                  subst (λ (n : ℕ). IsFedBy M n fed.event.kind) same
+                      (subst (λ (b : Bool). IsFed b fed.event.kind) granted fed.fed),
                 );
             by_failsafe = λ _ failsafe was failsafe_check there_is checks.
-                let seen : role_seen agent.role agent.knows ≡ was = some-is (role_seen agent.role agent.knows) was (ap (λ (x : MachineSeen). x.agent) (sym member-is) ∙ there_is) in (
-                  ap (λ (x : Agent). x.incarnation) (sym seen) ∙ run-is ∙ ap (λ (x : MachineSeen). x.runs) (sym member-is),
-                  all-more (KeepsMomentOf message.number) KeepsClockAndRuns (First_ ∷ fed.front) (clock-of message.number) (kept-front fed.front fed.rest fed.event fed.is),
-                  fed-on fed.event.kind (subst (λ (b : Bool). IsFed b fed.event.kind) failsafe fed.fed) failsafe_check (ap (λ (x : Agent). x.failsafe_check) seen ∙ checks),
+                let seen : role_seen agent.role agent.knows ≡ was = some-is (role_seen agent.role agent.knows) was
+                (ap (λ (x : MachineSeen). x.agent) (sym member-is) ∙ there_is) in (
+                  ap (λ (x : Agent). x.incarnation) (sym seen) ∙ run-is
+                      ∙ ap (λ (x : MachineSeen). x.runs) (sym member-is),
+                  all-more (KeepsMomentOf message.number) KeepsClockAndRuns (First_ ∷ fed.front)
+                      (clock-of message.number) (kept-front fed.front fed.rest fed.event fed.is),
+                  fed-on fed.event.kind (subst (λ (b : Bool). IsFed b fed.event.kind) failsafe fed.fed) failsafe_check
+                      (ap (λ (x : Agent). x.failsafe_check) seen ∙ checks),
                 );
           },
         )
@@ -627,9 +769,13 @@ module _ (head : HeadText) (book : List Event) (cluster : Cluster) (good : Bridg
     -- the holds that the book has taken behind it are as the law has them
     taken-so : (past_over Told Events).taken ≡ taken_by M Told.clock Takes Told.taken
     taken-so =
-        each-taken member agent.knows.incarnation message Told.clock (past_after Told opening) First After.outputs runs table held (opening-clock hn opening opens Told)
-        ∙ ap (taken_by_outputs member agent.knows.incarnation message Told.clock After.outputs) (opening-taken Told.clock Told.taken hn opening opens)
-        ∙ input-taken member agent.knows.incarnation message cluster.facts.members S.flight hn Told.clock Now (points_of cluster member) Before (good.matched.waiting.agents M agent here).ends refl Told.taken heard well.asked stands-all
+        each-taken member agent.knows.incarnation message Told.clock
+        (past_after Told opening) First After.outputs runs table held (opening-clock hn opening opens Told)
+        ∙ ap (taken_by_outputs member agent.knows.incarnation message Told.clock After.outputs)
+        (opening-taken Told.clock Told.taken hn opening opens)
+        ∙ input-taken member agent.knows.incarnation message cluster.facts.members S.flight hn Told.clock Now
+        (points_of cluster member) Before
+        (good.matched.waiting.agents M agent here).ends refl Told.taken heard well.asked stands-all
 
     volatile-put : (n : ℕ) → volatile_of Later n ≡ put_at (volatile_of cluster) M (volatile_of Later M) n
     volatile-put = by
@@ -637,23 +783,34 @@ module _ (head : HeadText) (book : List Event) (cluster : Cluster) (good : Bridg
         other-way : (n : ℕ) → n ≢ M → volatile_of Later n ≡ volatile_of cluster n
         other-way n other = volatile-same _ _ _ _
             (ap live_now (stays.servers n other ∙ ap (λ (l : List ServerFacts). slice_get l n) begun.servers))
-            (ap agent_now (ap (λ (l : List (Option AgentFacts)). slice_get l n) (agents-are acts) ∙ get-elsewhere cluster.agents M n (agent_after (Some After)) other))
+            (ap agent_now
+            (ap (λ (l : List (Option AgentFacts)). slice_get l n) (agents-are acts)
+            ∙ get-elsewhere cluster.agents M n (agent_after (Some After)) other))
 
         by : (n : ℕ) → volatile_of Later n ≡ put_at (volatile_of cluster) M (volatile_of Later M) n
         by n = elim (cases_eq n M) [
-          | inl same ↦ ap (volatile_of Later) same ∙ sym (put-here (volatile_of cluster) M (volatile_of Later M)) ∙ ap (put_at (volatile_of cluster) M (volatile_of Later M)) (sym same)
+          | inl same ↦ ap (volatile_of Later) same ∙ sym (put-here (volatile_of cluster) M (volatile_of Later M))
+              ∙ ap (put_at (volatile_of cluster) M (volatile_of Later M)) (sym same)
           | inr other ↦ other-way n other ∙ sym (put-there (volatile_of cluster) M (volatile_of Later M) n other)
         ]
 
-    shown : IsShown (declared_of head) book (volatile_of cluster) (record { action = Input M Theirs; events = Events; volatile_states = volatile_of Later })
-    shown = subst (λ (v : ℕ → VolatileState). IsShown (declared_of head) book (volatile_of cluster) (record { action = Input M Theirs; events = Events; volatile_states = v })) (sym (fun_ext volatile-put))
-        (input-shown-of (declared_of head) book (volatile_of cluster) M (volatile_of Later M) hn (has_one is_feeding After.outputs) Takes Events
-        (all-events (IsOwn M) (opening-own M hn opening opens) (mine-own member agent.knows.incarnation message.number Q)) taken-so)
+    shown : IsShown (declared_of head) book (volatile_of cluster)
+        (record { action = Input M Theirs; events = Events; volatile_states = volatile_of Later })
+    shown =
+        subst (λ (v : ℕ → VolatileState). IsShown (declared_of head) book (volatile_of cluster)
+        (record { action = Input M Theirs; events = Events; volatile_states = v }))
+        (sym (fun_ext volatile-put))
+        (input-shown-of (declared_of head) book (volatile_of cluster) M (volatile_of Later M) hn
+        (has_one is_feeding After.outputs) Takes Events
+        (all-events (IsOwn M) (opening-own M hn opening opens)
+        (mine-own member agent.knows.incarnation message.number Q))
+        taken-so)
 
     pub input-kept : (((m : ℕ) → works_of head m ≡ true) → Hears S M hn heard Before) → IsKept head book cluster Events
     input-kept hears = kept-if-works head book cluster Events (λ works.
         let sound = good.matched.waiting.agents M agent here in
-        let lawful = input-lawful-from Now (points_of cluster member) heard agent.role agent.knows machine (λ waited is. (sound.waits waited is).span) sound.ends
+        let lawful = input-lawful-from Now (points_of cluster member) heard agent.role agent.knows machine
+        (λ waited is. (sound.waits waited is).span) sound.ends
         S M (run_in cluster.facts.processes M) Theirs stands (hears works) is-input in
         action-kept head book cluster Events (Input M Theirs) good (begins-all lawful) (λ meets. record {
           lawful = lawful.lawful;
@@ -663,14 +820,19 @@ module _ (head : HeadText) (book : List Event) (cluster : Cluster) (good : Bridg
         }))
 
     -- ---- who comes to act
-    fed-in-time : MeetsPremises head (book ++ Events) → Theirs.feeds ≡ true → Theirs.machine.by_failsafe ≡ false → (grant : Grant) → HeardGrant S M hn grant → IsOnTime (S.declared.margin M) S.clock grant.moment
+    fed-in-time : MeetsPremises head (book ++ Events) → Theirs.feeds ≡ true → Theirs.machine.by_failsafe ≡ false
+        → (grant : Grant) → HeardGrant S M hn grant → IsOnTime (S.declared.margin M) S.clock grant.moment
     fed-in-time meets feeds by_grant grant heard_it = elim (shows-if (has_one is_feeding After.outputs) refl) [
       | inl none ↦ absurd (not-false (has_one is_feeding After.outputs) none feeds)
       | inr told ↦
-          (input-in-time (declared_of head) book (volatile_of cluster) M Theirs told.0 told.1 told.2 (subst (λ (l : List Event). IsTimely (declared_of head).margin (book ++ l)) (sym told.3) meets.timely) told.4).by_grant feeds by_grant grant heard_it
+          (input-in-time (declared_of head) book (volatile_of cluster) M Theirs told.0 told.1 told.2
+          (subst (λ (l : List Event). IsTimely (declared_of head).margin (book ++ l)) (sym told.3) meets.timely)
+          told.4).by_grant
+          feeds by_grant grant heard_it
     ]
 
-    comes-to-act : MeetsPremises head (book ++ Events) → Acts Theirs.machine → (Acts (S.members M) → ⊥) → (was agent_behind : Agent) → WatchdogMay S M Theirs was agent_behind → ArmsInTime S M hn
+    comes-to-act : MeetsPremises head (book ++ Events) → Acts Theirs.machine → (Acts (S.members M) → ⊥)
+        → (was agent_behind : Agent) → WatchdogMay S M Theirs was agent_behind → ArmsInTime S M hn
     comes-to-act meets acts_behind rests was agent_behind (Kept same basis before) = absurd (rests (before acts_behind))
     comes-to-act meets acts_behind rests was agent_behind (Removed none) = absurd (none acts_behind)
     comes-to-act meets acts_behind rests was agent_behind (SetByGrant fed is none free) = record {
@@ -678,14 +840,23 @@ module _ (head : HeadText) (book : List Event) (cluster : Cluster) (good : Bridg
       in_time = fed-in-time meets fed.feeds fed.by_grant fed.fed.grant fed.fed.hears;
       free = elim (free acts_behind) [ inl before ↦ absurd (rests before) | inr ended ↦ ended ];
     }
-    comes-to-act meets acts_behind rests was agent_behind (SetByFailsafe deadline feeds is basis before all) = absurd (rests (before acts_behind))
-    comes-to-act meets acts_behind rests was agent_behind (SetAlone deadline is basis before nobody) = absurd (rests (before acts_behind))
-    comes-to-act meets acts_behind rests was agent_behind (Undone was_ready live_before) = absurd (rests (inl live_before))
+    comes-to-act meets acts_behind rests was agent_behind (SetByFailsafe deadline feeds is basis before all) =
+        absurd (rests (before acts_behind))
+    comes-to-act meets acts_behind rests was agent_behind (SetAlone deadline is basis before nobody) =
+        absurd (rests (before acts_behind))
+    comes-to-act meets acts_behind rests was agent_behind (Undone was_ready live_before) =
+        absurd (rests (inl live_before))
 
-    -- where the premises are met, whoever comes to act in an input armed its watchdog in time, on the grant that it hears
-    pub arms-in-time : ((m : ℕ) → works_of head m ≡ true) → Hears S M hn heard Before → MeetsPremises head (book ++ Events) → Acts (machine_seen After.role After.knows After.machine (run_in cluster.facts.processes M)) → (Acts (S.members M) → ⊥) → ArmsInTime S M hn
+    -- where the premises are met, whoever comes to act in an input
+    -- armed its watchdog in time, on the grant that it hears
+    pub arms-in-time : ((m : ℕ) → works_of head m ≡ true) → Hears S M hn heard Before
+        → MeetsPremises head (book ++ Events)
+        → Acts (machine_seen After.role After.knows After.machine (run_in cluster.facts.processes M))
+        → (Acts (S.members M) → ⊥) → ArmsInTime S M hn
     arms-in-time works hears meets acts_behind rests =
         let sound = good.matched.waiting.agents M agent here in
-        let lawful = input-lawful-from Now (points_of cluster member) heard agent.role agent.knows machine (λ waited is. (sound.waits waited is).span) sound.ends
+        let lawful = input-lawful-from Now (points_of cluster member) heard agent.role agent.knows machine
+        (λ waited is. (sound.waits waited is).span) sound.ends
         S M (run_in cluster.facts.processes M) Theirs stands hears is-input in
-        comes-to-act meets (subst (λ (x : MachineSeen). Acts x) (sym machine-later) acts_behind) rests lawful.lawful.was lawful.lawful.agent lawful.lawful.watchdog
+        comes-to-act meets (subst (λ (x : MachineSeen). Acts x) (sym machine-later) acts_behind) rests
+        lawful.lawful.was lawful.lawful.agent lawful.lawful.watchdog

@@ -97,7 +97,8 @@ seen_started true x = seen_begun x
 seen_started false x = record x { state = states.Replica }
 
 abbrev seen_starting : Bool → Ticks → Seen → Seen
-seen_starting as_primary now x = if x.start.0 == 0 then seen_started as_primary x else record x { state = states.Starting as_primary (moment_after now x.start) }
+seen_starting as_primary now x = if x.start.0 == 0 then seen_started as_primary x
+    else record x { state = states.Starting as_primary (moment_after now x.start) }
 
 abbrev seen_promoted : Seen → Seen
 seen_promoted x = if is_replica x.state then seen_begun x else x
@@ -109,7 +110,8 @@ abbrev seen_primary_started : Ticks → Seen → Seen
 seen_primary_started now x = if is_down x.state && x.was_primary then seen_starting true now x else x
 
 abbrev seen_ending : Ticks → Bool → Seen → Seen
-seen_ending now primary x = if x.stop.0 == 0 then record x { state = states.Stopped } else record x { state = states.Stopping primary (moment_after now x.stop) }
+seen_ending now primary x = if x.stop.0 == 0 then record x { state = states.Stopped }
+    else record x { state = states.Stopping primary (moment_after now x.stop) }
 
 abbrev seen_stopping : Ticks → Seen → Seen
 seen_stopping now x = if is_up x.state then seen_ending now (is_primary x.state) x else x
@@ -142,7 +144,8 @@ no-both e = absurd (way e)
     way e = cc
 
 -- a field of what is chosen
-chosen : {A B : Type 0} (field : A → B) (test : Bool) (x y : A) → field (if test then x else y) ≡ (if test then field x else field y)
+chosen : {A B : Type 0} (field : A → B) (test : Bool) (x y : A)
+    → field (if test then x else y) ≡ (if test then field x else field y)
 chosen field true x y = refl
 chosen field false x y = refl
 
@@ -150,79 +153,106 @@ chosen field false x y = refl
 chosen-same : {A : Type 0} (test : Bool) (x x' y : A) → x ≡ x' → (if test then x else y) ≡ (if test then x' else y)
 chosen-same test x x' y e = ap (λ z. if test then z else y) e
 
-status-started-at : (as_primary : Bool) (s : ServerStatus) → status_seen (status_started as_primary s) ≡ seen_started as_primary (status_seen s)
+status-started-at : (as_primary : Bool) (s : ServerStatus)
+    → status_seen (status_started as_primary s) ≡ seen_started as_primary (status_seen s)
 status-started-at true s = refl
 status-started-at false s = refl
 
-status-starting : (as_primary : Bool) (now : Ticks) (s : ServerStatus) → status_seen (status_starting as_primary now s) ≡ seen_starting as_primary now (status_seen s)
+status-starting : (as_primary : Bool) (now : Ticks) (s : ServerStatus)
+    → status_seen (status_starting as_primary now s) ≡ seen_starting as_primary now (status_seen s)
 status-starting as_primary now s =
-    chosen status_seen (s.start_delay.0 == 0) (status_started as_primary s) (record s { state = states.Starting as_primary (moment_after now s.start_delay) })
-    ∙ chosen-same (s.start_delay.0 == 0) (status_seen (status_started as_primary s)) (seen_started as_primary (status_seen s)) (record (status_seen s) { state = states.Starting as_primary (moment_after now s.start_delay) }) (status-started-at as_primary s)
+    chosen status_seen (s.start_delay.0 == 0) (status_started as_primary s)
+    (record s { state = states.Starting as_primary (moment_after now s.start_delay) })
+    ∙ chosen-same (s.start_delay.0 == 0) (status_seen (status_started as_primary s))
+    (seen_started as_primary (status_seen s))
+    (record (status_seen s) { state = states.Starting as_primary (moment_after now s.start_delay) })
+    (status-started-at as_primary s)
 
 status-promoted : (s : ServerStatus) → status_seen (status_promoted s) ≡ seen_promoted (status_seen s)
-status-promoted s = chosen status_seen (is_replica s.state) (record s { state = states.Primary; timeline = s.timeline + 1; was_primary = true }) s
+status-promoted s = chosen status_seen (is_replica s.state)
+    (record s { state = states.Primary; timeline = s.timeline + 1; was_primary = true }) s
 
-status-replica-started : (now : Ticks) (upstream : Option ServerId) (s : ServerStatus) → status_seen (status_replica_started now upstream s) ≡ seen_replica_started now (status_seen s)
+status-replica-started : (now : Ticks) (upstream : Option ServerId) (s : ServerStatus)
+    → status_seen (status_replica_started now upstream s) ≡ seen_replica_started now (status_seen s)
 status-replica-started now upstream s =
     let behind : ServerStatus = record s { upstream = upstream; was_primary = false } in
     chosen status_seen (is_down s.state) (status_starting false now behind) s
-    ∙ chosen-same (is_down s.state) (status_seen (status_starting false now behind)) (seen_starting false now (status_seen behind)) (status_seen s) (status-starting false now behind)
+    ∙ chosen-same (is_down s.state) (status_seen (status_starting false now behind))
+    (seen_starting false now (status_seen behind)) (status_seen s) (status-starting false now behind)
 
-status-primary-started : (now : Ticks) (s : ServerStatus) → status_seen (status_primary_started now s) ≡ seen_primary_started now (status_seen s)
+status-primary-started : (now : Ticks) (s : ServerStatus)
+    → status_seen (status_primary_started now s) ≡ seen_primary_started now (status_seen s)
 status-primary-started now s =
     chosen status_seen (is_down s.state && s.was_primary) (status_starting true now s) s
-    ∙ chosen-same (is_down s.state && s.was_primary) (status_seen (status_starting true now s)) (seen_starting true now (status_seen s)) (status_seen s) (status-starting true now s)
+    ∙ chosen-same (is_down s.state && s.was_primary) (status_seen (status_starting true now s))
+    (seen_starting true now (status_seen s)) (status_seen s) (status-starting true now s)
 
 -- the order to begin, by the state of the server
-ordered-by : (now : Ticks) (state : State) (was : Bool) (stop start : Ticks) → let x : Seen = record { state = state; was_primary = was; stop = stop; start = start } in seen_primary_started now (seen_promoted x) ≡ seen_begins now state x
+ordered-by : (now : Ticks) (state : State) (was : Bool) (stop start : Ticks) → let x : Seen =
+    record { state = state; was_primary = was; stop = stop; start = start } in
+    seen_primary_started now (seen_promoted x) ≡ seen_begins now state x
 ordered-by now states.Replica was stop start = refl
 ordered-by now states.Stopped was stop start = refl
 ordered-by now states.Crashed was stop start = refl
 ordered-by now _ was stop start = refl
 
-status-begun-seen : (now : Ticks) (s : ServerStatus) → status_seen (status_begun now s) ≡ seen_begins now s.state (status_seen s)
+status-begun-seen : (now : Ticks) (s : ServerStatus)
+    → status_seen (status_begun now s) ≡ seen_begins now s.state (status_seen s)
 status-begun-seen now s =
     status-primary-started now (status_promoted s)
     ∙ ap (seen_primary_started now) (status-promoted s)
     ∙ ordered-by now s.state s.was_primary s.stop_delay s.start_delay
 
-status-stopping : (now : Ticks) (s : ServerStatus) → status_seen (status_stopping now s) ≡ seen_stopping now (status_seen s)
+status-stopping : (now : Ticks) (s : ServerStatus)
+    → status_seen (status_stopping now s) ≡ seen_stopping now (status_seen s)
 status-stopping now s =
     chosen status_seen (is_up s.state) (status_ending now s) s
-    ∙ chosen-same (is_up s.state) (status_seen (status_ending now s)) (seen_ending now (is_primary s.state) (status_seen s)) (status_seen s)
-    (chosen status_seen (s.stop_delay.0 == 0) (record s { state = states.Stopped }) (record s { state = states.Stopping (is_primary s.state) (moment_after now s.stop_delay) }))
+    ∙ chosen-same (is_up s.state) (status_seen (status_ending now s))
+    (seen_ending now (is_primary s.state) (status_seen s)) (status_seen s)
+    (chosen status_seen (s.stop_delay.0 == 0) (record s { state = states.Stopped }) (record s {
+      state = states.Stopping (is_primary s.state) (moment_after now s.stop_delay);
+    }))
 
 status-following : (upstream : ServerId) (s : ServerStatus) → status_seen (status_following upstream s) ≡ status_seen s
 status-following upstream s = by (is_replica s.state)
   where
-    by : (b : Bool) → let after : ServerStatus = (if b then record s { upstream = Some upstream; diverged = false } else s) in status_seen after ≡ status_seen s
+    by : (b : Bool) → let after : ServerStatus =
+        (if b then record s { upstream = Some upstream; diverged = false } else s) in status_seen after ≡ status_seen s
     by true = refl
     by false = refl
 
-status-restarted : (now : Ticks) (state : State) (s : ServerStatus) → status_seen (status_restarted_in state now s) ≡ seen_restarted now state (status_seen s)
+status-restarted : (now : Ticks) (state : State) (s : ServerStatus)
+    → status_seen (status_restarted_in state now s) ≡ seen_restarted now state (status_seen s)
 status-restarted now states.Primary s = status-starting true now s
 status-restarted now states.Replica s = status-starting false now (record s { was_primary = false })
 status-restarted now _ s = refl
 
 status-wiped : (s : ServerStatus) → status_seen (status_wiped s) ≡ seen_wiped (status_seen s)
-status-wiped s = chosen status_seen (live s.state) s (record s { state = states.Creating; end = None; diverged = false })
+status-wiped s =
+    chosen status_seen (live s.state) s (record s { state = states.Creating; end = None; diverged = false })
 
 -- ---- what events make of a server
 begun-seen : (state : State) (s : ServerFacts) → facts_seen (begun_in state s) ≡ seen_begun (facts_seen s)
 begun-seen states.Replica s = refl
 begun-seen _ s = refl
 
-facts-started : (as_primary : Bool) (s : ServerFacts) → facts_seen (started as_primary s) ≡ seen_started as_primary (facts_seen s)
+facts-started : (as_primary : Bool) (s : ServerFacts)
+    → facts_seen (started as_primary s) ≡ seen_started as_primary (facts_seen s)
 facts-started true s = refl
 facts-started false s = refl
 
-facts-starting : (as_primary : Bool) (now : Ticks) (s : ServerFacts) → facts_seen (starting as_primary now s) ≡ seen_starting as_primary now (facts_seen s)
+facts-starting : (as_primary : Bool) (now : Ticks) (s : ServerFacts)
+    → facts_seen (starting as_primary now s) ≡ seen_starting as_primary now (facts_seen s)
 facts-starting as_primary now s =
-    chosen facts_seen (s.start_delay.0 == 0) (started as_primary s) (record s { state = states.Starting as_primary (moment_after now s.start_delay) })
-    ∙ chosen-same (s.start_delay.0 == 0) (facts_seen (started as_primary s)) (seen_started as_primary (facts_seen s)) (record (facts_seen s) { state = states.Starting as_primary (moment_after now s.start_delay) }) (facts-started as_primary s)
+    chosen facts_seen (s.start_delay.0 == 0) (started as_primary s)
+    (record s { state = states.Starting as_primary (moment_after now s.start_delay) })
+    ∙ chosen-same (s.start_delay.0 == 0) (facts_seen (started as_primary s)) (seen_started as_primary (facts_seen s))
+    (record (facts_seen s) { state = states.Starting as_primary (moment_after now s.start_delay) })
+    (facts-started as_primary s)
 
 -- one that is down starts as a replica
-facts-replica-started : (now : ℕ) (s : ServerFacts) → is_down s.state ≡ true → facts_seen (starts_as_replica now s) ≡ seen_replica_started (record { 0 = now }) (facts_seen s)
+facts-replica-started : (now : ℕ) (s : ServerFacts) → is_down s.state ≡ true
+    → facts_seen (starts_as_replica now s) ≡ seen_replica_started (record { 0 = now }) (facts_seen s)
 facts-replica-started now s down =
     let at : Ticks = record { 0 = now } in
     let behind : ServerFacts = record s { upstream = None; was_primary = false } in
@@ -231,7 +261,8 @@ facts-replica-started now s down =
     ∙ sym (ap (λ (b : Bool). if b then seen_starting false at (facts_seen behind) else facts_seen s) down)
 
 -- one that runs as a replica starts again
-replica-again-seen : (now : ℕ) (s : ServerFacts) → s.state ≡ states.Replica → facts_seen (starts_as_replica now s) ≡ seen_restarted (record { 0 = now }) states.Replica (facts_seen s)
+replica-again-seen : (now : ℕ) (s : ServerFacts) → s.state ≡ states.Replica
+    → facts_seen (starts_as_replica now s) ≡ seen_restarted (record { 0 = now }) states.Replica (facts_seen s)
 replica-again-seen now s is =
     ap (λ (state : State). facts_seen (replica_starts_in state (record { 0 = now }) s)) is
     ∙ facts-starting false (record { 0 = now }) (record s { upstream = s.upstream; was_primary = false })
@@ -241,7 +272,8 @@ facts-wiped : (s : ServerFacts) → facts_seen (loses_log s) ≡ seen_wiped (fac
 facts-wiped s = chosen facts_seen (live s.state) (record s { log = None }) (wiped s)
 
 -- one that waits for a copy, or that accepts writes or will, isn't
-unwiped : (state : State) (was : Bool) (stop start : Ticks) → (is_creating state || live state) ≡ true → let x : Seen = record { state = state; was_primary = was; stop = stop; start = start } in seen_wiped x ≡ x
+unwiped : (state : State) (was : Bool) (stop start : Ticks) → (is_creating state || live state) ≡ true → let x : Seen =
+    record { state = state; was_primary = was; stop = stop; start = start } in seen_wiped x ≡ x
 unwiped states.Creating was stop start e = refl
 unwiped states.Primary was stop start e = refl
 unwiped (states.Starting true at) was stop start e = refl
@@ -253,7 +285,8 @@ unwiped states.Replica was stop start e = no-both (sym e)
 unwiped states.Crashed was stop start e = no-both (sym e)
 
 -- one that is down and whose starts take time starts as a primary
-slowly-started : (now : ℕ) (s : ServerFacts) (z : Bool) → (s.start_delay.0 == 0) ≡ z → is_down s.state ≡ true → z ≡ false → facts_seen (starts_as_primary now s) ≡ seen_starting true (record { 0 = now }) (facts_seen s)
+slowly-started : (now : ℕ) (s : ServerFacts) (z : Bool) → (s.start_delay.0 == 0) ≡ z → is_down s.state ≡ true
+    → z ≡ false → facts_seen (starts_as_primary now s) ≡ seen_starting true (record { 0 = now }) (facts_seen s)
 slowly-started now s z e down slow =
     let at : Ticks = record { 0 = now } in
     ap (λ (b : Bool). facts_seen (if b && not (s.start_delay.0 == 0) then starting true at s else s)) down
@@ -261,47 +294,71 @@ slowly-started now s z e down slow =
     ∙ facts-starting true at s
 
 stops-by : (now : Ticks) (s : ServerFacts) (up primary z : Bool) → (primary && z) ≡ false
-    → let after : ServerFacts = (if up && (not primary || not z) then (if z then record s { state = states.Stopped; waiting = [] } else record s { state = states.Stopping primary (moment_after now s.stop_delay) }) else s) in
-    facts_seen after ≡ (if up then (if z then record (facts_seen s) { state = states.Stopped } else record (facts_seen s) { state = states.Stopping primary (moment_after now s.stop_delay) }) else facts_seen s)
+    → let after : ServerFacts =
+    (if up && (not primary || not z) then (if z then record s { state = states.Stopped; waiting = [] } else record s {
+      state = states.Stopping primary (moment_after now s.stop_delay);
+    }) else s) in
+    facts_seen after
+    ≡ (if up
+    then (if z then record (facts_seen s) { state = states.Stopped }
+    else record (facts_seen s) { state = states.Stopping primary (moment_after now s.stop_delay) })
+    else facts_seen s)
 stops-by now s false primary z quiet = refl
 stops-by now s true false true quiet = refl
 stops-by now s true false false quiet = refl
 stops-by now s true true false quiet = refl
 stops-by now s true true true quiet = no-both quiet
 
-stops-seen : (now : ℕ) (s : ServerFacts) → (is_primary s.state && s.stop_delay.0 == 0) ≡ false → facts_seen (stops now s) ≡ seen_stopping (record { 0 = now }) (facts_seen s)
-stops-seen now s quiet = stops-by (record { 0 = now }) s (is_up s.state) (is_primary s.state) (s.stop_delay.0 == 0) quiet
+stops-seen : (now : ℕ) (s : ServerFacts) → (is_primary s.state && s.stop_delay.0 == 0) ≡ false
+    → facts_seen (stops now s) ≡ seen_stopping (record { 0 = now }) (facts_seen s)
+stops-seen now s quiet =
+    stops-by (record { 0 = now }) s (is_up s.state) (is_primary s.state) (s.stop_delay.0 == 0) quiet
 
 -- an end at once
 ended-by : (now : Ticks) (x : Seen) (up primary z : Bool) → up ≡ true → (primary && z) ≡ true
-    → record x { state = states.Stopped } ≡ (if up then (if z then record x { state = states.Stopped } else record x { state = states.Stopping primary (moment_after now x.stop) }) else x)
+    → record x { state = states.Stopped } ≡ (if up then (if z then record x {
+      state = states.Stopped;
+    } else record x { state = states.Stopping primary (moment_after now x.stop) }) else x)
 ended-by now x true true true up is = refl
 ended-by now x true true false up is = no-both (sym is)
 ended-by now x true false z up is = no-both (sym is)
 ended-by now x false primary z up is = no-both (sym up)
 
 -- ---- the server behind an event of its own
-moves : (cluster later : Cluster) (m : ℕ) (change : ServerFacts → ServerFacts) (x after : Seen) → slice_get later.facts.servers m ≡ slice_get (with_changed cluster.facts.servers m change) m
-    → ((s : ServerFacts) → facts_seen s ≡ x → facts_seen (change s) ≡ after) → IsServer cluster m x → IsServer later m after
+moves : (cluster later : Cluster) (m : ℕ) (change : ServerFacts → ServerFacts) (x after : Seen)
+    → slice_get later.facts.servers m ≡ slice_get (with_changed cluster.facts.servers m change) m
+    → ((s : ServerFacts) → facts_seen s ≡ x → facts_seen (change s) ≡ after) → IsServer cluster m x
+    → IsServer later m after
 moves cluster later m change x after same makes old =
-    record { server = change old.server; is = same ∙ item-here cluster.facts.servers m change old.server old.is; seen_is = makes old.server old.seen_is }
+    record {
+      server = change old.server;
+      is = same ∙ item-here cluster.facts.servers m change old.server old.is;
+      seen_is = makes old.server old.seen_is;
+    }
 
-stays-server : (cluster later : Cluster) (m : ℕ) (x : Seen) → slice_get later.facts.servers m ≡ slice_get cluster.facts.servers m → IsServer cluster m x → IsServer later m x
+stays-server : (cluster later : Cluster) (m : ℕ) (x : Seen)
+    → slice_get later.facts.servers m ≡ slice_get cluster.facts.servers m → IsServer cluster m x → IsServer later m x
 stays-server cluster later m x same old = record { server = old.server; is = same ∙ old.is; seen_is = old.seen_is }
 
 as-server : (later : Cluster) (m : ℕ) (x after : Seen) → after ≡ x → IsServer later m x → IsServer later m after
 as-server later m x after e is = record { server = is.server; is = is.is; seen_is = is.seen_is ∙ sym e }
 
 -- an order changes the server alone
-ordered : (cluster later : Cluster) (m : ℕ) (machine : Machine) (after : ServerStatus) (x : Seen) → slice_get later.facts.deadlines m ≡ slice_get cluster.facts.deadlines m → slice_get later.facts.holds m ≡ slice_get cluster.facts.holds m
-    → status_seen after ≡ x → IsServer later m x → Mirrors cluster m machine → Mirrors later m (with_server after machine)
+ordered : (cluster later : Cluster) (m : ℕ) (machine : Machine) (after : ServerStatus) (x : Seen)
+    → slice_get later.facts.deadlines m ≡ slice_get cluster.facts.deadlines m
+    → slice_get later.facts.holds m ≡ slice_get cluster.facts.holds m
+    → status_seen after ≡ x → IsServer later m x → Mirrors cluster m machine
+    → Mirrors later m (with_server after machine)
 ordered cluster later m machine after x deadlines holds e is old = record {
   server = as-server later m x (status_seen after) e is;
   deadline = deadlines ∙ old.deadline;
   hold = holds ∙ old.hold;
 }
 
-unmoved : (cluster later : Cluster) (m : ℕ) (machine : Machine) → slice_get later.facts.servers m ≡ slice_get cluster.facts.servers m → slice_get later.facts.deadlines m ≡ slice_get cluster.facts.deadlines m → slice_get later.facts.holds m ≡ slice_get cluster.facts.holds m
+unmoved : (cluster later : Cluster) (m : ℕ) (machine : Machine)
+    → slice_get later.facts.servers m ≡ slice_get cluster.facts.servers m
+    → slice_get later.facts.deadlines m ≡ slice_get cluster.facts.deadlines m
+    → slice_get later.facts.holds m ≡ slice_get cluster.facts.holds m
     → Mirrors cluster m machine → Mirrors later m machine
 unmoved cluster later m machine servers deadlines holds old = record {
   server = stays-server cluster later m (status_seen machine.server) servers old.server;
@@ -311,7 +368,8 @@ unmoved cluster later m machine servers deadlines holds old = record {
 
 -- a hold is taken for one of these members
 abbrev pub IsHeldFor : List Member → Output → Type 0
-IsHeldFor members (outputs.HoldTaken until from sequence) = (peer : Member) × (slice_get members from.number ≡ Some peer)
+IsHeldFor members (outputs.HoldTaken until from sequence) =
+    (peer : Member) × (slice_get members from.number ≡ Some peer)
 IsHeldFor members _ = Unit {0}
 
 -- no log is repaired by this output
@@ -333,9 +391,13 @@ mirrored cluster m machine mirrors = record {
 }
 
 -- a change of a log leaves who is live
-logged-resembles : (cluster : Cluster) (m : ℕ) (machine : Machine) (happening : LogEvent) → Resembles cluster m machine → Resembles (cluster_after cluster (kinds.Log happening)) m machine
+logged-resembles : (cluster : Cluster) (m : ℕ) (machine : Machine) (happening : LogEvent)
+    → Resembles cluster m machine → Resembles (cluster_after cluster (kinds.Log happening)) m machine
 logged-resembles cluster m machine happening old = record {
-  lives = live-kept cluster.facts.servers (servers_by_log cluster.facts.servers happening) m (logged-kept (λ s. live s.state) (λ s t live writes required confirmed. live) cluster.facts.servers happening) ∙ old.lives;
+  lives =
+      live-kept cluster.facts.servers (servers_by_log cluster.facts.servers happening) m
+      (logged-kept (λ s. live s.state) (λ s t live writes required confirmed. live) cluster.facts.servers happening)
+      ∙ old.lives;
   deadline = old.deadline;
   hold = old.hold;
 }
@@ -344,20 +406,28 @@ abbrev IsOfLog : EventKind → Type 0
 IsOfLog (kinds.Log happening) = Unit {0}
 IsOfLog _ = ⊥
 
-one-resembles : (cluster : Cluster) (m : ℕ) (machine : Machine) (kind : EventKind) → IsOfLog kind → Resembles cluster m machine → Resembles (cluster_after cluster kind) m machine
+one-resembles : (cluster : Cluster) (m : ℕ) (machine : Machine) (kind : EventKind) → IsOfLog kind
+    → Resembles cluster m machine → Resembles (cluster_after cluster kind) m machine
 one-resembles cluster m machine (kinds.Log happening) is old = logged-resembles cluster m machine happening old
 one-resembles cluster m machine _ is old = absurd is
 
-may-resemble : (cluster : Cluster) (m : ℕ) (machine : Machine) (kind : Option EventKind) → HoldsIf IsOfLog kind → Resembles cluster m machine → Resembles (cluster_over cluster (events_of cluster (kinds_of kind))) m machine
+may-resemble : (cluster : Cluster) (m : ℕ) (machine : Machine) (kind : Option EventKind) → HoldsIf IsOfLog kind
+    → Resembles cluster m machine → Resembles (cluster_over cluster (events_of cluster (kinds_of kind))) m machine
 may-resemble cluster m machine None is old = old
 may-resemble cluster m machine (Some kind) is old = one-resembles cluster m machine kind is old
 
 -- a repair too
-pub repair-resembles : (cluster : Cluster) (member : Member) (message : HeardMessage) (machine : Machine) (leader : MemberId) (repair : Repair) → Resembles cluster member.id.number machine
-    → Resembles (cluster_over cluster (output_events member message cluster (outputs.Repair leader repair))) member.id.number machine
+pub repair-resembles : (cluster : Cluster) (member : Member) (message : HeardMessage) (machine : Machine)
+    (leader : MemberId) (repair : Repair) → Resembles cluster member.id.number machine
+    → Resembles (cluster_over cluster (output_events member message cluster (outputs.Repair leader repair)))
+    member.id.number machine
 repair-resembles cluster member message machine leader repair old =
-    may-resemble cluster member.id.number machine (option_and_then (repair_over cluster.facts.cuts cluster.facts.servers member repair) (slice_get cluster.facts.members leader.number))
-    (repaired-holds IsOfLog cluster.facts.cuts cluster.facts.servers member repair (slice_get cluster.facts.members leader.number) (λ other r. tt) (λ other. tt)) old
+    may-resemble cluster member.id.number machine
+    (option_and_then (repair_over cluster.facts.cuts cluster.facts.servers member repair)
+    (slice_get cluster.facts.members leader.number))
+    (repaired-holds IsOfLog cluster.facts.cuts cluster.facts.servers member repair
+    (slice_get cluster.facts.members leader.number) (λ other r. tt) (λ other. tt))
+    old
 
 abbrev IsOfNote : EventKind → Type 0
 IsOfNote (kinds.Note note) = Unit {0}
@@ -372,8 +442,11 @@ module _ (member : Member) where
   Behind cluster list = cluster_over cluster (events_of cluster list)
 
   -- that a commit is lacking changes nothing
-  loss-here : (cluster : Cluster) (machine : Machine) (test : Bool) → Here cluster machine → Here (Behind cluster (kinds_of (loss_if member test))) machine
-  loss-here cluster machine true old = unmoved cluster (cluster_after cluster (kinds.Replication (replications.Lacks (server_of member)))) member.id.number machine refl refl refl old
+  loss-here : (cluster : Cluster) (machine : Machine) (test : Bool) → Here cluster machine
+      → Here (Behind cluster (kinds_of (loss_if member test))) machine
+  loss-here cluster machine true old =
+      unmoved cluster (cluster_after cluster (kinds.Replication (replications.Lacks (server_of member))))
+      member.id.number machine refl refl refl old
   loss-here cluster machine false old = old
 
   -- it ends at once
@@ -383,313 +456,524 @@ module _ (member : Member) where
   abbrev down-status : Machine → ServerStatus
   down-status machine = record machine.server { state = states.Stopped }
 
-  ended-here : (cluster : Cluster) (machine : Machine) → Here cluster machine → Here (Ends cluster) (with_server (down-status machine) machine)
+  ended-here : (cluster : Cluster) (machine : Machine) → Here cluster machine
+      → Here (Ends cluster) (with_server (down-status machine) machine)
   ended-here cluster machine old =
       let x = status_seen machine.server in
-      ordered cluster (Ends cluster) member.id.number machine (down-status machine) (record x { state = states.Stopped }) refl refl refl
-      (moves cluster (Ends cluster) member.id.number stopped x (record x { state = states.Stopped }) refl (λ s seen. ap (λ (y : Seen). let z : Seen = record y { state = states.Stopped } in z) seen) old.server)
+      ordered cluster (Ends cluster) member.id.number machine (down-status machine)
+      (record x { state = states.Stopped }) refl refl refl
+      (moves cluster (Ends cluster) member.id.number stopped x (record x { state = states.Stopped }) refl
+      (λ s seen. ap (λ (y : Seen). let z : Seen = record y { state = states.Stopped } in z) seen) old.server)
       old
 
   -- it begins at once
-  at-once : (cluster : Cluster) (machine : Machine) (after : ServerStatus) (timeline : ℕ) (test : Bool) (s : ServerFacts) → slice_get cluster.facts.servers member.id.number ≡ Some s → status_seen after ≡ seen_begun (facts_seen s)
-      → Here cluster machine → Here (Behind cluster (kinds.Server (servers.Began (server_of member) timeline) ∷ kinds_of (loss_if member test))) (with_server after machine)
+  at-once : (cluster : Cluster) (machine : Machine) (after : ServerStatus) (timeline : ℕ) (test : Bool)
+      (s : ServerFacts) → slice_get cluster.facts.servers member.id.number ≡ Some s
+      → status_seen after ≡ seen_begun (facts_seen s)
+      → Here cluster machine
+      → Here (Behind cluster
+      (kinds.Server (servers.Began (server_of member) timeline) ∷ kinds_of (loss_if member test)))
+      (with_server after machine)
   at-once cluster machine after timeline test s is e old =
       let later = cluster_after cluster (kinds.Server (servers.Began (server_of member) timeline)) in
       loss-here later (with_server after machine) test
       (ordered cluster later member.id.number machine after (seen_begun (facts_seen s)) refl refl e
-      (record { server = begun_in s.state s; is = item-here cluster.facts.servers member.id.number (λ s. begun_in s.state s) s is; seen_is = begun-seen s.state s }) old)
+      (record {
+        server = begun_in s.state s;
+        is = item-here cluster.facts.servers member.id.number (λ s. begun_in s.state s) s is;
+        seen_is = begun-seen s.state s;
+      }) old)
 
   -- or when its start is complete
-  with-start : (cluster : Cluster) (machine : Machine) (after : ServerStatus) (s : ServerFacts) → slice_get cluster.facts.servers member.id.number ≡ Some s → is_down s.state ≡ true → (s.start_delay.0 == 0) ≡ false
+  with-start : (cluster : Cluster) (machine : Machine) (after : ServerStatus) (s : ServerFacts)
+      → slice_get cluster.facts.servers member.id.number ≡ Some s → is_down s.state ≡ true
+      → (s.start_delay.0 == 0) ≡ false
       → status_seen after ≡ seen_starting true (record { 0 = cluster.facts.clock }) (facts_seen s)
-      → Here cluster machine → Here (cluster_after cluster (kinds.Server (servers.StartsAsPrimary (server_of member)))) (with_server after machine)
+      → Here cluster machine
+      → Here (cluster_after cluster (kinds.Server (servers.StartsAsPrimary (server_of member))))
+      (with_server after machine)
   with-start cluster machine after s is down slow e old =
       let later = cluster_after cluster (kinds.Server (servers.StartsAsPrimary (server_of member))) in
-      ordered cluster later member.id.number machine after (seen_starting true (record { 0 = cluster.facts.clock }) (facts_seen s)) refl refl e
-      (record { server = starts_as_primary cluster.facts.clock s; is = item-here cluster.facts.servers member.id.number (starts_as_primary cluster.facts.clock) s is; seen_is = slowly-started cluster.facts.clock s false slow down refl }) old
+      ordered cluster later member.id.number machine after
+      (seen_starting true (record { 0 = cluster.facts.clock }) (facts_seen s)) refl refl e
+      (record {
+        server = starts_as_primary cluster.facts.clock s;
+        is = item-here cluster.facts.servers member.id.number (starts_as_primary cluster.facts.clock) s is;
+        seen_is = slowly-started cluster.facts.clock s false slow down refl;
+      }) old
 
   -- nothing comes of it
-  no-start : (cluster : Cluster) (machine : Machine) (after : ServerStatus) (s : ServerFacts) → slice_get cluster.facts.servers member.id.number ≡ Some s → status_seen after ≡ facts_seen s → Here cluster machine → Here cluster (with_server after machine)
-  no-start cluster machine after s is e old = ordered cluster cluster member.id.number machine after (facts_seen s) refl refl e (record { server = s; is = is; seen_is = refl }) old
+  no-start : (cluster : Cluster) (machine : Machine) (after : ServerStatus) (s : ServerFacts)
+      → slice_get cluster.facts.servers member.id.number ≡ Some s → status_seen after ≡ facts_seen s
+      → Here cluster machine → Here cluster (with_server after machine)
+  no-start cluster machine after s is e old = ordered cluster cluster member.id.number machine after
+      (facts_seen s) refl refl e (record { server = s; is = is; seen_is = refl }) old
 
-  again-here : (cluster : Cluster) (machine : Machine) (after : ServerStatus) (s : ServerFacts) (was z : Bool) → slice_get cluster.facts.servers member.id.number ≡ Some s → is_down s.state ≡ true → s.was_primary ≡ was → (s.start_delay.0 == 0) ≡ z
+  again-here : (cluster : Cluster) (machine : Machine) (after : ServerStatus) (s : ServerFacts) (was z : Bool)
+      → slice_get cluster.facts.servers member.id.number ≡ Some s → is_down s.state ≡ true
+      → s.was_primary ≡ was → (s.start_delay.0 == 0) ≡ z
       → status_seen after ≡ seen_again (record { 0 = cluster.facts.clock }) (facts_seen s) → Here cluster machine
-      → Here (Behind cluster (kinds_by member cluster.facts.acknowledged s.log (if was then Some (if z then beginnings.AtOnce s.timeline else beginnings.WithItsStart) else None))) (with_server after machine)
+      → Here (Behind cluster
+      (kinds_by member cluster.facts.acknowledged s.log
+      (if was then Some (if z then beginnings.AtOnce s.timeline else beginnings.WithItsStart) else None)))
+      (with_server after machine)
   again-here cluster machine after s false z is down was zero e old =
-      no-start cluster machine after s is (e ∙ ap (λ (b : Bool). if b then seen_starting true (record { 0 = cluster.facts.clock }) (facts_seen s) else facts_seen s) was) old
+      no-start cluster machine after s is (e ∙ ap (λ (b : Bool). if b then seen_starting true (record {
+        0 = cluster.facts.clock;
+      }) (facts_seen s) else facts_seen s) was) old
   again-here cluster machine after s true true is down was zero e old =
       at-once cluster machine after s.timeline (lacks_in (entries_of s.log) cluster.facts.acknowledged) s is
-      (e ∙ ap (λ (b : Bool). if b then seen_starting true (record { 0 = cluster.facts.clock }) (facts_seen s) else facts_seen s) was
-      ∙ ap (λ (b : Bool). if b then seen_begun (facts_seen s) else record (facts_seen s) { state = states.Starting true (moment_after (record { 0 = cluster.facts.clock }) s.start_delay) }) zero) old
+      (e ∙ ap (λ (b : Bool). if b then seen_starting true (record {
+        0 = cluster.facts.clock;
+      }) (facts_seen s) else facts_seen s) was
+      ∙ ap (λ (b : Bool). if b then seen_begun (facts_seen s)
+      else record (facts_seen s) {
+        state = states.Starting true (moment_after (record {
+          0 = cluster.facts.clock;
+        }) s.start_delay);
+      }) zero) old
   again-here cluster machine after s true false is down was zero e old =
       with-start cluster machine after s is down zero
-      (e ∙ ap (λ (b : Bool). if b then seen_starting true (record { 0 = cluster.facts.clock }) (facts_seen s) else facts_seen s) was) old
+      (e ∙ ap (λ (b : Bool). if b then seen_starting true (record {
+        0 = cluster.facts.clock;
+      }) (facts_seen s) else facts_seen s) was) old
 
-  begin-by : (cluster : Cluster) (machine : Machine) (after : ServerStatus) (s : ServerFacts) (state : State) → slice_get cluster.facts.servers member.id.number ≡ Some s → s.state ≡ state
+  begin-by : (cluster : Cluster) (machine : Machine) (after : ServerStatus) (s : ServerFacts) (state : State)
+      → slice_get cluster.facts.servers member.id.number ≡ Some s → s.state ≡ state
       → status_seen after ≡ seen_begins (record { 0 = cluster.facts.clock }) state (facts_seen s) → Here cluster machine
-      → Here (Behind cluster (kinds_by member cluster.facts.acknowledged s.log (beginning_in state s))) (with_server after machine)
-  begin-by cluster machine after s states.Replica is here e old = at-once cluster machine after (s.timeline + 1) (lacks_in (entries_of s.log) cluster.facts.acknowledged) s is e old
-  begin-by cluster machine after s states.Stopped is here e old = again-here cluster machine after s s.was_primary (s.start_delay.0 == 0) is (ap is_down here) refl refl e old
-  begin-by cluster machine after s states.Crashed is here e old = again-here cluster machine after s s.was_primary (s.start_delay.0 == 0) is (ap is_down here) refl refl e old
+      → Here (Behind cluster (kinds_by member cluster.facts.acknowledged s.log (beginning_in state s)))
+      (with_server after machine)
+  begin-by cluster machine after s states.Replica is here e old =
+      at-once cluster machine after (s.timeline + 1) (lacks_in (entries_of s.log) cluster.facts.acknowledged) s is e old
+  begin-by cluster machine after s states.Stopped is here e old =
+      again-here cluster machine after s s.was_primary (s.start_delay.0 == 0) is (ap is_down here) refl refl e old
+  begin-by cluster machine after s states.Crashed is here e old =
+      again-here cluster machine after s s.was_primary (s.start_delay.0 == 0) is (ap is_down here) refl refl e old
   begin-by cluster machine after s _ is here e old = no-start cluster machine after s is e old
 
   begin-here : (cluster : Cluster) (machine : Machine) → Here cluster machine
-      → Here (cluster_over cluster (for_some (server_at cluster member) (λ s. events_of cluster (begin_kinds member cluster.facts.acknowledged s)))) (with_server (status_begun (record { 0 = cluster.facts.clock }) machine.server) machine)
+      → Here (cluster_over cluster
+      (for_some (server_at cluster member) (λ s. events_of cluster (begin_kinds member cluster.facts.acknowledged s))))
+      (with_server (status_begun (record { 0 = cluster.facts.clock }) machine.server) machine)
   begin-here cluster machine old =
       let s = old.server.server in
       let now : Ticks = record { 0 = cluster.facts.clock } in
       let after = status_begun now machine.server in
-      subst (λ (found : Option ServerFacts). Here (cluster_over cluster (for_some found (λ s. events_of cluster (begin_kinds member cluster.facts.acknowledged s)))) (with_server after machine)) (sym old.server.is)
+      subst (λ (found : Option ServerFacts). Here
+      (cluster_over cluster (for_some found (λ s. events_of cluster (begin_kinds member cluster.facts.acknowledged s))))
+      (with_server after machine))
+      (sym old.server.is)
       (begin-by cluster machine after s s.state old.server.is refl
-      (status-begun-seen now machine.server ∙ ap (λ (x : Seen). seen_begins now x.state x) (sym old.server.seen_is)) old)
+      (status-begun-seen now machine.server ∙ ap (λ (x : Seen). seen_begins now x.state x) (sym old.server.seen_is))
+      old)
 
   -- a primary ends and starts again: at once, or when its start is complete
-  ended-again : (cluster : Cluster) (machine : Machine) (after : ServerStatus) (s : ServerFacts) (z : Bool) → slice_get cluster.facts.servers member.id.number ≡ Some s → (s.start_delay.0 == 0) ≡ z
-      → status_seen after ≡ seen_starting true (record { 0 = cluster.facts.clock }) (facts_seen s) → Here cluster machine
-      → Here (Behind cluster (kinds.Server (servers.Ended (server_of member)) ∷ kinds_by member cluster.facts.acknowledged s.log (Some (if z then beginnings.AtOnce s.timeline else beginnings.WithItsStart)))) (with_server after machine)
+  ended-again : (cluster : Cluster) (machine : Machine) (after : ServerStatus) (s : ServerFacts) (z : Bool)
+      → slice_get cluster.facts.servers member.id.number ≡ Some s → (s.start_delay.0 == 0) ≡ z
+      → status_seen after ≡ seen_starting true (record { 0 = cluster.facts.clock }) (facts_seen s)
+      → Here cluster machine
+      → Here (Behind cluster
+      (kinds.Server (servers.Ended (server_of member)) ∷ kinds_by member cluster.facts.acknowledged s.log
+      (Some (if z then beginnings.AtOnce s.timeline else beginnings.WithItsStart))))
+      (with_server after machine)
   ended-again cluster machine after s true is zero e old =
-      at-once (Ends cluster) (with_server (down-status machine) machine) after s.timeline (lacks_in (entries_of s.log) cluster.facts.acknowledged) (stopped s) (item-here cluster.facts.servers member.id.number stopped s is)
-      (e ∙ ap (λ (b : Bool). if b then seen_begun (facts_seen s) else record (facts_seen s) { state = states.Starting true (moment_after (record { 0 = cluster.facts.clock }) s.start_delay) }) zero) (ended-here cluster machine old)
+      at-once (Ends cluster) (with_server (down-status machine) machine) after s.timeline
+      (lacks_in (entries_of s.log) cluster.facts.acknowledged) (stopped s)
+      (item-here cluster.facts.servers member.id.number stopped s is)
+      (e
+      ∙ ap (λ (b : Bool). if b then seen_begun (facts_seen s)
+      else record (facts_seen s) {
+        state = states.Starting true (moment_after (record {
+          0 = cluster.facts.clock;
+        }) s.start_delay);
+      }) zero) (ended-here cluster machine old)
   ended-again cluster machine after s false is zero e old =
-      with-start (Ends cluster) (with_server (down-status machine) machine) after (stopped s) (item-here cluster.facts.servers member.id.number stopped s is) refl zero e (ended-here cluster machine old)
+      with-start (Ends cluster) (with_server (down-status machine) machine) after (stopped s)
+      (item-here cluster.facts.servers member.id.number stopped s is) refl zero e (ended-here cluster machine old)
 
   -- a replica starts again
-  replica-again : (cluster : Cluster) (machine : Machine) (after : ServerStatus) (s : ServerFacts) → slice_get cluster.facts.servers member.id.number ≡ Some s → s.state ≡ states.Replica
-      → status_seen after ≡ seen_restarted (record { 0 = cluster.facts.clock }) states.Replica (facts_seen s) → Here cluster machine
-      → Here (cluster_after cluster (kinds.Server (servers.StartsAsReplica (server_of member)))) (with_server after machine)
+  replica-again : (cluster : Cluster) (machine : Machine) (after : ServerStatus) (s : ServerFacts)
+      → slice_get cluster.facts.servers member.id.number ≡ Some s → s.state ≡ states.Replica
+      → status_seen after ≡ seen_restarted (record { 0 = cluster.facts.clock }) states.Replica (facts_seen s)
+      → Here cluster machine
+      → Here (cluster_after cluster (kinds.Server (servers.StartsAsReplica (server_of member))))
+      (with_server after machine)
   replica-again cluster machine after s is here e old =
       let later = cluster_after cluster (kinds.Server (servers.StartsAsReplica (server_of member))) in
-      ordered cluster later member.id.number machine after (seen_restarted (record { 0 = cluster.facts.clock }) states.Replica (facts_seen s)) refl refl e
-      (record { server = starts_as_replica cluster.facts.clock s; is = item-here cluster.facts.servers member.id.number (starts_as_replica cluster.facts.clock) s is; seen_is = replica-again-seen cluster.facts.clock s here }) old
+      ordered cluster later member.id.number machine after
+      (seen_restarted (record { 0 = cluster.facts.clock }) states.Replica (facts_seen s)) refl refl e
+      (record {
+        server = starts_as_replica cluster.facts.clock s;
+        is = item-here cluster.facts.servers member.id.number (starts_as_replica cluster.facts.clock) s is;
+        seen_is = replica-again-seen cluster.facts.clock s here;
+      }) old
 
-  again-by : (cluster : Cluster) (machine : Machine) (after : ServerStatus) (s : ServerFacts) (state : State) → slice_get cluster.facts.servers member.id.number ≡ Some s → s.state ≡ state
-      → status_seen after ≡ seen_restarted (record { 0 = cluster.facts.clock }) state (facts_seen s) → Here cluster machine
+  again-by : (cluster : Cluster) (machine : Machine) (after : ServerStatus) (s : ServerFacts) (state : State)
+      → slice_get cluster.facts.servers member.id.number ≡ Some s → s.state ≡ state
+      → status_seen after ≡ seen_restarted (record { 0 = cluster.facts.clock }) state (facts_seen s)
+      → Here cluster machine
       → Here (Behind cluster (server_restart_in member cluster.facts.acknowledged state s)) (with_server after machine)
-  again-by cluster machine after s states.Primary is here e old = ended-again cluster machine after s (s.start_delay.0 == 0) is refl e old
+  again-by cluster machine after s states.Primary is here e old =
+      ended-again cluster machine after s (s.start_delay.0 == 0) is refl e old
   again-by cluster machine after s states.Replica is here e old = replica-again cluster machine after s is here e old
   again-by cluster machine after s _ is here e old = no-start cluster machine after s is e old
 
   restart-here : (cluster : Cluster) (machine : Machine) → Here cluster machine
-      → Here (cluster_over cluster (for_some (server_at cluster member) (λ s. events_of cluster (server_restart_kinds member cluster.facts.acknowledged s)))) (with_server (status_restarted (record { 0 = cluster.facts.clock }) machine.server) machine)
+      → Here (cluster_over cluster
+      (for_some (server_at cluster member)
+      (λ s. events_of cluster (server_restart_kinds member cluster.facts.acknowledged s))))
+      (with_server (status_restarted (record { 0 = cluster.facts.clock }) machine.server) machine)
   restart-here cluster machine old =
       let s = old.server.server in
       let now : Ticks = record { 0 = cluster.facts.clock } in
       let after = status_restarted now machine.server in
-      subst (λ (found : Option ServerFacts). Here (cluster_over cluster (for_some found (λ s. events_of cluster (server_restart_kinds member cluster.facts.acknowledged s)))) (with_server after machine)) (sym old.server.is)
+      subst (λ (found : Option ServerFacts).
+      Here (cluster_over cluster
+      (for_some found (λ s. events_of cluster (server_restart_kinds member cluster.facts.acknowledged s))))
+      (with_server after machine))
+      (sym old.server.is)
       (again-by cluster machine after s s.state old.server.is refl
-      (status-restarted now machine.server.state machine.server ∙ ap (λ (x : Seen). seen_restarted now x.state x) (sym old.server.seen_is)) old)
+      (status-restarted now machine.server.state machine.server
+      ∙ ap (λ (x : Seen). seen_restarted now x.state x) (sym old.server.seen_is))
+      old)
 
   -- it is wiped, or isn't
-  wipe-by : (cluster : Cluster) (machine : Machine) (b : Bool) → (is_creating machine.server.state || live machine.server.state) ≡ b → Here cluster machine
-      → Here (Behind cluster (kinds_of (if b then None else Some (kinds.Log (logs.Wiped (server_of member)))))) (with_server (status_wiped machine.server) machine)
+  wipe-by : (cluster : Cluster) (machine : Machine) (b : Bool)
+      → (is_creating machine.server.state || live machine.server.state) ≡ b → Here cluster machine
+      → Here (Behind cluster (kinds_of (if b then None else Some (kinds.Log (logs.Wiped (server_of member))))))
+      (with_server (status_wiped machine.server) machine)
   wipe-by cluster machine true stays old =
       let x = status_seen machine.server in
       ordered cluster cluster member.id.number machine (status_wiped machine.server) x refl refl
-      (status-wiped machine.server ∙ unwiped machine.server.state machine.server.was_primary machine.server.stop_delay machine.server.start_delay stays) old.server old
+      (status-wiped machine.server ∙ unwiped machine.server.state machine.server.was_primary
+      machine.server.stop_delay machine.server.start_delay stays)
+      old.server old
   wipe-by cluster machine false stays old =
       let x = status_seen machine.server in
       let later = cluster_after cluster (kinds.Log (logs.Wiped (server_of member))) in
-      ordered cluster later member.id.number machine (status_wiped machine.server) (seen_wiped x) refl refl (status-wiped machine.server)
-      (moves cluster later member.id.number loses_log x (seen_wiped x) refl (λ s seen. facts-wiped s ∙ ap seen_wiped seen) old.server) old
+      ordered cluster later member.id.number machine (status_wiped machine.server) (seen_wiped x) refl refl
+      (status-wiped machine.server)
+      (moves cluster later member.id.number loses_log x (seen_wiped x) refl
+      (λ s seen. facts-wiped s ∙ ap seen_wiped seen) old.server)
+      old
 
   wipe-here : (cluster : Cluster) (machine : Machine) → Here cluster machine
-      → Here (Behind cluster (kinds_of (option_and_then (wipe_of member) (server_at cluster member)))) (with_server (status_wiped machine.server) machine)
+      → Here (Behind cluster (kinds_of (option_and_then (wipe_of member) (server_at cluster member))))
+      (with_server (status_wiped machine.server) machine)
   wipe-here cluster machine old =
       let s = old.server.server in
-      subst (λ (found : Option ServerFacts). Here (Behind cluster (kinds_of (option_and_then (wipe_of member) found))) (with_server (status_wiped machine.server) machine)) (sym old.server.is)
-      (wipe-by cluster machine (is_creating s.state || live s.state) (ap (λ (x : Seen). is_creating x.state || live x.state) (sym old.server.seen_is)) old)
+      subst (λ (found : Option ServerFacts). Here (Behind cluster (kinds_of (option_and_then (wipe_of member) found)))
+      (with_server (status_wiped machine.server) machine))
+      (sym old.server.is)
+      (wipe-by cluster machine (is_creating s.state || live s.state)
+      (ap (λ (x : Seen). is_creating x.state || live x.state) (sym old.server.seen_is)) old)
 
   -- what is noted changes nothing
-  note-here : (cluster : Cluster) (machine : Machine) (found : Option EventKind) → HoldsIf IsOfNote found → Here cluster machine → Here (Behind cluster (kinds_of found)) machine
+  note-here : (cluster : Cluster) (machine : Machine) (found : Option EventKind) → HoldsIf IsOfNote found
+      → Here cluster machine → Here (Behind cluster (kinds_of found)) machine
   note-here cluster machine None is old = old
-  note-here cluster machine (Some (kinds.Note note)) is old = unmoved cluster (cluster_after cluster (kinds.Note note)) member.id.number machine refl refl refl old
+  note-here cluster machine (Some (kinds.Note note)) is old =
+      unmoved cluster (cluster_after cluster (kinds.Note note)) member.id.number machine refl refl refl old
   note-here cluster machine (Some _) is old = absurd is
 
   -- it follows another one, or doesn't
-  follows-here : (cluster : Cluster) (machine : Machine) (leader : Option Member) → Here cluster machine → Here (Behind cluster (kinds_of (following_of member leader))) machine
+  follows-here : (cluster : Cluster) (machine : Machine) (leader : Option Member) → Here cluster machine
+      → Here (Behind cluster (kinds_of (following_of member leader))) machine
   follows-here cluster machine None old = old
   follows-here cluster machine (Some leader) old =
       let later = cluster_after cluster (kinds.Server (servers.Follows (server_of member) (server_of leader))) in
       record {
-        server = moves cluster later member.id.number _ (status_seen machine.server) (status_seen machine.server) refl (λ s seen. seen) old.server;
+        server = moves cluster later member.id.number _ (status_seen machine.server)
+            (status_seen machine.server) refl (λ s seen. seen) old.server;
         deadline = old.deadline;
         hold = old.hold;
       }
 
-  follow-by : (cluster : Cluster) (machine : Machine) (leader : Option Member) (b : Bool) → Here cluster machine → Here (Behind cluster (kinds_of (if b then following_of member leader else None))) machine
+  follow-by : (cluster : Cluster) (machine : Machine) (leader : Option Member) (b : Bool) → Here cluster machine
+      → Here (Behind cluster (kinds_of (if b then following_of member leader else None))) machine
   follow-by cluster machine leader true old = follows-here cluster machine leader old
   follow-by cluster machine leader false old = old
 
-  follow-here : (cluster : Cluster) (machine : Machine) (upstream : ServerId) (leader : Option Member) → Here cluster machine
-      → Here (Behind cluster (kinds_of (option_and_then (upstream_of member leader) (server_at cluster member)))) (with_server (status_following upstream machine.server) machine)
+  follow-here : (cluster : Cluster) (machine : Machine) (upstream : ServerId) (leader : Option Member)
+      → Here cluster machine
+      → Here (Behind cluster (kinds_of (option_and_then (upstream_of member leader) (server_at cluster member))))
+      (with_server (status_following upstream machine.server) machine)
   follow-here cluster machine upstream leader old =
       let s = old.server.server in
       let with-it : Here cluster (with_server (status_following upstream machine.server) machine) =
-      ordered cluster cluster member.id.number machine (status_following upstream machine.server) (status_seen machine.server) refl refl (status-following upstream machine.server) old.server old in
-      subst (λ (found : Option ServerFacts). Here (Behind cluster (kinds_of (option_and_then (upstream_of member leader) found))) (with_server (status_following upstream machine.server) machine)) (sym old.server.is)
-      (follow-by cluster (with_server (status_following upstream machine.server) machine) leader (is_replica s.state) with-it)
+      ordered cluster cluster member.id.number machine (status_following upstream machine.server)
+      (status_seen machine.server) refl refl (status-following upstream machine.server) old.server old in
+      subst (λ (found : Option ServerFacts).
+      Here (Behind cluster (kinds_of (option_and_then (upstream_of member leader) found)))
+      (with_server (status_following upstream machine.server) machine))
+      (sym old.server.is)
+      (follow-by cluster (with_server (status_following upstream machine.server) machine) leader
+      (is_replica s.state) with-it)
 
-  require-by : (cluster : Cluster) (machine : Machine) (required : Required) (names : List _) (b : Bool) → Here cluster machine
-      → Here (Behind cluster (kinds_of (if b then None else Some (kinds.Replication (replications.RequiredSet (server_of member) required names))))) machine
+  require-by : (cluster : Cluster) (machine : Machine) (required : Required) (names : List _) (b : Bool)
+      → Here cluster machine
+      → Here (Behind cluster
+      (kinds_of (if b then None
+      else Some (kinds.Replication (replications.RequiredSet (server_of member) required names)))))
+      machine
   require-by cluster machine required names true old = old
   require-by cluster machine required names false old =
-      let later = cluster_after cluster (kinds.Replication (replications.RequiredSet (server_of member) required names)) in
+      let later =
+      cluster_after cluster (kinds.Replication (replications.RequiredSet (server_of member) required names)) in
       record {
-        server = moves cluster later member.id.number _ (status_seen machine.server) (status_seen machine.server) refl (λ s seen. seen) old.server;
+        server = moves cluster later member.id.number _ (status_seen machine.server)
+            (status_seen machine.server) refl (λ s seen. seen) old.server;
         deadline = old.deadline;
         hold = old.hold;
       }
 
   require-here : (cluster : Cluster) (machine : Machine) (required : Required) → Here cluster machine
-      → Here (Behind cluster (kinds_of (option_and_then (require_of cluster.facts.members member required) (server_at cluster member)))) machine
+      → Here (Behind cluster
+      (kinds_of (option_and_then (require_of cluster.facts.members member required) (server_at cluster member))))
+      machine
   require-here cluster machine required old =
       let s = old.server.server in
-      subst (λ (found : Option ServerFacts). Here (Behind cluster (kinds_of (option_and_then (require_of cluster.facts.members member required) found))) machine) (sym old.server.is)
-      (require-by cluster machine required (required_names cluster.facts.members required) (is_same_required s.required required) old)
+      subst (λ (found : Option ServerFacts). Here
+      (Behind cluster (kinds_of (option_and_then (require_of cluster.facts.members member required) found))) machine)
+      (sym old.server.is)
+      (require-by cluster machine required (required_names cluster.facts.members required)
+      (is_same_required s.required required) old)
 
   -- it starts as a replica, where it is down
-  start-by : (cluster : Cluster) (machine : Machine) (upstream : Option ServerId) (leader : Option Member) (b : Bool) → is_down machine.server.state ≡ b → Here cluster machine
-      → Here (Behind cluster (if b then kinds.Server (servers.StartsAsReplica (server_of member)) ∷ kinds_of (following_of member leader) else [])) (with_server (status_replica_started (record { 0 = cluster.facts.clock }) upstream machine.server) machine)
+  start-by : (cluster : Cluster) (machine : Machine) (upstream : Option ServerId) (leader : Option Member) (b : Bool)
+      → is_down machine.server.state ≡ b → Here cluster machine
+      → Here (Behind cluster
+      (if b then kinds.Server (servers.StartsAsReplica (server_of member)) ∷ kinds_of (following_of member leader)
+      else []))
+      (with_server (status_replica_started (record { 0 = cluster.facts.clock }) upstream machine.server) machine)
   start-by cluster machine upstream leader true down old =
       let now : Ticks = record { 0 = cluster.facts.clock } in
       let after = status_replica_started now upstream machine.server in
       let later = cluster_after cluster (kinds.Server (servers.StartsAsReplica (server_of member))) in
       let x = seen_replica_started now (status_seen machine.server) in
       follows-here later (with_server after machine) leader
-      (ordered cluster later member.id.number machine after x refl refl (status-replica-started now upstream machine.server)
+      (ordered cluster later member.id.number machine after x refl refl
+      (status-replica-started now upstream machine.server)
       (moves cluster later member.id.number (starts_as_replica cluster.facts.clock) (status_seen machine.server) x refl
-      (λ s seen. facts-replica-started cluster.facts.clock s (ap (λ (x : Seen). is_down x.state) seen ∙ down) ∙ ap (seen_replica_started now) seen) old.server)
+      (λ s seen. facts-replica-started cluster.facts.clock s (ap (λ (x : Seen). is_down x.state) seen ∙ down)
+      ∙ ap (seen_replica_started now) seen)
+      old.server)
       old)
   start-by cluster machine upstream leader false down old =
       let now : Ticks = record { 0 = cluster.facts.clock } in
-      ordered cluster cluster member.id.number machine (status_replica_started now upstream machine.server) (status_seen machine.server) refl refl
+      ordered cluster cluster member.id.number machine (status_replica_started now upstream machine.server)
+      (status_seen machine.server) refl refl
       (status-replica-started now upstream machine.server
-      ∙ ap (λ (b : Bool). if b then seen_starting false now (record (status_seen machine.server) { was_primary = false }) else status_seen machine.server) down) old.server old
+      ∙ ap (λ (b : Bool). if b
+      then seen_starting false now (record (status_seen machine.server) { was_primary = false })
+      else status_seen machine.server)
+      down)
+      old.server old
 
-  start-here : (cluster : Cluster) (machine : Machine) (upstream : Option ServerId) (leader : Option Member) → Here cluster machine
-      → Here (cluster_over cluster (for_some (server_at cluster member) (λ s. events_of cluster (replica_start_kinds member leader s)))) (with_server (status_replica_started (record { 0 = cluster.facts.clock }) upstream machine.server) machine)
+  start-here : (cluster : Cluster) (machine : Machine) (upstream : Option ServerId) (leader : Option Member)
+      → Here cluster machine
+      → Here (cluster_over cluster
+      (for_some (server_at cluster member) (λ s. events_of cluster (replica_start_kinds member leader s))))
+      (with_server (status_replica_started (record { 0 = cluster.facts.clock }) upstream machine.server) machine)
   start-here cluster machine upstream leader old =
       let s = old.server.server in
-      subst (λ (found : Option ServerFacts). Here (cluster_over cluster (for_some found (λ s. events_of cluster (replica_start_kinds member leader s)))) (with_server (status_replica_started (record { 0 = cluster.facts.clock }) upstream machine.server) machine)) (sym old.server.is)
-      (start-by cluster machine upstream leader (is_down s.state) (ap (λ (x : Seen). is_down x.state) (sym old.server.seen_is)) old)
+      subst (λ (found : Option ServerFacts).
+      Here (cluster_over cluster (for_some found (λ s. events_of cluster (replica_start_kinds member leader s))))
+      (with_server (status_replica_started (record { 0 = cluster.facts.clock }) upstream machine.server) machine))
+      (sym old.server.is)
+      (start-by cluster machine upstream leader (is_down s.state)
+      (ap (λ (x : Seen). is_down x.state) (sym old.server.seen_is)) old)
 
   -- it shuts down, where it runs or starts
-  stop-kind : (cluster : Cluster) (machine : Machine) (b : Bool) → is_up machine.server.state ≡ true → (is_primary machine.server.state && machine.server.stop_delay.0 == 0) ≡ b → Here cluster machine
-      → Here (cluster_after cluster (if b then kinds.Server (servers.Ended (server_of member)) else kinds.Server (servers.Stops (server_of member)))) (with_server (status_stopping (record { 0 = cluster.facts.clock }) machine.server) machine)
+  stop-kind : (cluster : Cluster) (machine : Machine) (b : Bool) → is_up machine.server.state ≡ true
+      → (is_primary machine.server.state && machine.server.stop_delay.0 == 0) ≡ b → Here cluster machine
+      → Here (cluster_after cluster
+      (if b then kinds.Server (servers.Ended (server_of member)) else kinds.Server (servers.Stops (server_of member))))
+      (with_server (status_stopping (record { 0 = cluster.facts.clock }) machine.server) machine)
   stop-kind cluster machine true up is old =
       let now : Ticks = record { 0 = cluster.facts.clock } in
       let later = cluster_after cluster (kinds.Server (servers.Ended (server_of member))) in
       let x = status_seen machine.server in
-      ordered cluster later member.id.number machine (status_stopping now machine.server) (record x { state = states.Stopped }) refl refl
-      (status-stopping now machine.server ∙ sym (ended-by now x (is_up machine.server.state) (is_primary machine.server.state) (machine.server.stop_delay.0 == 0) up is))
-      (moves cluster later member.id.number _ x (record x { state = states.Stopped }) refl (λ s seen. ap (λ (y : Seen). let z : Seen = record y { state = states.Stopped } in z) seen) old.server)
+      ordered cluster later member.id.number machine (status_stopping now machine.server)
+      (record x { state = states.Stopped }) refl refl
+      (status-stopping now machine.server
+      ∙ sym (ended-by now x (is_up machine.server.state) (is_primary machine.server.state)
+      (machine.server.stop_delay.0 == 0) up is))
+      (moves cluster later member.id.number _ x (record x { state = states.Stopped }) refl
+      (λ s seen. ap (λ (y : Seen). let z : Seen = record y { state = states.Stopped } in z) seen) old.server)
       old
   stop-kind cluster machine false up is old =
       let now : Ticks = record { 0 = cluster.facts.clock } in
       let later = cluster_after cluster (kinds.Server (servers.Stops (server_of member))) in
       let x = status_seen machine.server in
-      ordered cluster later member.id.number machine (status_stopping now machine.server) (seen_stopping now x) refl refl (status-stopping now machine.server)
+      ordered cluster later member.id.number machine (status_stopping now machine.server)
+      (seen_stopping now x) refl refl (status-stopping now machine.server)
       (moves cluster later member.id.number (stops cluster.facts.clock) x (seen_stopping now x) refl
-      (λ s seen. stops-seen cluster.facts.clock s (ap (λ (y : Seen). is_primary y.state && y.stop.0 == 0) seen ∙ is) ∙ ap (seen_stopping now) seen) old.server)
+      (λ s seen. stops-seen cluster.facts.clock s (ap (λ (y : Seen). is_primary y.state && y.stop.0 == 0) seen ∙ is)
+      ∙ ap (seen_stopping now) seen)
+      old.server)
       old
 
-  stop-by : (cluster : Cluster) (machine : Machine) (s : ServerFacts) (b : Bool) → facts_seen s ≡ status_seen machine.server → is_up machine.server.state ≡ b → Here cluster machine
-      → Here (Behind cluster (kinds_of (if b then Some (stop_kind member s.state s.stop_delay) else None))) (with_server (status_stopping (record { 0 = cluster.facts.clock }) machine.server) machine)
+  stop-by : (cluster : Cluster) (machine : Machine) (s : ServerFacts) (b : Bool)
+      → facts_seen s ≡ status_seen machine.server → is_up machine.server.state ≡ b → Here cluster machine
+      → Here (Behind cluster (kinds_of (if b then Some (stop_kind member s.state s.stop_delay) else None)))
+      (with_server (status_stopping (record { 0 = cluster.facts.clock }) machine.server) machine)
   stop-by cluster machine s true seen up old =
-      stop-kind cluster machine (is_primary s.state && s.stop_delay.0 == 0) up (ap (λ (y : Seen). is_primary y.state && y.stop.0 == 0) (sym seen)) old
+      stop-kind cluster machine (is_primary s.state && s.stop_delay.0 == 0) up
+      (ap (λ (y : Seen). is_primary y.state && y.stop.0 == 0) (sym seen)) old
   stop-by cluster machine s false seen up old =
       let now : Ticks = record { 0 = cluster.facts.clock } in
-      ordered cluster cluster member.id.number machine (status_stopping now machine.server) (status_seen machine.server) refl refl
-      (status-stopping now machine.server ∙ ap (λ (b : Bool). if b then seen_ending now (is_primary machine.server.state) (status_seen machine.server) else status_seen machine.server) up) old.server old
+      ordered cluster cluster member.id.number machine (status_stopping now machine.server)
+      (status_seen machine.server) refl refl
+      (status-stopping now machine.server
+      ∙ ap (λ (b : Bool). if b then seen_ending now (is_primary machine.server.state) (status_seen machine.server)
+      else status_seen machine.server)
+      up)
+      old.server old
 
-  noted : (cluster : Cluster) (machine : Machine) (reason : Reason) → Here cluster machine → Here (cluster_after cluster (kinds.Note (notes.EndsServer member reason))) machine
+  noted : (cluster : Cluster) (machine : Machine) (reason : Reason) → Here cluster machine
+      → Here (cluster_after cluster (kinds.Note (notes.EndsServer member reason))) machine
   noted cluster machine reason old = record {
-    server = stays-server cluster (cluster_after cluster (kinds.Note (notes.EndsServer member reason))) member.id.number (status_seen machine.server) refl old.server;
+    server = stays-server cluster (cluster_after cluster (kinds.Note (notes.EndsServer member reason))) member.id.number
+        (status_seen machine.server) refl old.server;
     deadline = old.deadline;
     hold = old.hold;
   }
 
   stop-here : (cluster : Cluster) (machine : Machine) (reason : Reason) → Here cluster machine
-      → Here (cluster_over cluster (for_some (server_at cluster member) (λ s. events_of cluster (stop_kinds member reason s)))) (with_server (status_stopping (record { 0 = cluster.facts.clock }) machine.server) machine)
+      → Here (cluster_over cluster
+      (for_some (server_at cluster member) (λ s. events_of cluster (stop_kinds member reason s))))
+      (with_server (status_stopping (record { 0 = cluster.facts.clock }) machine.server) machine)
   stop-here cluster machine reason old =
       let s = old.server.server in
-      subst (λ (found : Option ServerFacts). Here (cluster_over cluster (for_some found (λ s. events_of cluster (stop_kinds member reason s)))) (with_server (status_stopping (record { 0 = cluster.facts.clock }) machine.server) machine)) (sym old.server.is)
-      (stop-by (cluster_after cluster (kinds.Note (notes.EndsServer member reason))) machine s (is_up s.state) old.server.seen_is (ap (λ (x : Seen). is_up x.state) (sym old.server.seen_is)) (noted cluster machine reason old))
+      subst (λ (found : Option ServerFacts).
+      Here (cluster_over cluster (for_some found (λ s. events_of cluster (stop_kinds member reason s))))
+      (with_server (status_stopping (record { 0 = cluster.facts.clock }) machine.server) machine))
+      (sym old.server.is)
+      (stop-by (cluster_after cluster (kinds.Note (notes.EndsServer member reason))) machine s (is_up s.state)
+      old.server.seen_is (ap (λ (x : Seen). is_up x.state) (sym old.server.seen_is)) (noted cluster machine reason old))
 
-  lost-here : (cluster : Cluster) (machine : Machine) (test : Bool) (number : ℕ) → Here cluster machine → Here (Behind cluster (lost_at_once test number)) machine
-  lost-here cluster machine true number old = unmoved cluster (cluster_after cluster (kinds.Message (Lost number))) member.id.number machine refl refl refl old
+  lost-here : (cluster : Cluster) (machine : Machine) (test : Bool) (number : ℕ) → Here cluster machine
+      → Here (Behind cluster (lost_at_once test number)) machine
+  lost-here cluster machine true number old =
+      unmoved cluster (cluster_after cluster (kinds.Message (Lost number))) member.id.number machine refl refl refl old
   lost-here cluster machine false number old = old
 
-  message-here : (cluster : Cluster) (machine : Machine) (message : Message) → Here cluster machine → Here (cluster_over cluster (send_events cluster message)) machine
+  message-here : (cluster : Cluster) (machine : Machine) (message : Message) → Here cluster machine
+      → Here (cluster_over cluster (send_events cluster message)) machine
   message-here cluster machine message old =
       let sent : EventKind = kinds.Message (Sent (cluster.facts.sent + 1) message) in
-      lost-here (cluster_after cluster sent) machine (nat_le most_in_flight (length cluster.facts.flight)) (cluster.facts.sent + 1)
+      lost-here (cluster_after cluster sent) machine (nat_le most_in_flight (length cluster.facts.flight))
+      (cluster.facts.sent + 1)
       (unmoved cluster (cluster_after cluster sent) member.id.number machine refl refl refl old)
 
-  sends-here : (cluster : Cluster) (machine : Machine) (to : Option LinkEnd) (sequence : ℕ) (body : Body) (found : Option AgentProcess) → Here cluster machine → Here (cluster_over cluster (sending_events cluster member found to sequence body)) machine
+  sends-here : (cluster : Cluster) (machine : Machine) (to : Option LinkEnd) (sequence : ℕ) (body : Body)
+      (found : Option AgentProcess) → Here cluster machine
+      → Here (cluster_over cluster (sending_events cluster member found to sequence body)) machine
   sends-here cluster machine to sequence body None old = old
   sends-here cluster machine None sequence body (Some process) old = old
-  sends-here cluster machine (Some to) sequence body (Some process) old = message-here cluster machine (agent_message member to process.incarnation sequence body) old
+  sends-here cluster machine (Some to) sequence body (Some process) old =
+      message-here cluster machine (agent_message member to process.incarnation sequence body) old
 
-  replies-here : (cluster : Cluster) (machine : Machine) (to : Option LinkEnd) (asked sequence : ℕ) (body : Body) → Here cluster machine → Here (cluster_over cluster (replying_events cluster member to asked sequence body)) machine
+  replies-here : (cluster : Cluster) (machine : Machine) (to : Option LinkEnd) (asked sequence : ℕ) (body : Body)
+      → Here cluster machine
+      → Here (cluster_over cluster (replying_events cluster member to asked sequence body)) machine
   replies-here cluster machine None asked sequence body old = old
-  replies-here cluster machine (Some to) asked sequence body old = message-here cluster machine (agent_message member to asked sequence body) old
+  replies-here cluster machine (Some to) asked sequence body old =
+      message-here cluster machine (agent_message member to asked sequence body) old
 
   -- it shuts down without a word
   shut-here : (cluster : Cluster) (machine : Machine) → Here cluster machine
-      → Here (Behind cluster (kinds_of (option_and_then (stop_of member) (server_at cluster member)))) (with_server (status_stopping (record { 0 = cluster.facts.clock }) machine.server) machine)
+      → Here (Behind cluster (kinds_of (option_and_then (stop_of member) (server_at cluster member))))
+      (with_server (status_stopping (record { 0 = cluster.facts.clock }) machine.server) machine)
   shut-here cluster machine old =
       let s = old.server.server in
-      subst (λ (found : Option ServerFacts). Here (Behind cluster (kinds_of (option_and_then (stop_of member) found))) (with_server (status_stopping (record { 0 = cluster.facts.clock }) machine.server) machine)) (sym old.server.is)
-      (stop-by cluster machine s (is_up s.state) old.server.seen_is (ap (λ (x : Seen). is_up x.state) (sym old.server.seen_is)) old)
+      subst (λ (found : Option ServerFacts). Here (Behind cluster (kinds_of (option_and_then (stop_of member) found)))
+      (with_server (status_stopping (record { 0 = cluster.facts.clock }) machine.server) machine))
+      (sym old.server.is)
+      (stop-by cluster machine s (is_up s.state) old.server.seen_is
+      (ap (λ (x : Seen). is_up x.state) (sym old.server.seen_is)) old)
 
-  holds-here : (cluster : Cluster) (message : HeardMessage) (machine : Machine) (until : Ticks) (sequence : ℕ) (peer : Member) (found : Option Member) → found ≡ Some peer → Here cluster machine
-      → Here (Behind cluster (kinds_of (option_map (hold_taken member until message.incarnation sequence) found))) (record machine { hold = prolonged_to until machine.hold })
+  holds-here : (cluster : Cluster) (message : HeardMessage) (machine : Machine) (until : Ticks) (sequence : ℕ)
+      (peer : Member) (found : Option Member) → found ≡ Some peer → Here cluster machine
+      → Here (Behind cluster (kinds_of (option_map (hold_taken member until message.incarnation sequence) found)))
+      (record machine { hold = prolonged_to until machine.hold })
   holds-here cluster message machine until sequence peer None is old = absurd (none-some peer is)
   holds-here cluster message machine until sequence peer (Some one) is old = record {
-    server = stays-server cluster (cluster_after cluster (kinds.Watchdog (watchdogs.HoldTaken member until one message.incarnation sequence))) member.id.number (status_seen machine.server) refl old.server;
+    server = stays-server cluster
+        (cluster_after cluster (kinds.Watchdog (watchdogs.HoldTaken member until one message.incarnation sequence)))
+        member.id.number (status_seen machine.server) refl old.server;
     deadline = old.deadline;
     hold = item-here cluster.facts.holds member.id.number (prolonged_to until) machine.hold old.hold;
   }
 
-  pub output-here : (cluster : Cluster) (message : HeardMessage) (machine : Machine) (output : Output) → IsOfTable output → RepairsNone output → IsHeldFor cluster.facts.members output → Here cluster machine
-      → Here (cluster_over cluster (output_events member message cluster output)) (machine_after_output (record { 0 = cluster.facts.clock }) machine output)
+  pub output-here : (cluster : Cluster) (message : HeardMessage) (machine : Machine) (output : Output)
+      → IsOfTable output → RepairsNone output → IsHeldFor cluster.facts.members output → Here cluster machine
+      → Here (cluster_over cluster (output_events member message cluster output))
+      (machine_after_output (record { 0 = cluster.facts.clock }) machine output)
   output-here cluster message machine (outputs.Repair leader repair) table none held old = absurd none
   output-here cluster message machine outputs.ShutDown table none held old = shut-here cluster machine old
-  output-here cluster message machine (outputs.Send to sequence body) table none held old = sends-here cluster machine (receiver_of cluster.facts.members to) sequence body (slice_get cluster.facts.processes member.id.number) old
-  output-here cluster message machine (outputs.Answer to asked sequence answer) table none held old = replies-here cluster machine (receiver_of cluster.facts.members (targets.Member to)) asked sequence (bodies.Answer answer) old
+  output-here cluster message machine (outputs.Send to sequence body) table none held old = sends-here cluster machine
+      (receiver_of cluster.facts.members to) sequence body (slice_get cluster.facts.processes member.id.number) old
+  output-here cluster message machine (outputs.Answer to asked sequence answer) table none held old =
+      replies-here cluster machine (receiver_of cluster.facts.members (targets.Member to)) asked sequence
+      (bodies.Answer answer) old
   output-here cluster message machine outputs.Begin table none held old = begin-here cluster machine old
-  output-here cluster message machine (outputs.StartReplica leader) table none held old = start-here cluster machine (upstream_id leader) (declared_member cluster.facts.members leader) old
+  output-here cluster message machine (outputs.StartReplica leader) table none held old =
+      start-here cluster machine (upstream_id leader) (declared_member cluster.facts.members leader) old
   output-here cluster message machine (outputs.Stop reason) table none held old = stop-here cluster machine reason old
-  output-here cluster message machine (outputs.Follow leader) table none held old = follow-here cluster machine (server_id_of leader) (slice_get cluster.facts.members leader.number) old
+  output-here cluster message machine (outputs.Follow leader) table none held old =
+      follow-here cluster machine (server_id_of leader) (slice_get cluster.facts.members leader.number) old
   output-here cluster message machine (outputs.Require required) table none held old =
-      let here : Here (cluster_over cluster (output_events member message cluster (outputs.Require required))) machine = require-here cluster machine required old in record { server = here.server; deadline = here.deadline; hold = here.hold }
+      let here : Here (cluster_over cluster (output_events member message cluster (outputs.Require required))) machine =
+      require-here cluster machine required old in
+      record { server = here.server; deadline = here.deadline; hold = here.hold }
   output-here cluster message machine (outputs.Armed until) table none held old = record {
-    server = stays-server cluster (cluster_after (cluster_after cluster (kinds.Watchdog (watchdogs.Measured member message.sent))) (kinds.Watchdog (watchdogs.Armed member until message.number))) member.id.number (status_seen machine.server) refl old.server;
+    server = stays-server cluster
+        (cluster_after (cluster_after cluster (kinds.Watchdog (watchdogs.Measured member message.sent)))
+        (kinds.Watchdog (watchdogs.Armed member until message.number)))
+        member.id.number (status_seen machine.server) refl old.server;
     deadline = item-here cluster.facts.deadlines member.id.number _ machine.watchdog.deadline old.deadline;
     hold = old.hold;
   }
   output-here cluster message machine (outputs.Fed until) table none held old = record {
-    server = stays-server cluster (cluster_after (cluster_after cluster (kinds.Watchdog (watchdogs.Measured member message.sent))) (kinds.Watchdog (watchdogs.Fed member until (bases.Grant message.number)))) member.id.number (status_seen machine.server) refl old.server;
+    server = stays-server cluster
+        (cluster_after (cluster_after cluster (kinds.Watchdog (watchdogs.Measured member message.sent)))
+        (kinds.Watchdog (watchdogs.Fed member until (bases.Grant message.number))))
+        member.id.number (status_seen machine.server) refl old.server;
     deadline = item-here cluster.facts.deadlines member.id.number _ machine.watchdog.deadline old.deadline;
     hold = old.hold;
   }
   output-here cluster message machine outputs.Disarmed table none held old = record {
-    server = stays-server cluster (cluster_after cluster (kinds.Watchdog (watchdogs.Disarmed member))) member.id.number (status_seen machine.server) refl old.server;
+    server = stays-server cluster (cluster_after cluster (kinds.Watchdog (watchdogs.Disarmed member))) member.id.number
+        (status_seen machine.server) refl old.server;
     deadline = item-here cluster.facts.deadlines member.id.number _ machine.watchdog.deadline old.deadline;
     hold = old.hold;
   }
-  output-here cluster message machine (outputs.Note note) table none held old = unmoved cluster (cluster_after cluster (agent_noting cluster.facts.members member note)) member.id.number machine refl refl refl old
-  output-here cluster message machine outputs.ClaimsOutsideSync table none held old = unmoved cluster (cluster_after cluster (kinds.Agent (agents.Passed member))) member.id.number machine refl refl refl old
-  output-here cluster message machine (outputs.Restart as_primary) table none held old = restart-here cluster machine old
+  output-here cluster message machine (outputs.Note note) table none held old =
+      unmoved cluster (cluster_after cluster (agent_noting cluster.facts.members member note))
+      member.id.number machine refl refl refl old
+  output-here cluster message machine outputs.ClaimsOutsideSync table none held old = unmoved cluster
+      (cluster_after cluster (kinds.Agent (agents.Passed member))) member.id.number machine refl refl refl old
+  output-here cluster message machine (outputs.Restart as_primary) table none held old =
+      restart-here cluster machine old
   output-here cluster message machine outputs.Wipe table none held old = wipe-here cluster machine old
   output-here cluster message machine (outputs.Told request told) table none held old =
-      note-here cluster machine (told_kind member (agent_at cluster.agents member.id.number) told) (told-holds IsOfNote member (agent_at cluster.agents member.id.number) told (λ reply. tt)) old
-  output-here cluster message machine (outputs.HoldTaken until from sequence) table none held old = holds-here cluster message machine until sequence held.0 (slice_get cluster.facts.members from.number) held.1 old
-  output-here cluster message machine (outputs.FailsafeAnswer to asked sequence accepted) table none held old = replies-here cluster machine (receiver_of cluster.facts.members (targets.Member to)) asked sequence (bodies.FailsafeAnswer accepted) old
-  output-here cluster message machine (outputs.FedByFailsafe until members sequence since) table none held old = record {
-    server = stays-server cluster (cluster_after (cluster_after cluster (kinds.Watchdog (watchdogs.Measured member since))) (kinds.Watchdog (watchdogs.Fed member until (bases.Acknowledgements members sequence)))) member.id.number (status_seen machine.server) refl old.server;
-    deadline = item-here cluster.facts.deadlines member.id.number _ machine.watchdog.deadline old.deadline;
-    hold = old.hold;
-  }
-  output-here cluster message machine outputs.StaysByFailsafe table none held old = unmoved cluster (cluster_after cluster (kinds.Note (notes.StaysByFailsafe member))) member.id.number machine refl refl refl old
+      note-here cluster machine (told_kind member (agent_at cluster.agents member.id.number) told)
+      (told-holds IsOfNote member (agent_at cluster.agents member.id.number) told (λ reply. tt)) old
+  output-here cluster message machine (outputs.HoldTaken until from sequence) table none held old =
+      holds-here cluster message machine until sequence held.0 (slice_get cluster.facts.members from.number) held.1 old
+  output-here cluster message machine (outputs.FailsafeAnswer to asked sequence accepted) table none held old =
+      replies-here cluster machine (receiver_of cluster.facts.members (targets.Member to)) asked sequence
+      (bodies.FailsafeAnswer accepted) old
+  output-here cluster message machine (outputs.FedByFailsafe until members sequence since) table none held old =
+      record {
+        server = stays-server cluster
+            (cluster_after (cluster_after cluster (kinds.Watchdog (watchdogs.Measured member since)))
+            (kinds.Watchdog (watchdogs.Fed member until (bases.Acknowledgements members sequence))))
+            member.id.number (status_seen machine.server) refl old.server;
+        deadline = item-here cluster.facts.deadlines member.id.number _ machine.watchdog.deadline old.deadline;
+        hold = old.hold;
+      }
+  output-here cluster message machine outputs.StaysByFailsafe table none held old = unmoved cluster
+      (cluster_after cluster (kinds.Note (notes.StaysByFailsafe member))) member.id.number machine refl refl refl old

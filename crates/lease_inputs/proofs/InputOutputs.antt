@@ -1,5 +1,5 @@
--- All outputs of an input, one after another: the numbers of its messages, the machine that they leave, who begins in them, and what they
--- feed.
+-- All outputs of an input, one after another: the numbers of its messages,
+-- the machine that they leave, who begins in them, and what they feed.
 use Rattle.run_promise.proofs.Upholding.{over-append}
 use Rattle.std.proofs.Common.{◌≡◌, ◌⊎◌, ◌+◌, ◌++◌, ◌||◌, ◌≤◌, ◌<◌, nat_le, ℕ, Bool, true, false, List, [], ◌∷◌, Option, Some, None, All, length, slice_get, option_map, refl, sym, subst, ap, ◌∙◌, arith, inl, inr}
 use Rattle.std.proofs.lemmas.List.Elements.{All-head, All-tail}
@@ -67,11 +67,13 @@ abbrev pub sent_over : ℕ → List Event → ℕ
 sent_over last [] = last
 sent_over last (event ∷ events) = sent_over (sent_after last event.kind) events
 
-pub sent-is : (cluster : Cluster) (events : List Event) → (cluster_over cluster events).facts.sent ≡ sent_over cluster.facts.sent events
+pub sent-is : (cluster : Cluster) (events : List Event)
+    → (cluster_over cluster events).facts.sent ≡ sent_over cluster.facts.sent events
 sent-is cluster [] = refl
 sent-is cluster (event ∷ events) = sent-is (cluster_after cluster event.kind) events
 
-numbered-both : (last : ℕ) (xs ys : List Event) → AreNumberedAbove last xs → AreNumberedAbove (sent_over last xs) ys → AreNumberedAbove last (xs ++ ys)
+numbered-both : (last : ℕ) (xs ys : List Event) → AreNumberedAbove last xs
+    → AreNumberedAbove (sent_over last xs) ys → AreNumberedAbove last (xs ++ ys)
 numbered-both last [] ys first second = second
 numbered-both last (x ∷ xs) ys first second = (first.0, numbered-both (sent_after last x.kind) xs ys first.1 second)
 
@@ -83,37 +85,48 @@ no_message (outputs.Answer to asked sequence answer) = ⊥
 no_message (outputs.FailsafeAnswer to asked sequence accepted) = ⊥
 no_message _ = Unit {0}
 
-pub no-sent : (member : Member) (incarnation : ℕ) (message : Message) → IsMessageOf member incarnation no_message message → ⊥
+pub no-sent : (member : Member) (incarnation : ℕ) (message : Message)
+    → IsMessageOf member incarnation no_message message → ⊥
 no-sent member incarnation message (Asks question) = question.from
 no-sent member incarnation message (AsksPeer peer id sequence body asks is from) = from
 no-sent member incarnation message (AnswersPeer peer id asked sequence answer is from) = from
 no-sent member incarnation message (AnswersRequest peer id asked sequence accepted at is from) = from
 
-unnumbered : (member : Member) (incarnation heard last : ℕ) (kind : EventKind) → IsOfInput member incarnation heard no_message kind → IsNumberedAbove last kind × (sent_after last kind ≡ last)
-unnumbered member incarnation heard last (kinds.Message (Sent number message)) is = absurd (no-sent member incarnation message is)
+unnumbered : (member : Member) (incarnation heard last : ℕ) (kind : EventKind)
+    → IsOfInput member incarnation heard no_message kind → IsNumberedAbove last kind × (sent_after last kind ≡ last)
+unnumbered member incarnation heard last (kinds.Message (Sent number message)) is =
+    absurd (no-sent member incarnation message is)
 unnumbered member incarnation heard last (kinds.Message (Delivered number)) is = absurd is
 unnumbered member incarnation heard last (kinds.Message (Lost number)) is = (tt, refl)
 unnumbered member incarnation heard last _ is = (tt, refl)
 
-unnumbered-all : (member : Member) (incarnation heard last : ℕ) (events : List Event) → AllAre (IsOfInput member incarnation heard no_message) events → AreNumberedAbove last events
+unnumbered-all : (member : Member) (incarnation heard last : ℕ) (events : List Event)
+    → AllAre (IsOfInput member incarnation heard no_message) events → AreNumberedAbove last events
 unnumbered-all member incarnation heard last [] all = tt
 unnumbered-all member incarnation heard last (event ∷ events) all =
-    let one = unnumbered member incarnation heard last event.kind all.0 in
-    (one.0, subst (λ (n : ℕ). AreNumberedAbove n events) (sym one.1) (unnumbered-all member incarnation heard last events all.1))
+    let one = unnumbered member incarnation heard last event.kind all.0 in (
+      one.0,
+      subst (λ (n : ℕ). AreNumberedAbove n events) (sym one.1)
+          (unnumbered-all member incarnation heard last events all.1),
+    )
 
 -- an event at which the clock stands, no agent starts, and the message of this number isn't sent
-moments-kept : (member : Member) (incarnation heard n : ℕ) (kind : EventKind) → (n < 0 → ⊥) → IsOfInput member incarnation heard no_message kind → KeepsMomentOf n kind
+moments-kept : (member : Member) (incarnation heard n : ℕ) (kind : EventKind) → (n < 0 → ⊥)
+    → IsOfInput member incarnation heard no_message kind → KeepsMomentOf n kind
 moments-kept member incarnation heard n kinds.Tick low is = absurd is
 moments-kept member incarnation heard n (kinds.Agent (agents.Passed by)) low is = tt
 moments-kept member incarnation heard n (kinds.Agent _) low is = absurd is
-moments-kept member incarnation heard n (kinds.Message (Sent number message)) low is = absurd (no-sent member incarnation message is)
+moments-kept member incarnation heard n (kinds.Message (Sent number message)) low is =
+    absurd (no-sent member incarnation message is)
 moments-kept member incarnation heard n _ low is = tt
 
-above-kept : (member : Member) (incarnation heard last n : ℕ) (Q : Output → Type 0) (kind : EventKind) → n ≤ last → IsNumberedAbove last kind → IsOfInput member incarnation heard Q kind → KeepsMomentOf n kind
+above-kept : (member : Member) (incarnation heard last n : ℕ) (Q : Output → Type 0) (kind : EventKind)
+    → n ≤ last → IsNumberedAbove last kind → IsOfInput member incarnation heard Q kind → KeepsMomentOf n kind
 above-kept member incarnation heard last n Q kinds.Tick low above is = absurd is
 above-kept member incarnation heard last n Q (kinds.Agent (agents.Passed by)) low above is = tt
 above-kept member incarnation heard last n Q (kinds.Agent _) low above is = absurd is
-above-kept member incarnation heard last n Q (kinds.Message (Sent number message)) low above is = λ e. omega (arith, e, low, above)
+above-kept member incarnation heard last n Q (kinds.Message (Sent number message)) low above is =
+    λ e. omega (arith, e, low, above)
 above-kept member incarnation heard last n Q _ low above is = tt
 
 last-rises : (kind : EventKind) (last n : ℕ) → n ≤ last → IsNumberedAbove last kind → n ≤ sent_after last kind
@@ -122,10 +135,15 @@ last-rises (kinds.Message (Delivered number)) last n small above = small
 last-rises (kinds.Message (Lost number)) last n small above = small
 last-rises _ last n small above = small
 
-pub moments-all : (member : Member) (incarnation heard last n : ℕ) (Q : Output → Type 0) (events : List Event) → n ≤ last → AreNumberedAbove last events → AllAre (IsOfInput member incarnation heard Q) events → AllAre (KeepsMomentOf n) events
+pub moments-all : (member : Member) (incarnation heard last n : ℕ) (Q : Output → Type 0) (events : List Event)
+    → n ≤ last → AreNumberedAbove last events → AllAre (IsOfInput member incarnation heard Q) events
+    → AllAre (KeepsMomentOf n) events
 moments-all member incarnation heard last n Q [] low numbered all = tt
-moments-all member incarnation heard last n Q (event ∷ events) low numbered all =
-    (above-kept member incarnation heard last n Q event.kind low numbered.0 all.0, moments-all member incarnation heard (sent_after last event.kind) n Q events (last-rises event.kind last n low numbered.0) numbered.1 all.1)
+moments-all member incarnation heard last n Q (event ∷ events) low numbered all = (
+  above-kept member incarnation heard last n Q event.kind low numbered.0 all.0,
+  moments-all member incarnation heard (sent_after last event.kind) n Q events
+      (last-rises event.kind last n low numbered.0) numbered.1 all.1,
+)
 
 -- an output with which a server may come to accept writes has this
 abbrev MayBegin : Type 0 → Output → Type 0
@@ -135,7 +153,8 @@ MayBegin X _ = Unit {0}
 
 -- a message that is sent goes between these members and the key store
 abbrev pub GoesBetween : List Member → EventKind → Type 0
-GoesBetween members (kinds.Message (Sent number message)) = IsKnownEnd members message.from × IsKnownEnd members message.to
+GoesBetween members (kinds.Message (Sent number message)) =
+    IsKnownEnd members message.from × IsKnownEnd members message.to
 GoesBetween members _ = Unit {0}
 
 -- no server starts again by this output
@@ -160,82 +179,125 @@ module _ (member : Member) (incarnation : ℕ) (message : HeardMessage) where
   any-all : (outs : List Output) → All Any outs
   any-all outs = λ k d h. tt
 
-  pub stays-output : (cluster : Cluster) (output : Output) → Runs cluster.facts → IsOfTable output → Stays member.id.number cluster (Later cluster output)
-  stays-output cluster output runs table = stays-over member incarnation message.number Any cluster (Brings cluster output) (output-mine member incarnation message.number Any cluster message refl runs output table tt)
+  pub stays-output : (cluster : Cluster) (output : Output) → Runs cluster.facts → IsOfTable output
+      → Stays member.id.number cluster (Later cluster output)
+  stays-output cluster output runs table =
+      stays-over member incarnation message.number Any cluster (Brings cluster output)
+      (output-mine member incarnation message.number Any cluster message refl runs output table tt)
 
-  pub runs-later : (cluster : Cluster) (output : Output) → Runs cluster.facts → IsOfTable output → Runs (Later cluster output).facts
-  runs-later cluster output runs table = runs-over member incarnation message.number Any cluster (Later cluster output) (stays-output cluster output runs table) runs
+  pub runs-later : (cluster : Cluster) (output : Output) → Runs cluster.facts → IsOfTable output
+      → Runs (Later cluster output).facts
+  runs-later cluster output runs table = runs-over member incarnation message.number Any cluster
+      (Later cluster output) (stays-output cluster output runs table) runs
 
   -- ---- numbers
-  lost-numbered : (cluster : Cluster) (test : Bool) (number last : ℕ) → AreNumberedAbove last (events_of cluster (lost_at_once test number))
+  lost-numbered : (cluster : Cluster) (test : Bool) (number last : ℕ)
+      → AreNumberedAbove last (events_of cluster (lost_at_once test number))
   lost-numbered cluster true number last = (tt, tt)
   lost-numbered cluster false number last = tt
 
-  message-numbered : (cluster : Cluster) (sends : Message) → AreNumberedAbove cluster.facts.sent (send_events cluster sends)
+  message-numbered : (cluster : Cluster) (sends : Message)
+      → AreNumberedAbove cluster.facts.sent (send_events cluster sends)
   message-numbered cluster sends =
-      let sent : EventKind = kinds.Message (Sent (cluster.facts.sent + 1) sends) in
-      (omega arith, lost-numbered (cluster_after cluster sent) (nat_le most_in_flight (length cluster.facts.flight)) (cluster.facts.sent + 1) (cluster.facts.sent + 1))
+      let sent : EventKind = kinds.Message (Sent (cluster.facts.sent + 1) sends) in (
+        omega arith,
+        lost-numbered (cluster_after cluster sent) (nat_le most_in_flight (length cluster.facts.flight))
+            (cluster.facts.sent + 1) (cluster.facts.sent + 1),
+      )
 
-  send-numbered : (cluster : Cluster) (to : Option LinkEnd) (sequence : ℕ) (body : Body) (found : Option AgentProcess) → AreNumberedAbove cluster.facts.sent (sending_events cluster member found to sequence body)
+  send-numbered : (cluster : Cluster) (to : Option LinkEnd) (sequence : ℕ) (body : Body) (found : Option AgentProcess)
+      → AreNumberedAbove cluster.facts.sent (sending_events cluster member found to sequence body)
   send-numbered cluster to sequence body None = tt
   send-numbered cluster None sequence body (Some process) = tt
-  send-numbered cluster (Some to) sequence body (Some process) = message-numbered cluster (agent_message member to process.incarnation sequence body)
+  send-numbered cluster (Some to) sequence body (Some process) =
+      message-numbered cluster (agent_message member to process.incarnation sequence body)
 
-  reply-numbered : (cluster : Cluster) (to : Option LinkEnd) (asked sequence : ℕ) (body : Body) → AreNumberedAbove cluster.facts.sent (replying_events cluster member to asked sequence body)
+  reply-numbered : (cluster : Cluster) (to : Option LinkEnd) (asked sequence : ℕ) (body : Body)
+      → AreNumberedAbove cluster.facts.sent (replying_events cluster member to asked sequence body)
   reply-numbered cluster None asked sequence body = tt
-  reply-numbered cluster (Some to) asked sequence body = message-numbered cluster (agent_message member to asked sequence body)
+  reply-numbered cluster (Some to) asked sequence body =
+      message-numbered cluster (agent_message member to asked sequence body)
 
-  other-numbered : (cluster : Cluster) (output : Output) → Runs cluster.facts → IsOfTable output → no_message output → AreNumberedAbove cluster.facts.sent (Brings cluster output)
+  other-numbered : (cluster : Cluster) (output : Output) → Runs cluster.facts → IsOfTable output
+      → no_message output → AreNumberedAbove cluster.facts.sent (Brings cluster output)
   other-numbered cluster output runs table silent =
-      unnumbered-all member incarnation message.number cluster.facts.sent (Brings cluster output) (output-mine member incarnation message.number no_message cluster message refl runs output table silent)
+      unnumbered-all member incarnation message.number cluster.facts.sent (Brings cluster output)
+      (output-mine member incarnation message.number no_message cluster message refl runs output table silent)
 
-  pub output-numbered : (cluster : Cluster) (output : Output) → Runs cluster.facts → IsOfTable output → AreNumberedAbove cluster.facts.sent (Brings cluster output)
-  output-numbered cluster (outputs.Send to sequence body) runs table = send-numbered cluster (receiver_of cluster.facts.members to) sequence body (slice_get cluster.facts.processes member.id.number)
-  output-numbered cluster (outputs.Answer to asked sequence answer) runs table = reply-numbered cluster (receiver_of cluster.facts.members (targets.Member to)) asked sequence (bodies.Answer answer)
-  output-numbered cluster (outputs.FailsafeAnswer to asked sequence accepted) runs table = reply-numbered cluster (receiver_of cluster.facts.members (targets.Member to)) asked sequence (bodies.FailsafeAnswer accepted)
+  pub output-numbered : (cluster : Cluster) (output : Output) → Runs cluster.facts → IsOfTable output
+      → AreNumberedAbove cluster.facts.sent (Brings cluster output)
+  output-numbered cluster (outputs.Send to sequence body) runs table = send-numbered cluster
+      (receiver_of cluster.facts.members to) sequence body (slice_get cluster.facts.processes member.id.number)
+  output-numbered cluster (outputs.Answer to asked sequence answer) runs table = reply-numbered cluster
+      (receiver_of cluster.facts.members (targets.Member to)) asked sequence (bodies.Answer answer)
+  output-numbered cluster (outputs.FailsafeAnswer to asked sequence accepted) runs table = reply-numbered cluster
+      (receiver_of cluster.facts.members (targets.Member to)) asked sequence (bodies.FailsafeAnswer accepted)
   output-numbered cluster output runs table = other-numbered cluster output runs table tt
 
-  pub each-numbered : (cluster : Cluster) (outs : List Output) → Runs cluster.facts → All IsOfTable outs → AreNumberedAbove cluster.facts.sent (each (output_events member message) cluster outs)
+  pub each-numbered : (cluster : Cluster) (outs : List Output) → Runs cluster.facts → All IsOfTable outs
+      → AreNumberedAbove cluster.facts.sent (each (output_events member message) cluster outs)
   each-numbered cluster [] runs table = tt
   each-numbered cluster (output ∷ more) runs table =
       let one = All-head IsOfTable output more table in
-      numbered-both cluster.facts.sent (Brings cluster output) (each (output_events member message) (Later cluster output) more) (output-numbered cluster output runs one)
-      (subst (λ (n : ℕ). AreNumberedAbove n (each (output_events member message) (Later cluster output) more)) (sent-is cluster (Brings cluster output))
-      (each-numbered (Later cluster output) more (runs-later cluster output runs one) (All-tail IsOfTable output more table)))
+      numbered-both cluster.facts.sent (Brings cluster output)
+      (each (output_events member message) (Later cluster output) more) (output-numbered cluster output runs one)
+      (subst (λ (n : ℕ). AreNumberedAbove n (each (output_events member message) (Later cluster output) more))
+      (sent-is cluster (Brings cluster output))
+      (each-numbered (Later cluster output) more (runs-later cluster output runs one)
+      (All-tail IsOfTable output more table)))
 
   -- ---- between members
-  lost-between : (members : List Member) (cluster : Cluster) (test : Bool) (number : ℕ) → AllAre (GoesBetween members) (events_of cluster (lost_at_once test number))
+  lost-between : (members : List Member) (cluster : Cluster) (test : Bool) (number : ℕ)
+      → AllAre (GoesBetween members) (events_of cluster (lost_at_once test number))
   lost-between members cluster true number = (tt, tt)
   lost-between members cluster false number = tt
 
-  message-between : (members : List Member) (cluster : Cluster) (sends : Message) → IsKnownEnd members sends.from → IsKnownEnd members sends.to → AllAre (GoesBetween members) (send_events cluster sends)
+  message-between : (members : List Member) (cluster : Cluster) (sends : Message) → IsKnownEnd members sends.from
+      → IsKnownEnd members sends.to → AllAre (GoesBetween members) (send_events cluster sends)
   message-between members cluster sends from to =
-      let sent : EventKind = kinds.Message (Sent (cluster.facts.sent + 1) sends) in
-      ((from, to), lost-between members (cluster_after cluster sent) (nat_le most_in_flight (length cluster.facts.flight)) (cluster.facts.sent + 1))
+      let sent : EventKind = kinds.Message (Sent (cluster.facts.sent + 1) sends) in (
+        (from, to),
+        lost-between members (cluster_after cluster sent)
+            (nat_le most_in_flight (length cluster.facts.flight)) (cluster.facts.sent + 1),
+      )
 
   -- a member that is found at this number stands at its own
-  stands-there : (members : List Member) → ((n : ℕ) (peer : Member) → slice_get members n ≡ Some peer → peer.id.number ≡ n) → (n : ℕ) (peer : Member) → slice_get members n ≡ Some peer → slice_get members peer.id.number ≡ Some peer
+  stands-there : (members : List Member)
+      → ((n : ℕ) (peer : Member) → slice_get members n ≡ Some peer → peer.id.number ≡ n)
+      → (n : ℕ) (peer : Member) → slice_get members n ≡ Some peer → slice_get members peer.id.number ≡ Some peer
   stands-there members numbered n peer is = ap (λ (k : ℕ). slice_get members k) (numbered n peer is) ∙ is
 
-  send-between : (cluster : Cluster) → slice_get cluster.facts.members member.id.number ≡ Some member → (to : Option LinkEnd) → ((end : LinkEnd) → to ≡ Some end → IsKnownEnd cluster.facts.members end) → (sequence : ℕ) (body : Body) (found : Option AgentProcess)
+  send-between : (cluster : Cluster) → slice_get cluster.facts.members member.id.number ≡ Some member
+      → (to : Option LinkEnd) → ((end : LinkEnd) → to ≡ Some end → IsKnownEnd cluster.facts.members end)
+      → (sequence : ℕ) (body : Body) (found : Option AgentProcess)
       → AllAre (GoesBetween cluster.facts.members) (sending_events cluster member found to sequence body)
   send-between cluster mine to known sequence body None = tt
   send-between cluster mine None known sequence body (Some process) = tt
-  send-between cluster mine (Some to) known sequence body (Some process) = message-between cluster.facts.members cluster (agent_message member to process.incarnation sequence body) mine (known to refl)
+  send-between cluster mine (Some to) known sequence body (Some process) = message-between cluster.facts.members cluster
+      (agent_message member to process.incarnation sequence body) mine (known to refl)
 
-  reply-between : (cluster : Cluster) → slice_get cluster.facts.members member.id.number ≡ Some member → (to : Option LinkEnd) → ((end : LinkEnd) → to ≡ Some end → IsKnownEnd cluster.facts.members end) → (asked sequence : ℕ) (body : Body)
+  reply-between : (cluster : Cluster) → slice_get cluster.facts.members member.id.number ≡ Some member
+      → (to : Option LinkEnd) → ((end : LinkEnd) → to ≡ Some end → IsKnownEnd cluster.facts.members end)
+      → (asked sequence : ℕ) (body : Body)
       → AllAre (GoesBetween cluster.facts.members) (replying_events cluster member to asked sequence body)
   reply-between cluster mine None known asked sequence body = tt
-  reply-between cluster mine (Some to) known asked sequence body = message-between cluster.facts.members cluster (agent_message member to asked sequence body) mine (known to refl)
+  reply-between cluster mine (Some to) known asked sequence body =
+      message-between cluster.facts.members cluster (agent_message member to asked sequence body) mine (known to refl)
 
-  known-peer : (members : List Member) → ((n : ℕ) (peer : Member) → slice_get members n ≡ Some peer → peer.id.number ≡ n) → (n : ℕ) (peer : Option Member) → slice_get members n ≡ peer → (end : LinkEnd) → option_map (λ (m : Member). ends.Member m) peer ≡ Some end → IsKnownEnd members end
+  known-peer : (members : List Member)
+      → ((n : ℕ) (peer : Member) → slice_get members n ≡ Some peer → peer.id.number ≡ n)
+      → (n : ℕ) (peer : Option Member) → slice_get members n ≡ peer → (end : LinkEnd)
+      → option_map (λ (m : Member). ends.Member m) peer ≡ Some end → IsKnownEnd members end
   known-peer members numbered n None is end e = absurd (none-some end e)
-  known-peer members numbered n (Some peer) is end e = subst (IsKnownEnd members) (some-is (ends.Member peer) end e) (stands-there members numbered n peer is)
+  known-peer members numbered n (Some peer) is end e =
+      subst (IsKnownEnd members) (some-is (ends.Member peer) end e) (stands-there members numbered n peer is)
 
-  known-store : (members : List Member) (end : LinkEnd) → ◌≡◌ {A = Option LinkEnd} (Some ends.Store) (Some end) → IsKnownEnd members end
+  known-store : (members : List Member) (end : LinkEnd)
+      → ◌≡◌ {A = Option LinkEnd} (Some ends.Store) (Some end) → IsKnownEnd members end
   known-store members end e = subst (IsKnownEnd members) (some-is ends.Store end e) tt
 
-  quiet-between : (members : List Member) (events : List Event) → AllAre (IsOfInput member incarnation message.number no_message) events → AllAre (GoesBetween members) events
+  quiet-between : (members : List Member) (events : List Event)
+      → AllAre (IsOfInput member incarnation message.number no_message) events → AllAre (GoesBetween members) events
   quiet-between members [] all = tt
   quiet-between members (event ∷ events) all = (one event.kind all.0, quiet-between members events all.1)
     where
@@ -245,66 +307,115 @@ module _ (member : Member) (incarnation : ℕ) (message : HeardMessage) where
       one (kinds.Message (Lost number)) is = tt
       one _ is = tt
 
-  other-between : (cluster : Cluster) (output : Output) → Runs cluster.facts → IsOfTable output → no_message output → AllAre (GoesBetween cluster.facts.members) (Brings cluster output)
-  other-between cluster output runs table silent = quiet-between cluster.facts.members (Brings cluster output) (output-mine member incarnation message.number no_message cluster message refl runs output table silent)
+  other-between : (cluster : Cluster) (output : Output) → Runs cluster.facts → IsOfTable output
+      → no_message output → AllAre (GoesBetween cluster.facts.members) (Brings cluster output)
+  other-between cluster output runs table silent = quiet-between cluster.facts.members (Brings cluster output)
+      (output-mine member incarnation message.number no_message cluster message refl runs output table silent)
 
-  output-between : (cluster : Cluster) (output : Output) → slice_get cluster.facts.members member.id.number ≡ Some member → Runs cluster.facts → IsOfTable output → AllAre (GoesBetween cluster.facts.members) (Brings cluster output)
-  output-between cluster (outputs.Send targets.Store sequence body) mine runs table = send-between cluster mine (Some ends.Store) (known-store cluster.facts.members) sequence body (slice_get cluster.facts.processes member.id.number)
+  output-between : (cluster : Cluster) (output : Output)
+      → slice_get cluster.facts.members member.id.number ≡ Some member → Runs cluster.facts → IsOfTable output
+      → AllAre (GoesBetween cluster.facts.members) (Brings cluster output)
+  output-between cluster (outputs.Send targets.Store sequence body) mine runs table =
+      send-between cluster mine (Some ends.Store) (known-store cluster.facts.members) sequence body
+      (slice_get cluster.facts.processes member.id.number)
   output-between cluster (outputs.Send (targets.Member to) sequence body) mine runs table =
-      send-between cluster mine (receiver_of cluster.facts.members (targets.Member to)) (known-peer cluster.facts.members runs.numbered to.number (slice_get cluster.facts.members to.number) refl) sequence body (slice_get cluster.facts.processes member.id.number)
+      send-between cluster mine (receiver_of cluster.facts.members (targets.Member to))
+      (known-peer cluster.facts.members runs.numbered to.number (slice_get cluster.facts.members to.number) refl)
+      sequence body (slice_get cluster.facts.processes member.id.number)
   output-between cluster (outputs.Answer to asked sequence answer) mine runs table =
-      reply-between cluster mine (receiver_of cluster.facts.members (targets.Member to)) (known-peer cluster.facts.members runs.numbered to.number (slice_get cluster.facts.members to.number) refl) asked sequence (bodies.Answer answer)
+      reply-between cluster mine (receiver_of cluster.facts.members (targets.Member to))
+      (known-peer cluster.facts.members runs.numbered to.number (slice_get cluster.facts.members to.number) refl)
+      asked sequence (bodies.Answer answer)
   output-between cluster (outputs.FailsafeAnswer to asked sequence accepted) mine runs table =
-      reply-between cluster mine (receiver_of cluster.facts.members (targets.Member to)) (known-peer cluster.facts.members runs.numbered to.number (slice_get cluster.facts.members to.number) refl) asked sequence (bodies.FailsafeAnswer accepted)
+      reply-between cluster mine (receiver_of cluster.facts.members (targets.Member to))
+      (known-peer cluster.facts.members runs.numbered to.number (slice_get cluster.facts.members to.number) refl)
+      asked sequence (bodies.FailsafeAnswer accepted)
   output-between cluster output mine runs table = other-between cluster output runs table tt
 
   -- each message of an input goes between members and the key store
-  pub each-between : (cluster : Cluster) (outs : List Output) → slice_get cluster.facts.members member.id.number ≡ Some member → Runs cluster.facts → All IsOfTable outs → AllAre (GoesBetween cluster.facts.members) (each (output_events member message) cluster outs)
+  pub each-between : (cluster : Cluster) (outs : List Output)
+      → slice_get cluster.facts.members member.id.number ≡ Some member → Runs cluster.facts → All IsOfTable outs
+      → AllAre (GoesBetween cluster.facts.members) (each (output_events member message) cluster outs)
   each-between cluster [] mine runs table = tt
   each-between cluster (output ∷ more) mine runs table =
       let one = All-head IsOfTable output more table in let next = Later cluster output in
       let members : next.facts.members ≡ cluster.facts.members = (stays-output cluster output runs one).members in
-      all-both (GoesBetween cluster.facts.members) (Brings cluster output) (each (output_events member message) next more) (output-between cluster output mine runs one)
+      all-both (GoesBetween cluster.facts.members) (Brings cluster output)
+      (each (output_events member message) next more) (output-between cluster output mine runs one)
       (subst (λ (l : List Member). AllAre (GoesBetween l) (each (output_events member message) next more)) members
-      (each-between next more (ap (λ (l : List Member). slice_get l member.id.number) members ∙ mine) (runs-later cluster output runs one) (All-tail IsOfTable output more table)))
+      (each-between next more (ap (λ (l : List Member). slice_get l member.id.number) members ∙ mine)
+      (runs-later cluster output runs one) (All-tail IsOfTable output more table)))
 
   -- ---- the machine
   -- a repair comes last
-  last-resembles : (cluster : Cluster) (machine : Machine) (leader : MemberId) (repair : Repair) (more : List Output) → more ≡ [] → Mirrors cluster member.id.number machine
-      → Resembles (cluster_over cluster (each (output_events member message) cluster (outputs.Repair leader repair ∷ more))) member.id.number machine
+  last-resembles : (cluster : Cluster) (machine : Machine) (leader : MemberId) (repair : Repair) (more : List Output)
+      → more ≡ [] → Mirrors cluster member.id.number machine
+      → Resembles (cluster_over cluster
+      (each (output_events member message) cluster (outputs.Repair leader repair ∷ more)))
+      member.id.number machine
   last-resembles cluster machine leader repair more none old =
-      subst (λ (l : List Output). Resembles (cluster_over cluster (each (output_events member message) cluster (outputs.Repair leader repair ∷ l))) member.id.number machine) (sym none)
-      (subst (λ (c : Cluster). Resembles c member.id.number machine) (sym (over-append cluster (Brings cluster (outputs.Repair leader repair)) []))
+      subst (λ (l : List Output).
+      Resembles (cluster_over cluster (each (output_events member message) cluster (outputs.Repair leader repair ∷ l)))
+      member.id.number machine)
+      (sym none)
+      (subst (λ (c : Cluster). Resembles c member.id.number machine)
+      (sym (over-append cluster (Brings cluster (outputs.Repair leader repair)) []))
       (repair-resembles cluster member message machine leader repair (mirrored cluster member.id.number machine old)))
 
   -- one output is carried out, and then the others
-  more-resemble : (now : Ticks) (cluster : Cluster) (machine : Machine) (output : Output) (more : List Output) → RepairsNone output → IsOfTable output → IsHeldFor cluster.facts.members output → cluster.facts.clock ≡ now.0 → Mirrors cluster member.id.number machine
+  more-resemble : (now : Ticks) (cluster : Cluster) (machine : Machine) (output : Output) (more : List Output)
+      → RepairsNone output → IsOfTable output → IsHeldFor cluster.facts.members output
+      → cluster.facts.clock ≡ now.0 → Mirrors cluster member.id.number machine
       → (Mirrors (Later cluster output) member.id.number (machine_after_output now machine output)
-      → Resembles (cluster_over (Later cluster output) (each (output_events member message) (Later cluster output) more)) member.id.number (machine_after_outputs now (machine_after_output now machine output) more))
-      → Resembles (cluster_over cluster (each (output_events member message) cluster (output ∷ more))) member.id.number (machine_after_outputs now (machine_after_output now machine output) more)
+      → Resembles (cluster_over (Later cluster output)
+      (each (output_events member message) (Later cluster output) more))
+      member.id.number (machine_after_outputs now (machine_after_output now machine output) more))
+      → Resembles (cluster_over cluster (each (output_events member message) cluster (output ∷ more))) member.id.number
+      (machine_after_outputs now (machine_after_output now machine output) more)
   more-resemble now cluster machine output more none table held clock old then =
       let next = Later cluster output in
       let made = output-here member cluster message machine output table none held old in
-      subst (λ (c : Cluster). Resembles c member.id.number (machine_after_outputs now (machine_after_output now machine output) more)) (sym (over-append cluster (Brings cluster output) (each (output_events member message) next more)))
-      (then (subst (λ (n : ℕ). let t : Ticks = record { 0 = n } in Mirrors next member.id.number (machine_after_output t machine output)) clock made))
+      subst (λ (c : Cluster).
+      Resembles c member.id.number (machine_after_outputs now (machine_after_output now machine output) more))
+      (sym (over-append cluster (Brings cluster output) (each (output_events member message) next more)))
+      (then (subst (λ (n : ℕ). let t : Ticks = record { 0 = n } in
+      Mirrors next member.id.number (machine_after_output t machine output))
+      clock made))
 
-  pub held-later : (cluster : Cluster) (output : Output) → Runs cluster.facts → IsOfTable output → (more : List Output) → All (IsHeldFor cluster.facts.members) more → All (IsHeldFor (Later cluster output).facts.members) more
-  held-later cluster output runs table more held = subst (λ (l : List Member). All (IsHeldFor l) more) (sym (stays-output cluster output runs table).members) held
+  pub held-later : (cluster : Cluster) (output : Output) → Runs cluster.facts → IsOfTable output → (more : List Output)
+      → All (IsHeldFor cluster.facts.members) more → All (IsHeldFor (Later cluster output).facts.members) more
+  held-later cluster output runs table more held =
+      subst (λ (l : List Member). All (IsHeldFor l) more) (sym (stays-output cluster output runs table).members) held
 
-  repairs-none : (output : Output) (later : List Output) → EndsRepairing output later → RepairsNone output ⊎ ((leader : MemberId) × ((repair : Repair) × ((output ≡ outputs.Repair leader repair) × (later ≡ []))))
+  repairs-none : (output : Output) (later : List Output) → EndsRepairing output later
+      → RepairsNone output
+      ⊎ ((leader : MemberId) × ((repair : Repair) × ((output ≡ outputs.Repair leader repair) × (later ≡ []))))
   repairs-none (outputs.Repair leader repair) later ends = inr (leader, (repair, (refl, ends)))
   repairs-none _ later ends = inl tt
 
-  pub each-resembles : (now : Ticks) (cluster : Cluster) (machine : Machine) (outs : List Output) → Runs cluster.facts → All IsOfTable outs → All (IsHeldFor cluster.facts.members) outs → RepairsLast outs → cluster.facts.clock ≡ now.0 → Mirrors cluster member.id.number machine
-      → Resembles (cluster_over cluster (each (output_events member message) cluster outs)) member.id.number (machine_after_outputs now machine outs)
+  pub each-resembles : (now : Ticks) (cluster : Cluster) (machine : Machine) (outs : List Output)
+      → Runs cluster.facts → All IsOfTable outs → All (IsHeldFor cluster.facts.members) outs
+      → RepairsLast outs → cluster.facts.clock ≡ now.0 → Mirrors cluster member.id.number machine
+      → Resembles (cluster_over cluster (each (output_events member message) cluster outs)) member.id.number
+      (machine_after_outputs now machine outs)
   each-resembles now cluster machine [] runs table held last clock old = mirrored cluster member.id.number machine old
   each-resembles now cluster machine (output ∷ more) runs table held last clock old =
       let one = All-head IsOfTable output more table in
       elim (repairs-none output more last.0) [
-        | inl none ↦ more-resemble now cluster machine output more none one (All-head (IsHeldFor cluster.facts.members) output more held) clock old
-            (each-resembles now (Later cluster output) (machine_after_output now machine output) more (runs-later cluster output runs one) (All-tail IsOfTable output more table) (held-later cluster output runs one more (All-tail (IsHeldFor cluster.facts.members) output more held)) last.1 ((stays-output cluster output runs one).clock ∙ clock))
-        | inr ends ↦ subst (λ (x : Output). Resembles (cluster_over cluster (each (output_events member message) cluster (x ∷ more))) member.id.number (machine_after_outputs now (machine_after_output now machine x) more)) (sym ends.1.1.0)
-            (subst (λ (l : List Output). Resembles (cluster_over cluster (each (output_events member message) cluster (outputs.Repair ends.0 ends.1.0 ∷ more))) member.id.number (machine_after_outputs now machine l)) (sym ends.1.1.1)
+        | inl none ↦ more-resemble now cluster machine output more none one
+            (All-head (IsHeldFor cluster.facts.members) output more held) clock old
+            (each-resembles now (Later cluster output) (machine_after_output now machine output) more
+            (runs-later cluster output runs one) (All-tail IsOfTable output more table)
+            (held-later cluster output runs one more (All-tail (IsHeldFor cluster.facts.members) output more held))
+            last.1 ((stays-output cluster output runs one).clock ∙ clock))
+        | inr ends ↦ subst
+            (λ (x : Output). Resembles (cluster_over cluster (each (output_events member message) cluster (x ∷ more)))
+            member.id.number (machine_after_outputs now (machine_after_output now machine x) more))
+            (sym ends.1.1.0)
+            (subst (λ (l : List Output). Resembles
+            (cluster_over cluster (each (output_events member message) cluster (outputs.Repair ends.0 ends.1.0 ∷ more)))
+            member.id.number (machine_after_outputs now machine l))
+            (sym ends.1.1.1)
             (last-resembles cluster machine ends.0 ends.1.0 more ends.1.1.1 old))
       ]
 
@@ -315,7 +426,8 @@ module _ (member : Member) (incarnation : ℕ) (message : HeardMessage) where
   abbrev ArmedIn : List Event → Type 0
   ArmedIn events = IsArmedIn member.id.number message.number events
 
-  pub armed-more : (m number : ℕ) (events more : List Event) → IsArmedIn m number events → IsArmedIn m number (events ++ more)
+  pub armed-more : (m number : ℕ) (events more : List Event) → IsArmedIn m number events
+      → IsArmedIn m number (events ++ more)
   armed-more m number events more old = record {
     front = old.front;
     event = old.event;
@@ -325,25 +437,35 @@ module _ (member : Member) (incarnation : ℕ) (message : HeardMessage) where
     fed = old.fed;
   }
 
-  begins-both : (R : List Event → ℕ → Type 0) (before xs ys : List Event) → BeginsBehind R before xs → BeginsBehind R (before ++ xs) ys → BeginsBehind R before (xs ++ ys)
+  begins-both : (R : List Event → ℕ → Type 0) (before xs ys : List Event) → BeginsBehind R before xs
+      → BeginsBehind R (before ++ xs) ys → BeginsBehind R before (xs ++ ys)
   begins-both R before [] ys first second = subst (λ (l : List Event). BeginsBehind R l ys) (none-more before) second
-  begins-both R before (x ∷ xs) ys first second =
-      (first.0, begins-both R (before ++ x ∷ []) xs ys first.1 (subst (λ (l : List Event). BeginsBehind R l ys) (sym (assoc before (x ∷ []) xs)) second))
+  begins-both R before (x ∷ xs) ys first second = (
+    first.0,
+    begins-both R (before ++ x ∷ []) xs ys first.1
+        (subst (λ (l : List Event). BeginsBehind R l ys) (sym (assoc before (x ∷ []) xs)) second),
+  )
 
   -- in the events of one output
   to-begin : (X : Type 0) → IsToBegin (MayBegin X) → X
   to-begin X (inl x) = x
   to-begin X (inr again) = again.1
 
-  one-begins : (X : Type 0) (P : ℕ → Type 0) (kind : EventKind) → (X → P member.id.number) → IsOfInput member incarnation message.number (MayBegin X) kind → BeginsKind P kind
-  one-begins X P (kinds.Server (servers.Began server timeline)) may is = subst (λ (s : ServerOf). P s.id.number) (sym is.0) (may (to-begin X is.1))
+  one-begins : (X : Type 0) (P : ℕ → Type 0) (kind : EventKind) → (X → P member.id.number)
+      → IsOfInput member incarnation message.number (MayBegin X) kind → BeginsKind P kind
+  one-begins X P (kinds.Server (servers.Began server timeline)) may is =
+      subst (λ (s : ServerOf). P s.id.number) (sym is.0) (may (to-begin X is.1))
   one-begins X P _ may is = tt
 
-  output-begins : (X : Type 0) (R : List Event → ℕ → Type 0) → ((before more : List Event) → R before member.id.number → R (before ++ more) member.id.number) → (before events : List Event) → (X → R before member.id.number)
+  output-begins : (X : Type 0) (R : List Event → ℕ → Type 0)
+      → ((before more : List Event) → R before member.id.number → R (before ++ more) member.id.number)
+      → (before events : List Event) → (X → R before member.id.number)
       → AllAre (IsOfInput member incarnation message.number (MayBegin X)) events → BeginsBehind R before events
   output-begins X R grow before [] may all = tt
-  output-begins X R grow before (event ∷ events) may all =
-      (one-begins X (R before) event.kind may all.0, output-begins X R grow (before ++ event ∷ []) events (λ x. grow before (event ∷ []) (may x)) all.1)
+  output-begins X R grow before (event ∷ events) may all = (
+    one-begins X (R before) event.kind may all.0,
+    output-begins X R grow (before ++ event ∷ []) events (λ x. grow before (event ∷ []) (may x)) all.1,
+  )
 
   or-none : (b : Bool) → (b || false) ≡ true → b ≡ true
   or-none true e = refl
@@ -364,22 +486,34 @@ module _ (member : Member) (incarnation : ℕ) (message : HeardMessage) where
   or-right true c e = refl
   or-right false c e = e
 
-  arms-or : (outs : List Output) (output : Output) → has_one is_arming (outs ++ output ∷ []) ≡ true → (has_one is_arming outs ≡ true) ⊎ (is_arming output ≡ true)
+  arms-or : (outs : List Output) (output : Output) → has_one is_arming (outs ++ output ∷ []) ≡ true
+      → (has_one is_arming outs ≡ true) ⊎ (is_arming output ≡ true)
   arms-or [] output e = inr (or-none (is_arming output) e)
-  arms-or (one ∷ outs) output e = elim (or-else (is_arming one) (has_one is_arming (outs ++ output ∷ [])) (λ a. a) (λ b. b) e) [
-    | inl here ↦ inl (or-left (is_arming one) (has_one is_arming outs) here)
-    | inr later ↦ elim (arms-or outs output later) [ inl was ↦ inl (or-right (is_arming one) (has_one is_arming outs) was) | inr now ↦ inr now ]
-  ]
+  arms-or (one ∷ outs) output e =
+      elim (or-else (is_arming one) (has_one is_arming (outs ++ output ∷ [])) (λ a. a) (λ b. b) e) [
+        | inl here ↦ inl (or-left (is_arming one) (has_one is_arming outs) here)
+        | inr later ↦ elim (arms-or outs output later) [
+          | inl was ↦ inl (or-right (is_arming one) (has_one is_arming outs) was)
+          | inr now ↦ inr now
+        ]
+      ]
 
   -- from when a feed is measured
   abbrev measured : Cluster → Event
-  measured cluster = record { tick = record { 0 = cluster.facts.clock }; kind = kinds.Watchdog (watchdogs.Measured member message.sent) }
+  measured cluster = record {
+    tick = record { 0 = cluster.facts.clock };
+    kind = kinds.Watchdog (watchdogs.Measured member message.sent);
+  }
 
   -- an arming is told
-  arming-told : (cluster : Cluster) (output : Output) (before : List Event) → Keeps before → is_arming output ≡ true → ArmedIn (before ++ Brings cluster output)
+  arming-told : (cluster : Cluster) (output : Output) (before : List Event) → Keeps before
+      → is_arming output ≡ true → ArmedIn (before ++ Brings cluster output)
   arming-told cluster (outputs.Armed until) before kept e = record {
     front = before ++ measured cluster ∷ [];
-    event = record { tick = record { 0 = cluster.facts.clock }; kind = kinds.Watchdog (watchdogs.Armed member until message.number) };
+    event = record {
+      tick = record { 0 = cluster.facts.clock };
+      kind = kinds.Watchdog (watchdogs.Armed member until message.number);
+    };
     rest = [];
     is = assoc before (measured cluster ∷ []) _;
     aside = all-both (KeepsMomentOf message.number) before (measured cluster ∷ []) kept (tt, tt);
@@ -403,17 +537,26 @@ module _ (member : Member) (incarnation : ℕ) (message : HeardMessage) where
       no-way e = cc
 
   -- a server that starts again accepted writes before, if it does behind its start
-  again-begins : (R : List Event → ℕ → Type 0) → ((before more : List Event) → R before member.id.number → R (before ++ more) member.id.number) → (cluster : Cluster) (before : List Event) (state : State) (s : ServerFacts)
-      → (live state ≡ true → R before member.id.number) → BeginsBehind R before (events_of cluster (server_restart_in member cluster.facts.acknowledged state s))
+  again-begins : (R : List Event → ℕ → Type 0)
+      → ((before more : List Event) → R before member.id.number → R (before ++ more) member.id.number)
+      → (cluster : Cluster) (before : List Event) (state : State) (s : ServerFacts)
+      → (live state ≡ true → R before member.id.number)
+      → BeginsBehind R before (events_of cluster (server_restart_in member cluster.facts.acknowledged state s))
   again-begins R grow cluster before states.Primary s may =
       let list = server_restart_in member cluster.facts.acknowledged states.Primary s in
       output-begins (R before member.id.number) R grow before (events_of cluster list) (λ begins. begins)
-      (all-kinds (IsOfInput member incarnation message.number (MayBegin (R before member.id.number))) cluster list (again-mine member incarnation message.number (MayBegin (R before member.id.number)) cluster.facts.acknowledged states.Primary s (inl (may refl))))
+      (all-kinds (IsOfInput member incarnation message.number (MayBegin (R before member.id.number))) cluster list
+      (again-mine member incarnation message.number
+      (MayBegin (R before member.id.number)) cluster.facts.acknowledged states.Primary s (inl (may refl))))
   again-begins R grow cluster before states.Replica s may = (tt, tt)
   again-begins R grow cluster before _ s may = tt
 
-  restart-begins : (R : List Event → ℕ → Type 0) → ((before more : List Event) → R before member.id.number → R (before ++ more) member.id.number) → (cluster : Cluster) (before : List Event) (found : Option ServerFacts)
-      → ((s : ServerFacts) → found ≡ Some s → live s.state ≡ true → R before member.id.number) → BeginsBehind R before (for_some found (λ s. events_of cluster (server_restart_kinds member cluster.facts.acknowledged s)))
+  restart-begins : (R : List Event → ℕ → Type 0)
+      → ((before more : List Event) → R before member.id.number → R (before ++ more) member.id.number)
+      → (cluster : Cluster) (before : List Event) (found : Option ServerFacts)
+      → ((s : ServerFacts) → found ≡ Some s → live s.state ≡ true → R before member.id.number)
+      → BeginsBehind R before
+      (for_some found (λ s. events_of cluster (server_restart_kinds member cluster.facts.acknowledged s)))
   restart-begins R grow cluster before None may = tt
   restart-begins R grow cluster before (Some s) may = again-begins R grow cluster before s.state s (may s refl)
 
@@ -423,37 +566,53 @@ module _ (member : Member) (incarnation : ℕ) (message : HeardMessage) where
   may-begin X (outputs.Restart as_primary) none is = absurd none
   may-begin X _ none is = tt
 
-  restarts-none : (output : Output) → RestartsNone output ⊎ ((as_primary : Bool) × (output ≡ outputs.Restart as_primary))
+  restarts-none : (output : Output)
+      → RestartsNone output ⊎ ((as_primary : Bool) × (output ≡ outputs.Restart as_primary))
   restarts-none (outputs.Restart as_primary) = inr (as_primary, refl)
   restarts-none _ = inl tt
 
-  brings-begin : (P : List Output → Type 0) (R : List Event → ℕ → Type 0) → ((before more : List Event) → R before member.id.number → R (before ++ more) member.id.number)
-      → (cluster : Cluster) (done : List Output) (before : List Event) (output : Output) → Runs cluster.facts → IsOfTable output → BeginsOnly (P done) output → (P done → R before member.id.number)
-      → (live_in cluster.facts.servers member.id.number ≡ true → R before member.id.number) → BeginsBehind R before (Brings cluster output)
+  brings-begin : (P : List Output → Type 0) (R : List Event → ℕ → Type 0)
+      → ((before more : List Event) → R before member.id.number → R (before ++ more) member.id.number)
+      → (cluster : Cluster) (done : List Output) (before : List Event) (output : Output) → Runs cluster.facts
+      → IsOfTable output → BeginsOnly (P done) output → (P done → R before member.id.number)
+      → (live_in cluster.facts.servers member.id.number ≡ true → R before member.id.number)
+      → BeginsBehind R before (Brings cluster output)
   brings-begin P R grow cluster done before output runs table begin makes lives = elim (restarts-none output) [
-    | inl none ↦ output-begins (P done) R grow before (Brings cluster output) makes (output-mine member incarnation message.number (MayBegin (P done)) cluster message refl runs output table (may-begin (P done) output none begin))
+    | inl none ↦ output-begins (P done) R grow before (Brings cluster output) makes
+        (output-mine member incarnation message.number
+        (MayBegin (P done)) cluster message refl runs output table (may-begin (P done) output none begin))
     | inr again ↦ subst (λ (x : Output). BeginsBehind R before (Brings cluster x)) (sym again.1)
         (restart-begins R grow cluster before (server_at cluster member) (λ s is alive. lives (ap live_now is ∙ alive)))
   ]
 
   -- behind an output that isn't the order to begin a server is live that was live before
-  lives-on : {Y : Type 0} (now : Ticks) (machine : Machine) (X : Type 0) (output : Output) → BeginsOnly X output → (X → Y) → (live machine.server.state ≡ true → Y) → live (machine_after_output now machine output).server.state ≡ true → Y
+  lives-on : {Y : Type 0} (now : Ticks) (machine : Machine) (X : Type 0) (output : Output)
+      → BeginsOnly X output → (X → Y) → (live machine.server.state ≡ true → Y)
+      → live (machine_after_output now machine output).server.state ≡ true → Y
   lives-on now machine X outputs.Begin begin may lives e = may begin
-  lives-on now machine X (outputs.StartReplica leader) begin may lives e = lives (start-live now (upstream_of leader) machine.server e)
+  lives-on now machine X (outputs.StartReplica leader) begin may lives e =
+      lives (start-live now (upstream_of leader) machine.server e)
   lives-on now machine X (outputs.Stop reason) begin may lives e = lives (stop-live now machine.server e)
   lives-on now machine X outputs.ShutDown begin may lives e = lives (stop-live now machine.server e)
   lives-on now machine X (outputs.Restart as_primary) begin may lives e = lives (restart-live now machine.server e)
   lives-on now machine X outputs.Wipe begin may lives e = lives (wipe-live machine.server e)
-  lives-on now machine X (outputs.Follow leader) begin may lives e = lives (follow-live (server_id_of leader) machine.server e)
+  lives-on now machine X (outputs.Follow leader) begin may lives e =
+      lives (follow-live (server_id_of leader) machine.server e)
   lives-on now machine X _ begin may lives e = lives e
 
-  pub each-begins : (P : List Output → Type 0) (R : List Event → ℕ → Type 0) → ((before more : List Event) → R before member.id.number → R (before ++ more) member.id.number)
-      → ((outs : List Output) (before : List Event) → P outs → (has_one is_arming outs ≡ true → ArmedIn before) → R before member.id.number)
-      → (cluster : Cluster) (machine : Machine) (done : List Output) (before : List Event) (outs : List Output) → Mirrors cluster member.id.number machine → (live machine.server.state ≡ true → R before member.id.number)
-      → Runs cluster.facts → All IsOfTable outs → All (IsHeldFor cluster.facts.members) outs → RepairsLast outs → Keeps before → Keeps (each (output_events member message) cluster outs)
-      → (has_one is_arming done ≡ true → ArmedIn before) → OutputsBeginBehind P done outs → BeginsBehind R before (each (output_events member message) cluster outs)
+  pub each-begins : (P : List Output → Type 0) (R : List Event → ℕ → Type 0)
+      → ((before more : List Event) → R before member.id.number → R (before ++ more) member.id.number)
+      → ((outs : List Output) (before : List Event) → P outs →
+      (has_one is_arming outs ≡ true → ArmedIn before) → R before member.id.number)
+      → (cluster : Cluster) (machine : Machine) (done : List Output) (before : List Event) (outs : List Output)
+      → Mirrors cluster member.id.number machine → (live machine.server.state ≡ true → R before member.id.number)
+      → Runs cluster.facts → All IsOfTable outs → All (IsHeldFor cluster.facts.members) outs
+      → RepairsLast outs → Keeps before → Keeps (each (output_events member message) cluster outs)
+      → (has_one is_arming done ≡ true → ArmedIn before) → OutputsBeginBehind P done outs
+      → BeginsBehind R before (each (output_events member message) cluster outs)
   each-begins P R grow makes cluster machine done before [] mirrors lives runs table held last kept all armed begin = tt
-  each-begins P R grow makes cluster machine done before (output ∷ more) mirrors lives runs table held last kept all armed begin =
+  each-begins P R grow makes cluster machine done before (output ∷ more) mirrors lives runs table held last kept all
+      armed begin =
       let one = All-head IsOfTable output more table in
       let next = Later cluster output in
       let events = Brings cluster output in
@@ -461,16 +620,29 @@ module _ (member : Member) (incarnation : ℕ) (message : HeardMessage) where
       let now : Ticks = record { 0 = cluster.facts.clock } in
       let may : P done → R before member.id.number = (λ p. makes done before p armed) in
       begins-both R before events rest
-      (brings-begin P R grow cluster done before output runs one begin.0 may (λ alive. lives (sym (mirrored cluster member.id.number machine mirrors).lives ∙ alive)))
+      (brings-begin P R grow cluster done before output runs one begin.0 may
+      (λ alive. lives (sym (mirrored cluster member.id.number machine mirrors).lives ∙ alive)))
       (elim (repairs-none output more last.0) [
-        | inl none ↦ each-begins P R grow makes next (machine_after_output now machine output) (with_output output done) (before ++ events) more (output-here member cluster message machine output one none (All-head (IsHeldFor cluster.facts.members) output more held) mirrors)
-            (lives-on now machine (P done) output begin.0 (λ p. grow before events (may p)) (λ alive. grow before events (lives alive)))
-            (runs-later cluster output runs one) (All-tail IsOfTable output more table) (held-later cluster output runs one more (All-tail (IsHeldFor cluster.facts.members) output more held)) last.1
-            (all-both (KeepsMomentOf message.number) before events kept (all-front (KeepsMomentOf message.number) events rest all))
+        | inl none ↦ each-begins P R grow makes next (machine_after_output now machine output)
+            (with_output output done) (before ++ events) more
+            (output-here member cluster message machine output one none
+            (All-head (IsHeldFor cluster.facts.members) output more held) mirrors)
+            (lives-on now machine (P done) output begin.0 (λ p. grow before events (may p))
+            (λ alive. grow before events (lives alive)))
+            (runs-later cluster output runs one) (All-tail IsOfTable output more table)
+            (held-later cluster output runs one more (All-tail (IsHeldFor cluster.facts.members) output more held))
+            last.1
+            (all-both (KeepsMomentOf message.number) before events kept
+            (all-front (KeepsMomentOf message.number) events rest all))
             (all-back (KeepsMomentOf message.number) events rest all)
-            (λ e. elim (arms-or done output e) [ inl was ↦ armed-more member.id.number message.number before events (armed was) | inr here ↦ arming-told cluster output before kept here ])
+            (λ e. elim (arms-or done output e) [
+              | inl was ↦ armed-more member.id.number message.number before events (armed was)
+              | inr here ↦ arming-told cluster output before kept here
+            ])
             begin.1
-        | inr ends ↦ subst (λ (l : List Output). BeginsBehind R (before ++ events) (each (output_events member message) next l)) (sym ends.1.1.1) tt
+        | inr ends ↦
+            subst (λ (l : List Output). BeginsBehind R (before ++ events) (each (output_events member message) next l))
+            (sym ends.1.1.1) tt
       ])
 
   -- ---- what is fed, on which basis
@@ -495,37 +667,64 @@ module _ (member : Member) (incarnation : ℕ) (message : HeardMessage) where
     pub fed : IsFedAs Q by_failsafe event.kind
 
   fed-later : (Q : Output → Type 0) (b : Bool) (events rest : List Event) → FedIn Q b rest → FedIn Q b (events ++ rest)
-  fed-later Q b events rest old = record { front = events ++ old.front; event = old.event; rest = old.rest; is = assoc events old.front (old.event ∷ old.rest) ∙ ap (λ (l : List Event). events ++ l) old.is; fed = old.fed }
+  fed-later Q b events rest old = record {
+    front = events ++ old.front;
+    event = old.event;
+    rest = old.rest;
+    is = assoc events old.front (old.event ∷ old.rest) ∙ ap (λ (l : List Event). events ++ l) old.is;
+    fed = old.fed;
+  }
 
   not-so : false ≡ true → ⊥
   not-so e = cc
 
-  fed-now : (Q : Output → Type 0) (now : Ticks) (cluster : Cluster) (machine : Machine) (output : Output) (rest : List Event) → Q output → is_feeding output ≡ true → FedIn Q (machine_after_output now machine output).by_failsafe (Brings cluster output ++ rest)
+  fed-now : (Q : Output → Type 0) (now : Ticks) (cluster : Cluster) (machine : Machine) (output : Output)
+      (rest : List Event) → Q output → is_feeding output ≡ true
+      → FedIn Q (machine_after_output now machine output).by_failsafe (Brings cluster output ++ rest)
   fed-now Q now cluster machine (outputs.Armed until) rest may e = record {
     front = measured cluster ∷ [];
-    event = record { tick = record { 0 = cluster.facts.clock }; kind = kinds.Watchdog (watchdogs.Armed member until message.number) };
+    event = record {
+      tick = record { 0 = cluster.facts.clock };
+      kind = kinds.Watchdog (watchdogs.Armed member until message.number);
+    };
     rest = rest;
     is = refl;
     fed = (refl, refl);
   }
   fed-now Q now cluster machine (outputs.Fed until) rest may e = record {
     front = measured cluster ∷ [];
-    event = record { tick = record { 0 = cluster.facts.clock }; kind = kinds.Watchdog (watchdogs.Fed member until (bases.Grant message.number)) };
+    event = record {
+      tick = record { 0 = cluster.facts.clock };
+      kind = kinds.Watchdog (watchdogs.Fed member until (bases.Grant message.number));
+    };
     rest = rest;
     is = refl;
     fed = (refl, refl);
   }
   fed-now Q now cluster machine (outputs.FedByFailsafe until acknowledging sequence since) rest may e = record {
-    front = record { tick = record { 0 = cluster.facts.clock }; kind = kinds.Watchdog (watchdogs.Measured member since) } ∷ [];
-    event = record { tick = record { 0 = cluster.facts.clock }; kind = kinds.Watchdog (watchdogs.Fed member until (bases.Acknowledgements acknowledging sequence)) };
+    front =
+        record { tick = record { 0 = cluster.facts.clock }; kind = kinds.Watchdog (watchdogs.Measured member since) }
+        ∷ [];
+    event = record {
+      tick = record { 0 = cluster.facts.clock };
+      kind = kinds.Watchdog (watchdogs.Fed member until (bases.Acknowledgements acknowledging sequence));
+    };
     rest = rest;
     is = refl;
-    fed = record { until = until; acknowledging = acknowledging; sequence = sequence; since = since; is = refl; from = may };
+    fed = record {
+      until = until;
+      acknowledging = acknowledging;
+      sequence = sequence;
+      since = since;
+      is = refl;
+      from = may;
+    };
   }
   fed-now Q now cluster machine _ rest may e = absurd (not-so e)
 
   -- who isn't fed has its deadline from where it had it
-  unfed-one : (now : Ticks) (machine : Machine) (output : Output) → is_feeding output ≡ false → (machine_after_output now machine output).by_failsafe ≡ machine.by_failsafe
+  unfed-one : (now : Ticks) (machine : Machine) (output : Output) → is_feeding output ≡ false
+      → (machine_after_output now machine output).by_failsafe ≡ machine.by_failsafe
   unfed-one now machine (outputs.Armed until) e = absurd (not-so (sym e))
   unfed-one now machine (outputs.Fed until) e = absurd (not-so (sym e))
   unfed-one now machine (outputs.FedByFailsafe until acknowledging sequence since) e = absurd (not-so (sym e))
@@ -535,7 +734,8 @@ module _ (member : Member) (incarnation : ℕ) (message : HeardMessage) where
   neither true c e = absurd (not-so (sym e))
   neither false c e = (refl, e)
 
-  unfed-basis : (now : Ticks) (machine : Machine) (outs : List Output) → has_one is_feeding outs ≡ false → (machine_after_outputs now machine outs).by_failsafe ≡ machine.by_failsafe
+  unfed-basis : (now : Ticks) (machine : Machine) (outs : List Output) → has_one is_feeding outs ≡ false
+      → (machine_after_outputs now machine outs).by_failsafe ≡ machine.by_failsafe
   unfed-basis now machine [] e = refl
   unfed-basis now machine (output ∷ more) e =
       let none = neither (is_feeding output) (has_one is_feeding more) e in
@@ -545,25 +745,35 @@ module _ (member : Member) (incarnation : ℕ) (message : HeardMessage) where
   is-left true c f e = refl
   is-left false c f e = sym f ∙ e
 
-  fed-step : (Q : Output → Type 0) (now : Ticks) (cluster : Cluster) (machine : Machine) (output : Output) (more : List Output) (rest : List Event) → Q output → (is_feeding output || has_one is_feeding more) ≡ true
-      → (has_one is_feeding more ≡ true → FedIn Q (machine_after_outputs now (machine_after_output now machine output) more).by_failsafe rest) → FedIn Q (machine_after_outputs now (machine_after_output now machine output) more).by_failsafe (Brings cluster output ++ rest)
+  fed-step : (Q : Output → Type 0) (now : Ticks) (cluster : Cluster) (machine : Machine) (output : Output)
+      (more : List Output) (rest : List Event) → Q output → (is_feeding output || has_one is_feeding more) ≡ true
+      → (has_one is_feeding more ≡ true →
+      FedIn Q (machine_after_outputs now (machine_after_output now machine output) more).by_failsafe rest)
+      → FedIn Q (machine_after_outputs now (machine_after_output now machine output) more).by_failsafe
+      (Brings cluster output ++ rest)
   fed-step Q now cluster machine output more rest may e then = by (has_one is_feeding more) refl
     where
       after : Machine
       after = machine_after_output now machine output
 
-      by : (test : Bool) → has_one is_feeding more ≡ test → FedIn Q (machine_after_outputs now after more).by_failsafe (Brings cluster output ++ rest)
-      by true later = fed-later Q (machine_after_outputs now after more).by_failsafe (Brings cluster output) rest (then later)
+      by : (test : Bool) → has_one is_feeding more ≡ test
+          → FedIn Q (machine_after_outputs now after more).by_failsafe (Brings cluster output ++ rest)
+      by true later =
+          fed-later Q (machine_after_outputs now after more).by_failsafe (Brings cluster output) rest (then later)
       by false none =
           subst (λ (b : Bool). FedIn Q b (Brings cluster output ++ rest)) (sym (unfed-basis now after more none))
           (fed-now Q now cluster machine output rest may (is-left (is_feeding output) (has_one is_feeding more) none e))
 
   -- the last feed tells which basis the deadline has
-  pub each-fed : (Q : Output → Type 0) (now : Ticks) (cluster : Cluster) (machine : Machine) (outs : List Output) → All Q outs → has_one is_feeding outs ≡ true → FedIn Q (machine_after_outputs now machine outs).by_failsafe (each (output_events member message) cluster outs)
+  pub each-fed : (Q : Output → Type 0) (now : Ticks) (cluster : Cluster) (machine : Machine) (outs : List Output)
+      → All Q outs → has_one is_feeding outs ≡ true
+      → FedIn Q (machine_after_outputs now machine outs).by_failsafe (each (output_events member message) cluster outs)
   each-fed Q now cluster machine [] all e = absurd (not-so e)
   each-fed Q now cluster machine (output ∷ more) all e =
-      fed-step Q now cluster machine output more (each (output_events member message) (Later cluster output) more) (All-head Q output more all) e
-      (λ later. each-fed Q now (Later cluster output) (machine_after_output now machine output) more (All-tail Q output more all) later)
+      fed-step Q now cluster machine output more
+      (each (output_events member message) (Later cluster output) more) (All-head Q output more all) e
+      (λ later. each-fed Q now (Later cluster output) (machine_after_output now machine output) more
+      (All-tail Q output more all) later)
 
   -- ---- whose deadlines acknowledgements set last
   abbrev NoFeed : Output → Type 0
@@ -572,7 +782,8 @@ module _ (member : Member) (incarnation : ℕ) (message : HeardMessage) where
   NoFeed (outputs.FedByFailsafe until acknowledging sequence since) = ⊥
   NoFeed _ = Unit {0}
 
-  unset-one : (before : List Bool) (kind : EventKind) → IsOfInput member incarnation message.number NoFeed kind → failsafe_deadlines_after before kind ≡ before
+  unset-one : (before : List Bool) (kind : EventKind) → IsOfInput member incarnation message.number NoFeed kind
+      → failsafe_deadlines_after before kind ≡ before
   unset-one before (kinds.Watchdog (watchdogs.Armed by until answer)) is = absurd is.2
   unset-one before (kinds.Watchdog (watchdogs.Fed by until basis)) is = absurd (by-none is.1)
     where
@@ -582,27 +793,45 @@ module _ (member : Member) (incarnation : ℕ) (message : HeardMessage) where
   unset-one before (kinds.Watchdog _) is = refl
   unset-one before _ is = refl
 
-  unset-all : (cluster : Cluster) (events : List Event) → AllAre (IsOfInput member incarnation message.number NoFeed) events → (cluster_over cluster events).failsafe_deadlines ≡ cluster.failsafe_deadlines
+  unset-all : (cluster : Cluster) (events : List Event)
+      → AllAre (IsOfInput member incarnation message.number NoFeed) events
+      → (cluster_over cluster events).failsafe_deadlines ≡ cluster.failsafe_deadlines
   unset-all cluster [] all = refl
-  unset-all cluster (event ∷ events) all = unset-all (cluster_after cluster event.kind) events all.1 ∙ unset-one cluster.failsafe_deadlines event.kind all.0
+  unset-all cluster (event ∷ events) all =
+      unset-all (cluster_after cluster event.kind) events all.1 ∙ unset-one cluster.failsafe_deadlines event.kind all.0
 
   abbrev IsBasis : Cluster → Machine → Type 0
   IsBasis cluster machine = slice_get cluster.failsafe_deadlines member.id.number ≡ Some machine.by_failsafe
 
-  unset-output : (now : Ticks) (cluster : Cluster) (machine : Machine) (output : Output) → Runs cluster.facts → IsOfTable output → NoFeed output → is_feeding output ≡ false → IsBasis cluster machine → IsBasis (Later cluster output) (machine_after_output now machine output)
+  unset-output : (now : Ticks) (cluster : Cluster) (machine : Machine) (output : Output) → Runs cluster.facts
+      → IsOfTable output → NoFeed output → is_feeding output ≡ false → IsBasis cluster machine
+      → IsBasis (Later cluster output) (machine_after_output now machine output)
   unset-output now cluster machine output runs table none unfed old =
-      ap (λ (l : List Bool). slice_get l member.id.number) (unset-all cluster (Brings cluster output) (output-mine member incarnation message.number NoFeed cluster message refl runs output table none))
+      ap (λ (l : List Bool). slice_get l member.id.number)
+      (unset-all cluster (Brings cluster output)
+      (output-mine member incarnation message.number NoFeed cluster message refl runs output table none))
       ∙ old ∙ ap (λ (b : Bool). Some b) (sym (unfed-one now machine output unfed))
 
-  output-basis : (now : Ticks) (cluster : Cluster) (machine : Machine) (output : Output) → Runs cluster.facts → IsOfTable output → IsBasis cluster machine → IsBasis (Later cluster output) (machine_after_output now machine output)
-  output-basis now cluster machine (outputs.Armed until) runs table old = item-here cluster.failsafe_deadlines member.id.number (λ was. false) machine.by_failsafe old
-  output-basis now cluster machine (outputs.Fed until) runs table old = item-here cluster.failsafe_deadlines member.id.number (λ was. false) machine.by_failsafe old
-  output-basis now cluster machine (outputs.FedByFailsafe until acknowledging sequence since) runs table old = item-here cluster.failsafe_deadlines member.id.number (λ was. true) machine.by_failsafe old
-  output-basis now cluster machine output runs table old = unset-output now cluster machine output runs table tt refl old
+  output-basis : (now : Ticks) (cluster : Cluster) (machine : Machine) (output : Output) → Runs cluster.facts
+      → IsOfTable output → IsBasis cluster machine
+      → IsBasis (Later cluster output) (machine_after_output now machine output)
+  output-basis now cluster machine (outputs.Armed until) runs table old =
+      item-here cluster.failsafe_deadlines member.id.number (λ was. false) machine.by_failsafe old
+  output-basis now cluster machine (outputs.Fed until) runs table old =
+      item-here cluster.failsafe_deadlines member.id.number (λ was. false) machine.by_failsafe old
+  output-basis now cluster machine (outputs.FedByFailsafe until acknowledging sequence since) runs table old =
+      item-here cluster.failsafe_deadlines member.id.number (λ was. true) machine.by_failsafe old
+  output-basis now cluster machine output runs table old =
+      unset-output now cluster machine output runs table tt refl old
 
-  pub each-basis : (now : Ticks) (cluster : Cluster) (machine : Machine) (outs : List Output) → Runs cluster.facts → All IsOfTable outs → IsBasis cluster machine → IsBasis (cluster_over cluster (each (output_events member message) cluster outs)) (machine_after_outputs now machine outs)
+  pub each-basis : (now : Ticks) (cluster : Cluster) (machine : Machine) (outs : List Output)
+      → Runs cluster.facts → All IsOfTable outs → IsBasis cluster machine
+      → IsBasis (cluster_over cluster (each (output_events member message) cluster outs))
+      (machine_after_outputs now machine outs)
   each-basis now cluster machine [] runs table old = old
   each-basis now cluster machine (output ∷ more) runs table old =
       let one = All-head IsOfTable output more table in let next = Later cluster output in
-      subst (λ (c : Cluster). IsBasis c (machine_after_outputs now (machine_after_output now machine output) more)) (sym (over-append cluster (Brings cluster output) (each (output_events member message) next more)))
-      (each-basis now next (machine_after_output now machine output) more (runs-later cluster output runs one) (All-tail IsOfTable output more table) (output-basis now cluster machine output runs one old))
+      subst (λ (c : Cluster). IsBasis c (machine_after_outputs now (machine_after_output now machine output) more))
+      (sym (over-append cluster (Brings cluster output) (each (output_events member message) next more)))
+      (each-basis now next (machine_after_output now machine output) more (runs-later cluster output runs one)
+      (All-tail IsOfTable output more table) (output-basis now cluster machine output runs one old))

@@ -44,7 +44,8 @@ pub record Stays (m : ℕ) (cluster later : Cluster) : Type 0 where
   pub servers : (n : ℕ) → n ≢ m → slice_get later.facts.servers n ≡ slice_get cluster.facts.servers n
 
 pub stays-same : (m : ℕ) (cluster : Cluster) → Stays m cluster cluster
-stays-same m cluster = record { agents = refl; processes = refl; members = refl; clock = refl; servers = λ n other. refl }
+stays-same m cluster =
+    record { agents = refl; processes = refl; members = refl; clock = refl; servers = λ n other. refl }
 
 pub stays-then : (m : ℕ) (a b c : Cluster) → Stays m a b → Stays m b c → Stays m a c
 stays-then m a b c first second = record {
@@ -56,7 +57,8 @@ stays-then m a b c first second = record {
 }
 
 -- the item of its own
-pub item-here : {A : Type 0} (xs : List A) (k : ℕ) (change : A → A) (x : A) → slice_get xs k ≡ Some x → slice_get (with_changed xs k change) k ≡ Some (change x)
+pub item-here : {A : Type 0} (xs : List A) (k : ℕ) (change : A → A) (x : A) → slice_get xs k ≡ Some x
+    → slice_get (with_changed xs k change) k ≡ Some (change x)
 item-here xs k change x is = get-here xs k change ∙ ap (option_map change) is
 
 -- ---- one event of an input
@@ -73,7 +75,8 @@ module _ (member : Member) (incarnation heard : ℕ) (Q : Output → Type 0) whe
   agents-one cluster (kinds.Agent _) is = absurd is
   agents-one cluster _ is = refl
 
-  processes-one : (processes : List AgentProcess) (kind : EventKind) → Mine kind → processes_after processes kind ≡ processes
+  processes-one : (processes : List AgentProcess) (kind : EventKind) → Mine kind
+      → processes_after processes kind ≡ processes
   processes-one processes (kinds.Watchdog (watchdogs.Reset by)) is = absurd is
   processes-one processes (kinds.Agent (agents.Passed by)) is = refl
   processes-one processes (kinds.Agent _) is = absurd is
@@ -83,10 +86,14 @@ module _ (member : Member) (incarnation heard : ℕ) (Q : Output → Type 0) whe
   clock-one now kinds.Tick is = absurd is
   clock-one now _ is = refl
 
-  other-one : (known : List ServerFacts) (server : ServerOf) (change : ServerFacts → ServerFacts) (n : ℕ) → n ≢ member.id.number → server ≡ server_of member → slice_get (with_changed known server.id.number change) n ≡ slice_get known n
-  other-one known server change n other is = get-elsewhere known server.id.number n change (λ e. other (e ∙ ap (λ (s : ServerOf). s.id.number) is))
+  other-one : (known : List ServerFacts) (server : ServerOf) (change : ServerFacts → ServerFacts) (n : ℕ)
+      → n ≢ member.id.number → server ≡ server_of member
+      → slice_get (with_changed known server.id.number change) n ≡ slice_get known n
+  other-one known server change n other is =
+      get-elsewhere known server.id.number n change (λ e. other (e ∙ ap (λ (s : ServerOf). s.id.number) is))
 
-  servers-by : (now : ℕ) (known : List ServerFacts) (happening : ServerEvent) → Mine (kinds.Server happening) → (n : ℕ) → n ≢ member.id.number → slice_get (servers_after now known (kinds.Server happening)) n ≡ slice_get known n
+  servers-by : (now : ℕ) (known : List ServerFacts) (happening : ServerEvent) → Mine (kinds.Server happening) → (n : ℕ)
+      → n ≢ member.id.number → slice_get (servers_after now known (kinds.Server happening)) n ≡ slice_get known n
   servers-by now known (servers.Began server timeline) is n other = other-one known server _ n other is.0
   servers-by now known (servers.StartsAsPrimary server) is n other = other-one known server _ n other is
   servers-by now known (servers.StartsAsReplica server) is n other = other-one known server _ n other is
@@ -95,19 +102,25 @@ module _ (member : Member) (incarnation heard : ℕ) (Q : Output → Type 0) whe
   servers-by now known (servers.Stops server) is n other = other-one known server _ n other is
   servers-by now known _ is n other = absurd is
 
-  copied-one : (known : List ServerFacts) (server : ServerOf) (source : Option ServerFacts) (n : ℕ) → n ≢ member.id.number → server ≡ server_of member → slice_get (copied_by known server.id.number source) n ≡ slice_get known n
+  copied-one : (known : List ServerFacts) (server : ServerOf) (source : Option ServerFacts) (n : ℕ)
+      → n ≢ member.id.number → server ≡ server_of member
+      → slice_get (copied_by known server.id.number source) n ≡ slice_get known n
   copied-one known server None n other is = refl
   copied-one known server (Some source) n other is = other-one known server (becomes_copy source) n other is
 
-  logs-by : (known : List ServerFacts) (happening : LogEvent) → Mine (kinds.Log happening) → (n : ℕ) → n ≢ member.id.number → slice_get (servers_by_log known happening) n ≡ slice_get known n
+  logs-by : (known : List ServerFacts) (happening : LogEvent) → Mine (kinds.Log happening) → (n : ℕ)
+      → n ≢ member.id.number → slice_get (servers_by_log known happening) n ≡ slice_get known n
   logs-by known (logs.Rewound server from kept at) is n other = other-one known server _ n other is
-  logs-by known (logs.Copied server from) is n other = copied-one known server (slice_get known from.id.number) n other is
+  logs-by known (logs.Copied server from) is n other =
+      copied-one known server (slice_get known from.id.number) n other is
   logs-by known (logs.Wiped server) is n other = other-one known server _ n other is
   logs-by known _ is n other = absurd is
 
-  servers-one : (now : ℕ) (known : List ServerFacts) (kind : EventKind) → Mine kind → (n : ℕ) → n ≢ member.id.number → slice_get (servers_after now known kind) n ≡ slice_get known n
+  servers-one : (now : ℕ) (known : List ServerFacts) (kind : EventKind) → Mine kind → (n : ℕ)
+      → n ≢ member.id.number → slice_get (servers_after now known kind) n ≡ slice_get known n
   servers-one now known (kinds.Server happening) is n other = servers-by now known happening is n other
-  servers-one now known (kinds.Replication (replications.RequiredSet server required names)) is n other = other-one known server _ n other is
+  servers-one now known (kinds.Replication (replications.RequiredSet server required names)) is n other =
+      other-one known server _ n other is
   servers-one now known (kinds.Replication (replications.Lacks server)) is n other = refl
   servers-one now known (kinds.Replication _) is n other = absurd is
   servers-one now known (kinds.Log happening) is n other = logs-by known happening is n other
@@ -115,7 +128,8 @@ module _ (member : Member) (incarnation heard : ℕ) (Q : Output → Type 0) whe
   servers-one now known kinds.Tick is n other = absurd is
   servers-one now known _ is n other = refl
 
-  pub stays-one : (cluster : Cluster) (kind : EventKind) → Mine kind → Stays member.id.number cluster (cluster_after cluster kind)
+  pub stays-one : (cluster : Cluster) (kind : EventKind) → Mine kind
+      → Stays member.id.number cluster (cluster_after cluster kind)
   stays-one cluster kind is = record {
     agents = agents-one cluster kind is;
     processes = processes-one cluster.facts.processes kind is;
@@ -124,27 +138,36 @@ module _ (member : Member) (incarnation heard : ℕ) (Q : Output → Type 0) whe
     servers = servers-one (now_after cluster.facts.clock kind) cluster.facts.servers kind is;
   }
 
-  pub stays-over : (cluster : Cluster) (events : List Event) → AllAre Mine events → Stays member.id.number cluster (cluster_over cluster events)
+  pub stays-over : (cluster : Cluster) (events : List Event) → AllAre Mine events
+      → Stays member.id.number cluster (cluster_over cluster events)
   stays-over cluster [] all = stays-same member.id.number cluster
   stays-over cluster (event ∷ events) all =
-      stays-then member.id.number cluster (cluster_after cluster event.kind) (cluster_over (cluster_after cluster event.kind) events) (stays-one cluster event.kind all.0) (stays-over (cluster_after cluster event.kind) events all.1)
+      stays-then member.id.number cluster (cluster_after cluster event.kind)
+      (cluster_over (cluster_after cluster event.kind) events) (stays-one cluster event.kind all.0)
+      (stays-over (cluster_after cluster event.kind) events all.1)
 
   -- ---- all outputs of an input
   abbrev Runs : Facts → Type 0
   Runs facts = RunsAmong member incarnation facts
 
-  pub runs-over : (cluster later : Cluster) → Stays member.id.number cluster later → Runs cluster.facts → Runs later.facts
+  pub runs-over : (cluster later : Cluster) → Stays member.id.number cluster later → Runs cluster.facts
+      → Runs later.facts
   runs-over cluster later stays runs = record {
-    process = λ process is. runs.process process (ap (λ (l : List AgentProcess). slice_get l member.id.number) (sym stays.processes) ∙ is);
+    process = λ process is.
+        runs.process process (ap (λ (l : List AgentProcess). slice_get l member.id.number) (sym stays.processes) ∙ is);
     numbered = λ n peer is. runs.numbered n peer (ap (λ (l : List Member). slice_get l n) (sym stays.members) ∙ is);
   }
 
-  pub each-mine : (cluster : Cluster) (message : HeardMessage) → message.number ≡ heard → Runs cluster.facts → (outs : List Output) → All IsOfTable outs → All Q outs → AllAre Mine (each (output_events member message) cluster outs)
+  pub each-mine : (cluster : Cluster) (message : HeardMessage) → message.number ≡ heard → Runs cluster.facts
+      → (outs : List Output) → All IsOfTable outs → All Q outs
+      → AllAre Mine (each (output_events member message) cluster outs)
   each-mine cluster message at runs [] table all = tt
   each-mine cluster message at runs (output ∷ more) table all =
-      let first = output-mine member incarnation heard Q cluster message at runs output (All-head IsOfTable output more table) (All-head Q output more all) in
+      let first = output-mine member incarnation heard Q cluster message at runs output
+      (All-head IsOfTable output more table) (All-head Q output more all) in
       let events = output_events member message cluster output in
       let later = cluster_over cluster events in
       let stays = stays-over cluster events first in
       all-both Mine events (each (output_events member message) later more) first
-      (each-mine later message at (runs-over cluster later stays runs) more (All-tail IsOfTable output more table) (All-tail Q output more all))
+      (each-mine later message at (runs-over cluster later stays runs) more
+      (All-tail IsOfTable output more table) (All-tail Q output more all))

@@ -32,7 +32,25 @@ inv-act s (Crash m) inv law timely = inv-crash s m inv
 inv-act s Note inv law timely = inv
 
 inv-writes : (s : State) (w : ℕ → Bool) → IsSound s → IsSound (record s { writes = w })
-inv-writes s w inv = record { guarded = inv.guarded; sole = inv.sole; parted = inv.parted; ready_by_grant = inv.ready_by_grant; off = inv.off; bounded = inv.bounded; failsafe_bounded = inv.failsafe_bounded; asked = inv.asked; said = inv.said; failsafe_requests = inv.failsafe_requests; yeses = inv.yeses; taken = inv.taken; kept = inv.kept; spans = inv.spans; failsafe_check = inv.failsafe_check; fresh = inv.fresh; tokens = inv.tokens }
+inv-writes s w inv = record {
+  guarded = inv.guarded;
+  sole = inv.sole;
+  parted = inv.parted;
+  ready_by_grant = inv.ready_by_grant;
+  off = inv.off;
+  bounded = inv.bounded;
+  failsafe_bounded = inv.failsafe_bounded;
+  asked = inv.asked;
+  said = inv.said;
+  failsafe_requests = inv.failsafe_requests;
+  yeses = inv.yeses;
+  taken = inv.taken;
+  kept = inv.kept;
+  spans = inv.spans;
+  failsafe_check = inv.failsafe_check;
+  fresh = inv.fresh;
+  tokens = inv.tokens;
+}
 
 -- who may write inside an action
 abbrev Inside : State → Action → ℕ → Type 0
@@ -74,17 +92,21 @@ AllWrite P w = (n : ℕ) → w n ≡ true → P n
 off : (P : ℕ → Type 0) (w : ℕ → Bool) (m : ℕ) → AllWrite P w → AllWrite P (put_at w m false)
 off P w m all = put-all w m false (λ n b. b ≡ true → P n) (λ e. absurd (both e)) (λ n other e. all n e)
 
-server-writes : (P : ℕ → Type 0) (w : ℕ → Bool) (e : ServerEvent) → AllWrite P w → BeginsServer P e → AllWrite P (writes_by_server w e)
-server-writes P w (servers.Began server timeline) all may = put-all w server.id.number true (λ n b. b ≡ true → P n) (λ e. may) (λ n other e. all n e)
+server-writes : (P : ℕ → Type 0) (w : ℕ → Bool) (e : ServerEvent) → AllWrite P w → BeginsServer P e
+    → AllWrite P (writes_by_server w e)
+server-writes P w (servers.Began server timeline) all may =
+    put-all w server.id.number true (λ n b. b ≡ true → P n) (λ e. may) (λ n other e. all n e)
 server-writes P w (servers.Ended server) all may = off P w server.id.number all
 server-writes P w (servers.Crashed server) all may = off P w server.id.number all
 server-writes P w _ all may = all
 
-watchdog-writes : (P : ℕ → Type 0) (w : ℕ → Bool) (e : WatchdogEvent) → AllWrite P w → AllWrite P (writes_by_watchdog w e)
+watchdog-writes : (P : ℕ → Type 0) (w : ℕ → Bool) (e : WatchdogEvent) → AllWrite P w
+    → AllWrite P (writes_by_watchdog w e)
 watchdog-writes P w (watchdogs.Reset member) all = off P w member.id.number all
 watchdog-writes P w _ all = all
 
-kind-writes : (P : ℕ → Type 0) (w : ℕ → Bool) (e : EventKind) → AllWrite P w → BeginsKind P e → AllWrite P (writes_after w e)
+kind-writes : (P : ℕ → Type 0) (w : ℕ → Bool) (e : EventKind) → AllWrite P w → BeginsKind P e
+    → AllWrite P (writes_after w e)
 kind-writes P w (kinds.Server e) all may = server-writes P w e all may
 kind-writes P w (kinds.Watchdog e) all may = watchdog-writes P w e all
 kind-writes P w _ all may = all
@@ -110,9 +132,11 @@ begins-one P Q (kinds.Server e) sub may = begins-server P Q e sub may
 begins-one P Q _ sub may = tt
 
 -- a front of events in which those that begin may
-begun : (P Q : ℕ → Type 0) (w : ℕ → Bool) (front : List Event) → ((n : ℕ) → P n → Q n) → AllWrite Q w → Begins P front → AllWrite Q (writes_over w front)
+begun : (P Q : ℕ → Type 0) (w : ℕ → Bool) (front : List Event) → ((n : ℕ) → P n → Q n) → AllWrite Q w
+    → Begins P front → AllWrite Q (writes_over w front)
 begun P Q w [] sub all may = all
-begun P Q w (x ∷ front) sub all may = begun P Q (writes_after w x.kind) front sub (kind-writes Q w x.kind all (begins-one P Q x.kind sub may.0)) may.1
+begun P Q w (x ∷ front) sub all may =
+    begun P Q (writes_after w x.kind) front sub (kind-writes Q w x.kind all (begins-one P Q x.kind sub may.0)) may.1
 
 begins-front : (P : ℕ → Type 0) (front back es : List Event) → front ++ back ≡ es → Begins P es → Begins P front
 begins-front P [] back es e may = tt
@@ -123,24 +147,35 @@ begins-front P (x ∷ front) back (y ∷ es) e may = (
 )
 
 -- inside an action each writer is one that may
-inside : (s : State) (a : Action) (front : List Event) → IsCarried s → Begins (MayBegin s a) front → (n : ℕ) → writes_over s.writes front n ≡ true → Inside s a n
-inside s a front good begins = begun (MayBegin s a) (Inside s a) s.writes front (λ n m. inr m) (λ n w. inl (inl (good.lives n w))) begins
+inside : (s : State) (a : Action) (front : List Event) → IsCarried s → Begins (MayBegin s a) front → (n : ℕ)
+    → writes_over s.writes front n ≡ true → Inside s a n
+inside s a front good begins =
+    begun (MayBegin s a) (Inside s a) s.writes front (λ n m. inr m) (λ n w. inl (inl (good.lives n w))) begins
 
-pub one-front : (s : State) (a : Action) (front : List Event) → IsCarried s → Begins (MayBegin s a) front → (m n : ℕ) → writes_over s.writes front m ≡ true → writes_over s.writes front n ≡ true → m ≡ n
-one-front s a front good begins m n wm wn = one-inside s a m n good.sound (inside s a front good begins m wm) (inside s a front good begins n wn)
+pub one-front : (s : State) (a : Action) (front : List Event) → IsCarried s → Begins (MayBegin s a) front
+    → (m n : ℕ) → writes_over s.writes front m ≡ true → writes_over s.writes front n ≡ true → m ≡ n
+one-front s a front good begins m n wm wn =
+    one-inside s a m n good.sound (inside s a front good begins m wm) (inside s a front good begins n wn)
 
-action-kept : (s : State) (action : Action) (events : List Event) → IsCarried s → IsAllowed s action events → IsCarried (state_after s action events)
+action-kept : (s : State) (action : Action) (events : List Event) → IsCarried s → IsAllowed s action events
+    → IsCarried (state_after s action events)
 action-kept s action events good may = record {
   sound = inv-writes (act s action) (writes_over s.writes events) (inv-act s action good.sound may.lawful may.in_time);
   lives = may.lives;
 }
 
-pub transition-kept : (declared : Declared) (book : List Event) (volatile_states : ℕ → VolatileState) (transition : Transition) → IsCarried (state_of declared (past_of book) volatile_states) → IsAllowed (state_of declared (past_of book) volatile_states) transition.action transition.events → IsShown declared book volatile_states transition → IsCarried (state_of declared (past_of (book ++ transition.events)) transition.volatile_states)
-transition-kept declared book volatile_states transition good may told = subst (λ (s : State). IsCarried s) (sym told) (action-kept (state_of declared (past_of book) volatile_states) transition.action transition.events good may)
+pub transition-kept : (declared : Declared) (book : List Event) (volatile_states : ℕ → VolatileState)
+    (transition : Transition) → IsCarried (state_of declared (past_of book) volatile_states)
+    → IsAllowed (state_of declared (past_of book) volatile_states) transition.action transition.events
+    → IsShown declared book volatile_states transition
+    → IsCarried (state_of declared (past_of (book ++ transition.events)) transition.volatile_states)
+transition-kept declared book volatile_states transition good may told = subst (λ (s : State). IsCarried s) (sym told)
+    (action-kept (state_of declared (past_of book) volatile_states) transition.action transition.events good may)
 
 -- a front of a whole ends in its first part, or goes on in the rest
 abbrev pub Cuts : List Event → List Event → List Event → List Event → Type 0
-Cuts front rest es bs = ((back : List Event) × (front ++ back ≡ es)) ⊎ ((more : List Event) × (front ≡ es ++ more) × (more ++ rest ≡ bs))
+Cuts front rest es bs =
+    ((back : List Event) × (front ++ back ≡ es)) ⊎ ((more : List Event) × (front ≡ es ++ more) × (more ++ rest ≡ bs))
 
 pub cuts : (front rest es bs : List Event) → front ++ rest ≡ es ++ bs → Cuts front rest es bs
 cuts [] rest es bs e = inl (es, refl)
@@ -152,7 +187,8 @@ cuts (x ∷ front) rest (y ∷ es) bs e =
       | inr c ↦ inr (c.0, cons-eq x y front (es ++ c.0) head c.1, c.2)
     ]
 
-pub writes-append : (w : ℕ → Bool) (es more : List Event) → writes_over w (es ++ more) ≡ writes_over (writes_over w es) more
+pub writes-append : (w : ℕ → Bool) (es more : List Event)
+    → writes_over w (es ++ more) ≡ writes_over (writes_over w es) more
 writes-append w [] more = refl
 writes-append w (e ∷ es) more = writes-append (writes_after w e.kind) es more
 
@@ -161,10 +197,13 @@ writes-past past [] = refl
 writes-past past (event ∷ events) = writes-past (past_after past event.kind) events
 
 -- a book, and then a front of the next action's events, of which only the beginnings need a reason
-pub one-front-of : (declared : Declared) (book : List Event) (volatile_states : ℕ → VolatileState) (action : Action) (front : List Event) → IsCarried (state_of declared (past_of book) volatile_states) → Begins (MayBegin (state_of declared (past_of book) volatile_states) action) front → HasOneWriter (book ++ front)
+pub one-front-of : (declared : Declared) (book : List Event) (volatile_states : ℕ → VolatileState)
+    (action : Action) (front : List Event) → IsCarried (state_of declared (past_of book) volatile_states)
+    → Begins (MayBegin (state_of declared (past_of book) volatile_states) action) front → HasOneWriter (book ++ front)
 one-front-of declared book volatile_states action front good begins m n wm wn =
     let same : writes_over (λ k. false) (book ++ front) ≡ writes_over (past_of book).writes front =
-    writes-append (λ k. false) book front ∙ ap (λ (w : ℕ → Bool). writes_over w front) (sym (writes-past first_past book)) in
+    writes-append (λ k. false) book front
+    ∙ ap (λ (w : ℕ → Bool). writes_over w front) (sym (writes-past first_past book)) in
     one-front (state_of declared (past_of book) volatile_states) action front good begins m n
     (sym (ap (λ (w : ℕ → Bool). w m) same) ∙ wm) (sym (ap (λ (w : ℕ → Bool). w n) same) ∙ wn)
 
@@ -172,29 +211,55 @@ pub assoc : (xs ys zs : List Event) → (xs ++ ys) ++ zs ≡ xs ++ (ys ++ zs)
 assoc [] ys zs = refl
 assoc (x ∷ xs) ys zs = ap (λ (l : List Event). x ∷ l) (assoc xs ys zs)
 
-one-from : (declared : Declared) (book : List Event) (volatile_states : ℕ → VolatileState) (transitions : List Transition) (front rest : List Event) → IsCarried (state_of declared (past_of book) volatile_states) → AreAllowed declared book volatile_states transitions → front ++ rest ≡ book_of transitions → HasOneWriter (book ++ front)
-one-from declared book volatile_states [] [] rest good allowed e = one-front-of declared book volatile_states Note [] good tt
+one-from : (declared : Declared) (book : List Event) (volatile_states : ℕ → VolatileState)
+    (transitions : List Transition) (front rest : List Event)
+    → IsCarried (state_of declared (past_of book) volatile_states)
+    → AreAllowed declared book volatile_states transitions → front ++ rest ≡ book_of transitions
+    → HasOneWriter (book ++ front)
+one-from declared book volatile_states [] [] rest good allowed e =
+    one-front-of declared book volatile_states Note [] good tt
 one-from declared book volatile_states [] (x ∷ front) rest good allowed e = absurd (no-cons x (front ++ rest) e)
 one-from declared book volatile_states (transition ∷ transitions) front rest good allowed e =
     elim (cuts front rest transition.events (book_of transitions) e) [
-      | inl c ↦ one-front-of declared book volatile_states transition.action front good (begins-front (MayBegin (state_of declared (past_of book) volatile_states) transition.action) front c.0 transition.events c.1 allowed.0.begins)
-      | inr c ↦ subst (λ (l : List Event). HasOneWriter l) (assoc book transition.events c.0 ∙ ap (λ (l : List Event). book ++ l) (sym c.1))
-          (one-from declared (book ++ transition.events) transition.volatile_states transitions c.0 rest (transition-kept declared book volatile_states transition good allowed.0 allowed.1.0) allowed.1.1 c.2)
+      | inl c ↦ one-front-of declared book volatile_states transition.action front good
+          (begins-front (MayBegin (state_of declared (past_of book) volatile_states) transition.action) front
+          c.0 transition.events c.1 allowed.0.begins)
+      | inr c ↦ subst (λ (l : List Event). HasOneWriter l)
+          (assoc book transition.events c.0 ∙ ap (λ (l : List Event). book ++ l) (sym c.1))
+          (one-from declared (book ++ transition.events) transition.volatile_states transitions c.0 rest
+          (transition-kept declared book volatile_states transition good allowed.0 allowed.1.0) allowed.1.1 c.2)
     ]
 
-pub one : (declared : Declared) (transitions : List Transition) (front rest : List Event) → AreAllowed declared [] first_volatile_states transitions → front ++ rest ≡ book_of transitions → HasOneWriter front
-one declared transitions front rest allowed e = one-from declared [] first_volatile_states transitions front rest (good-start declared) allowed e
+pub one : (declared : Declared) (transitions : List Transition) (front rest : List Event)
+    → AreAllowed declared [] first_volatile_states transitions → front ++ rest ≡ book_of transitions
+    → HasOneWriter front
+one declared transitions front rest allowed e =
+    one-from declared [] first_volatile_states transitions front rest (good-start declared) allowed e
 
 pub none-more : (xs : List Event) → xs ++ [] ≡ xs
 none-more [] = refl
 none-more (x ∷ xs) = ap (λ (l : List Event). x ∷ l) (none-more xs)
 
-good-run : (declared : Declared) (book : List Event) (volatile_states : ℕ → VolatileState) (transitions : List Transition) → IsCarried (state_of declared (past_of book) volatile_states) → AreAllowed declared book volatile_states transitions → IsCarried (state_of declared (past_of (book ++ book_of transitions)) (volatile_states_over volatile_states transitions))
-good-run declared book volatile_states [] good allowed = subst (λ (l : List Event). IsCarried (state_of declared (past_of l) volatile_states)) (sym (none-more book)) good
+good-run : (declared : Declared) (book : List Event) (volatile_states : ℕ → VolatileState)
+    (transitions : List Transition) → IsCarried (state_of declared (past_of book) volatile_states)
+    → AreAllowed declared book volatile_states transitions
+    → IsCarried (state_of declared (past_of (book ++ book_of transitions))
+    (volatile_states_over volatile_states transitions))
+good-run declared book volatile_states [] good allowed =
+    subst (λ (l : List Event). IsCarried (state_of declared (past_of l) volatile_states)) (sym (none-more book)) good
 good-run declared book volatile_states (transition ∷ transitions) good allowed =
-    subst (λ (l : List Event). IsCarried (state_of declared (past_of l) (volatile_states_over transition.volatile_states transitions))) (assoc book transition.events (book_of transitions))
-    (good-run declared (book ++ transition.events) transition.volatile_states transitions (transition-kept declared book volatile_states transition good allowed.0 allowed.1.0) allowed.1.1)
+    subst (λ (l : List Event).
+    IsCarried (state_of declared (past_of l) (volatile_states_over transition.volatile_states transitions)))
+    (assoc book transition.events (book_of transitions))
+    (good-run declared (book ++ transition.events) transition.volatile_states transitions
+    (transition-kept declared book volatile_states transition good allowed.0 allowed.1.0) allowed.1.1)
 
-pub one-at : (declared : Declared) (transitions : List Transition) (action : Action) (front : List Event) → AreAllowed declared [] first_volatile_states transitions → Begins (MayBegin (state_of declared (past_of (book_of transitions)) (volatile_states_over first_volatile_states transitions)) action) front → HasOneWriter (book_of transitions ++ front)
+pub one-at : (declared : Declared) (transitions : List Transition) (action : Action) (front : List Event)
+    → AreAllowed declared [] first_volatile_states transitions
+    → Begins (MayBegin
+    (state_of declared (past_of (book_of transitions)) (volatile_states_over first_volatile_states transitions)) action)
+    front
+    → HasOneWriter (book_of transitions ++ front)
 one-at declared transitions action front allowed begins =
-    one-front-of declared (book_of transitions) (volatile_states_over first_volatile_states transitions) action front (good-run declared [] first_volatile_states transitions (good-start declared) allowed) begins
+    one-front-of declared (book_of transitions) (volatile_states_over first_volatile_states transitions) action front
+    (good-run declared [] first_volatile_states transitions (good-start declared) allowed) begins

@@ -33,9 +33,11 @@ record Frame (m : ℕ) (f g : Past) : Type 0 where
   hold : (n : ℕ) → (n ≡ m → ⊥) → g.hold n ≡ f.hold n
 
 elsewhere : {A : Type 0} (f : ℕ → A) (k m : ℕ) (x : A) → k ≡ m → (n : ℕ) → (n ≡ m → ⊥) → put_at f k x n ≡ f n
-elsewhere f k m x e n other = put-all f k x (λ n z. (n ≡ k → ⊥) → z ≡ f n) (λ no. absurd (no refl)) (λ n o no. refl) n (λ same. other (same ∙ e))
+elsewhere f k m x e n other =
+    put-all f k x (λ n z. (n ≡ k → ⊥) → z ≡ f n) (λ no. absurd (no refl)) (λ n o no. refl) n (λ same. other (same ∙ e))
 
-frame-watchdog : (m : ℕ) (f : Past) (e : WatchdogEvent) → IsOwnWatchdog m e → Frame m f (past_after f (kinds.Watchdog e))
+frame-watchdog : (m : ℕ) (f : Past) (e : WatchdogEvent) → IsOwnWatchdog m e
+    → Frame m f (past_after f (kinds.Watchdog e))
 frame-watchdog m f (watchdogs.Armed member until answer) mine = record {
   clock = refl;
   leader = refl;
@@ -102,7 +104,16 @@ frame-one m f kinds.Tick mine = absurd mine
 frame-one m f (kinds.Store (stores.Granted number by txn standbys)) mine = absurd mine
 frame-one m f (kinds.Watchdog e) mine = frame-watchdog m f e mine
 frame-one m f (kinds.Agent (agents.Started agent incarnation)) mine = absurd mine
-frame-one m f _ mine = record { clock = refl; leader = refl; failsafe = refl; revision = refl; runs = refl; deadline = λ n o. refl; by_failsafe = λ n o. refl; hold = λ n o. refl }
+frame-one m f _ mine = record {
+  clock = refl;
+  leader = refl;
+  failsafe = refl;
+  revision = refl;
+  runs = refl;
+  deadline = λ n o. refl;
+  by_failsafe = λ n o. refl;
+  hold = λ n o. refl;
+}
 
 frame-both : (m : ℕ) (f g h : Past) → Frame m f g → Frame m g h → Frame m f h
 frame-both m f g h a b = record {
@@ -117,46 +128,104 @@ frame-both m f g h a b = record {
 }
 
 frame-all : (m : ℕ) (f : Past) (events : List Event) → AllAre (IsOwn m) events → Frame m f (past_over f events)
-frame-all m f [] mine = record { clock = refl; leader = refl; failsafe = refl; revision = refl; runs = refl; deadline = λ n o. refl; by_failsafe = λ n o. refl; hold = λ n o. refl }
-frame-all m f (event ∷ events) mine = frame-both m f (past_after f event.kind) (past_over (past_after f event.kind) events) (frame-one m f event.kind mine.0) (frame-all m (past_after f event.kind) events mine.1)
+frame-all m f [] mine = record {
+  clock = refl;
+  leader = refl;
+  failsafe = refl;
+  revision = refl;
+  runs = refl;
+  deadline = λ n o. refl;
+  by_failsafe = λ n o. refl;
+  hold = λ n o. refl;
+}
+frame-all m f (event ∷ events) mine =
+    frame-both m f (past_after f event.kind) (past_over (past_after f event.kind) events)
+    (frame-one m f event.kind mine.0) (frame-all m (past_after f event.kind) events mine.1)
 
-machine-eq : (live : Bool) (agent : Option Agent) (d d' : Option ℕ) (b b' : Bool) (h h' r r' : ℕ) → d ≡ d' → b ≡ b' → h ≡ h' → r ≡ r' →
-    ◌≡◌ {A = Machine} (record { live = live; deadline = d; by_failsafe = b; hold = h; agent = agent; runs = r }) (record { live = live; deadline = d'; by_failsafe = b'; hold = h'; agent = agent; runs = r' })
+machine-eq : (live : Bool) (agent : Option Agent) (d d' : Option ℕ) (b b' : Bool) (h h' r r' : ℕ) → d ≡ d'
+    → b ≡ b' → h ≡ h' → r ≡ r' →
+    ◌≡◌ {A = Machine} (record { live = live; deadline = d; by_failsafe = b; hold = h; agent = agent; runs = r })
+    (record { live = live; deadline = d'; by_failsafe = b'; hold = h'; agent = agent; runs = r' })
 machine-eq live agent d d' b b' h h' r r' p q s t = cc
 
-pub state-eq : (d : Declared) (c c' : ℕ) (k k' : Option LeaderKey) (f f' : Option FailsafeKey) (t t' : ℕ) (fl fl' : ℕ → Option Flying) (tk tk' : List Taking) (ms ms' : ℕ → Machine) (w w' : ℕ → Bool) →
+pub state-eq : (d : Declared) (c c' : ℕ) (k k' : Option LeaderKey) (f f' : Option FailsafeKey) (t t' : ℕ)
+    (fl fl' : ℕ → Option Flying) (tk tk' : List Taking) (ms ms' : ℕ → Machine) (w w' : ℕ → Bool) →
     c ≡ c' → k ≡ k' → f ≡ f' → t ≡ t' → fl ≡ fl' → tk ≡ tk' → ms ≡ ms' → w ≡ w' →
-    ◌≡◌ {A = State} (record { declared = d; clock = c; leader = k; failsafe = f; revision = t; flight = fl; taken = tk; members = ms; writes = w })
-    (record { declared = d; clock = c'; leader = k'; failsafe = f'; revision = t'; flight = fl'; taken = tk'; members = ms'; writes = w' })
+    ◌≡◌ {A = State} (record {
+      declared = d;
+      clock = c;
+      leader = k;
+      failsafe = f;
+      revision = t;
+      flight = fl;
+      taken = tk;
+      members = ms;
+      writes = w;
+    })
+    (record {
+      declared = d;
+      clock = c';
+      leader = k';
+      failsafe = f';
+      revision = t';
+      flight = fl';
+      taken = tk';
+      members = ms';
+      writes = w';
+    })
 state-eq d c c' k k' f f' t t' fl fl' tk tk' ms ms' w w' p1 p2 p3 p4 p5 p6 p7 p8 = cc
 
 -- the machines after an input
-machines-input : (f g : Past) (volatile_states : ℕ → VolatileState) (m : ℕ) (volatile_state : VolatileState) → Frame m f g → ◌≡◌ {A = ℕ → Machine} (λ n. machine_of g (put_at volatile_states m volatile_state n) n) (put_at (λ n. machine_of f (volatile_states n) n) m (machine_of g volatile_state m))
+machines-input : (f g : Past) (volatile_states : ℕ → VolatileState) (m : ℕ) (volatile_state : VolatileState)
+    → Frame m f g
+    → ◌≡◌ {A = ℕ → Machine} (λ n. machine_of g (put_at volatile_states m volatile_state n) n)
+    (put_at (λ n. machine_of f (volatile_states n) n) m (machine_of g volatile_state m))
 machines-input f g volatile_states m volatile_state a = fun_ext (λ n.
-    put-all (λ n. machine_of f (volatile_states n) n) m (machine_of g volatile_state m) (λ n z. machine_of g (put_at volatile_states m volatile_state n) n ≡ z)
-    (put-all volatile_states m volatile_state (λ k w. k ≡ m → machine_of g w k ≡ machine_of g volatile_state m) (λ e. refl) (λ k o e. absurd (o e)) m refl)
-    (λ n other. put-all volatile_states m volatile_state (λ k w. (k ≡ m → ⊥) → machine_of g w k ≡ machine_of f (volatile_states k) k)
+    put-all (λ n. machine_of f (volatile_states n) n) m (machine_of g volatile_state m)
+    (λ n z. machine_of g (put_at volatile_states m volatile_state n) n ≡ z)
+    (put-all volatile_states m volatile_state (λ k w. k ≡ m → machine_of g w k ≡ machine_of g volatile_state m)
+    (λ e. refl) (λ k o e. absurd (o e)) m refl)
+    (λ n other. put-all volatile_states m volatile_state
+    (λ k w. (k ≡ m → ⊥) → machine_of g w k ≡ machine_of f (volatile_states k) k)
     (λ o. absurd (o refl))
-    (λ k o no. machine-eq (volatile_states k).live (volatile_states k).agent (g.deadline k) (f.deadline k) (g.by_failsafe k) (f.by_failsafe k) (g.hold k) (f.hold k) (g.runs k) (f.runs k)
+    (λ k o no. machine-eq (volatile_states k).live (volatile_states k).agent (g.deadline k) (f.deadline k)
+    (g.by_failsafe k) (f.by_failsafe k) (g.hold k) (f.hold k) (g.runs k) (f.runs k)
     (a.deadline k o) (a.by_failsafe k o) (a.hold k o) (ap (λ (r : ℕ → ℕ). r k) a.runs))
     n other)
     n)
 
-pub input-shown : (declared : Declared) (past : Past) (volatile_states : ℕ → VolatileState) (m : ℕ) (volatile_state : VolatileState) (heard : Option ℕ) (feeds : Bool) (takes : Option FailsafeRequest) (events : List Event) → AllAre (IsOwn m) events → (past_over past events).taken ≡ taken_by m past.clock takes past.taken →
-    state_of declared (past_over past events) (put_at volatile_states m volatile_state) ≡ state_after (state_of declared past volatile_states) (Input m (input_of past m volatile_state heard feeds takes events)) events
+pub input-shown : (declared : Declared) (past : Past) (volatile_states : ℕ → VolatileState) (m : ℕ)
+    (volatile_state : VolatileState) (heard : Option ℕ) (feeds : Bool) (takes : Option FailsafeRequest)
+    (events : List Event) → AllAre (IsOwn m) events
+    → (past_over past events).taken ≡ taken_by m past.clock takes past.taken →
+    state_of declared (past_over past events) (put_at volatile_states m volatile_state)
+    ≡ state_after (state_of declared past volatile_states)
+    (Input m (input_of past m volatile_state heard feeds takes events)) events
 input-shown declared past volatile_states m volatile_state heard feeds takes events mine taken =
     let g : Past = past_over past events in
     let a = frame-all m past events mine in
-    state-eq declared g.clock past.clock g.leader past.leader g.failsafe past.failsafe g.revision past.revision g.flight g.flight g.taken (taken_by m past.clock takes past.taken)
-    (λ n. machine_of g (put_at volatile_states m volatile_state n) n) (put_at (λ n. machine_of past (volatile_states n) n) m (machine_of g volatile_state m)) g.writes (writes_over past.writes events)
-    a.clock a.leader a.failsafe a.revision refl taken (machines-input past g volatile_states m volatile_state a) (writes-past past events)
+    state-eq declared g.clock past.clock g.leader past.leader g.failsafe past.failsafe g.revision
+    past.revision g.flight g.flight g.taken (taken_by m past.clock takes past.taken)
+    (λ n. machine_of g (put_at volatile_states m volatile_state n) n)
+    (put_at (λ n. machine_of past (volatile_states n) n) m (machine_of g volatile_state m)) g.writes
+    (writes_over past.writes events)
+    a.clock a.leader a.failsafe a.revision refl taken
+    (machines-input past g volatile_states m volatile_state a) (writes-past past events)
 
-pub past-append : (past : Past) (book events : List Event) → past_over past (book ++ events) ≡ past_over (past_over past book) events
+pub past-append : (past : Past) (book events : List Event)
+    → past_over past (book ++ events) ≡ past_over (past_over past book) events
 past-append past [] events = refl
 past-append past (event ∷ book) events = past-append (past_after past event.kind) book events
 
 -- the same of a book
-pub input-shown-of : (declared : Declared) (book : List Event) (volatile_states : ℕ → VolatileState) (m : ℕ) (volatile_state : VolatileState) (heard : Option ℕ) (feeds : Bool) (takes : Option FailsafeRequest) (events : List Event) → AllAre (IsOwn m) events → (past_over (past_of book) events).taken ≡ taken_by m (past_of book).clock takes (past_of book).taken →
-    state_of declared (past_of (book ++ events)) (put_at volatile_states m volatile_state) ≡ state_after (state_of declared (past_of book) volatile_states) (Input m (input_of (past_of book) m volatile_state heard feeds takes events)) events
+pub input-shown-of : (declared : Declared) (book : List Event) (volatile_states : ℕ → VolatileState) (m : ℕ)
+    (volatile_state : VolatileState) (heard : Option ℕ) (feeds : Bool) (takes : Option FailsafeRequest)
+    (events : List Event) → AllAre (IsOwn m) events
+    → (past_over (past_of book) events).taken ≡ taken_by m (past_of book).clock takes (past_of book).taken →
+    state_of declared (past_of (book ++ events)) (put_at volatile_states m volatile_state)
+    ≡ state_after (state_of declared (past_of book) volatile_states)
+    (Input m (input_of (past_of book) m volatile_state heard feeds takes events)) events
 input-shown-of declared book volatile_states m volatile_state heard feeds takes events mine taken =
-    ap (λ (past : Past). state_of declared past (put_at volatile_states m volatile_state)) (past-append first_past book events) ∙ input-shown declared (past_of book) volatile_states m volatile_state heard feeds takes events mine taken
+    ap (λ (past : Past). state_of declared past (put_at volatile_states m volatile_state))
+    (past-append first_past book events)
+    ∙ input-shown declared (past_of book) volatile_states m volatile_state heard feeds takes events mine taken

@@ -11,8 +11,15 @@ rests-at-start : (m : ℕ) → Acts (machine_of first_past first_volatile_state 
 rests-at-start m (inl e) = both e
 rests-at-start m (inr e) = both e
 
-first : (m : ℕ) (agent : Agent) → ◌≡◌ {A = Option Agent} (Some (fresh_agent 1)) (Some agent) → IsAgentKept None None 1 m 1 agent
-first m agent e = subst (λ (a : Agent). IsAgentKept None None 1 m 1 a) (some-is (fresh_agent 1) agent e) (record { incarnation = omega arith; lease = λ r is. absurd (none-some r is); seen = λ z is. absurd (none-some z is); failsafe = λ f is. absurd (none-some f is); informed = λ is. absurd (both is) })
+first : (m : ℕ) (agent : Agent) → ◌≡◌ {A = Option Agent} (Some (fresh_agent 1)) (Some agent)
+    → IsAgentKept None None 1 m 1 agent
+first m agent e = subst (λ (a : Agent). IsAgentKept None None 1 m 1 a) (some-is (fresh_agent 1) agent e) (record {
+  incarnation = omega arith;
+  lease = λ r is. absurd (none-some r is);
+  seen = λ z is. absurd (none-some z is);
+  failsafe = λ f is. absurd (none-some f is);
+  informed = λ is. absurd (both is);
+})
 
 -- the empty book
 pub inv-start : (declared : Declared) → IsSound (state_of declared (past_of []) first_volatile_states)
@@ -31,7 +38,8 @@ inv-start declared = record {
   taken = λ t e. absurd e;
   kept = first;
   spans = λ m agent e acts. absurd (rests-at-start m acts);
-  failsafe_check = λ m agent b e is. absurd (none-some b (ap (λ (a : Agent). a.failsafe_check) (some-is (fresh_agent 1) agent e) ∙ is));
+  failsafe_check = λ m agent b e is.
+      absurd (none-some b (ap (λ (a : Agent). a.failsafe_check) (some-is (fresh_agent 1) agent e) ∙ is));
   fresh = λ i a g e is waits. absurd (none-some (Answered a) e);
   tokens = λ i a g e is. absurd (none-some (Answered a) e);
 }

@@ -9,8 +9,8 @@ use Rattle.lease_model.specs.States.{Machine, State, Acts, state_after_tick, sta
 use Rattle.lease_model.specs.Outcomes.{delivered}
 use Rattle.lease_model.specs.Inputs.{AgentInput, Fed, IsLawful, IsInTime}
 
--- one tick with the servers that stop in it; the key store decides on a message and answers by another; a message is lost; one
--- input of an agent; an agent starts; it is killed; a server crashes; all else
+-- one tick with the servers that stop in it; the key store decides on a message and answers by another;
+-- a message is lost; one input of an agent; an agent starts; it is killed; a server crashes; all else
 pub data Action : Type 0 where
   Tick : (stops : ℕ → Bool) → Action
   Deliver : (number : ℕ) → (answer : ℕ) → (granted : Bool) → Action
@@ -24,7 +24,13 @@ pub data Action : Type 0 where
 -- the holds that were taken, with one that this member takes now
 abbrev pub taken_by : ℕ → ℕ → Option FailsafeRequest → List Taking → List Taking
 taken_by member clock None taken = taken
-taken_by member clock (Some failsafe_request) taken = record { by = member; from = failsafe_request.member; incarnation = failsafe_request.incarnation; sequence = failsafe_request.sequence; moment = clock } ∷ taken
+taken_by member clock (Some failsafe_request) taken = record {
+  by = member;
+  from = failsafe_request.member;
+  incarnation = failsafe_request.incarnation;
+  sequence = failsafe_request.sequence;
+  moment = clock;
+} ∷ taken
 
 -- the state with this machine in place of the member's own
 abbrev pub with_machine : State → ℕ → Machine → State
@@ -32,7 +38,11 @@ with_machine s member machine = record s { members = put_at s.members member mac
 
 -- the state after an input of this member's agent
 abbrev pub with_input : State → ℕ → AgentInput → State
-with_input s member input = record s { flight = input.flight; taken = taken_by member s.clock input.takes s.taken; members = put_at s.members member input.machine }
+with_input s member input = record s {
+  flight = input.flight;
+  taken = taken_by member s.clock input.takes s.taken;
+  members = put_at s.members member input.machine;
+}
 
 -- the state after an action
 abbrev pub act : State → Action → State
@@ -61,8 +71,8 @@ pub record MayArm (s : State) (m : ℕ) (input : AgentInput) : Type 0 where
   pub in_time : IsOnTime (s.declared.margin m) s.clock fed.grant.moment
   pub free : (s.members m).hold ≤ s.clock
 
--- who may begin to accept writes inside an action: a server whose start was under way, in a tick; and in an input its own
--- member's, where that acted before, or may arm its watchdog
+-- who may begin to accept writes inside an action: a server whose start was under way, in a
+-- tick; and in an input its own member's, where that acted before, or may arm its watchdog
 abbrev pub MayBegin : State → Action → ℕ → Type 0
 MayBegin s (Tick stops) n = (s.members n).live ≡ true
 MayBegin s (Input m input) n = (n ≡ m) × (Acts (s.members m) ⊎ MayArm s m input)
@@ -72,8 +82,8 @@ MayBegin s _ n = ⊥
 abbrev pub state_after : State → Action → List Event → State
 state_after s action events = record (act s action) { writes = writes_over s.writes events }
 
--- an action with its events is lawful and in time, only who may begin begins in it, and who accepts writes at its end is live
--- then
+-- an action with its events is lawful and in time, only who may begin
+-- begins in it, and who accepts writes at its end is live then
 pub record IsAllowed (s : State) (action : Action) (events : List Event) : Type 0 where
   pub lawful : IsLawfulAction s action
   pub in_time : IsInTimeAction s action

@@ -19,7 +19,8 @@ pub record IsArmedIn (m number : ℕ) (events : List Event) : Type 0 where
   pub aside : AllAre (KeepsMomentOf number) front
   pub fed : IsFedBy m number event.kind
 
--- the arming stands before: a beginning before it may be one on a late grant, of which the book up to there says nothing
+-- the arming stands before: a beginning before it may be one on a late
+-- grant, of which the book up to there says nothing
 pub record MayBeginArmed (s : State) (m : ℕ) (input : AgentInput) (before : List Event) : Type 0 where
   pub fed : Fed s m input.heard
   pub free : (s.members m).hold ≤ s.clock
@@ -38,7 +39,9 @@ BeginsBehind P before (event ∷ events) = BeginsKind (P before) event.kind × B
 
 -- where an input arms or feeds the watchdog, one of its events tells it
 abbrev pub ShowsIt : State → Action → List Event → Type 0
-ShowsIt s (Input m input) events = (input.feeds ≡ false) ⊎ ((front : List Event) × (event : Event) × (rest : List Event) × (is : front ++ event ∷ rest ≡ events) × ShowsFeed s m input front event)
+ShowsIt s (Input m input) events = (input.feeds ≡ false)
+    ⊎ ((front : List Event) × (event : Event) × (rest : List Event) × (is : front ++ event ∷ rest ≡ events) ×
+    ShowsFeed s m input front event)
 ShowsIt s _ events = Unit {0}
 
 -- an action with its events is lawful, whether or not it is in time
@@ -52,4 +55,6 @@ pub record IsLawfulTransition (s : State) (action : Action) (events : List Event
 abbrev pub AreLawful : Declared → List Event → (ℕ → VolatileState) → List Transition → Type 0
 AreLawful declared book volatile_states [] = Unit {0}
 AreLawful declared book volatile_states (transition ∷ transitions) =
-    IsLawfulTransition (state_of declared (past_of book) volatile_states) transition.action transition.events × (IsShown declared book volatile_states transition × AreLawful declared (book ++ transition.events) transition.volatile_states transitions)
+    IsLawfulTransition (state_of declared (past_of book) volatile_states) transition.action transition.events
+    × (IsShown declared book volatile_states transition ×
+    AreLawful declared (book ++ transition.events) transition.volatile_states transitions)

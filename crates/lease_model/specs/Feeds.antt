@@ -26,7 +26,8 @@ KeepsMomentOf number kind = KeepsClockAndRuns kind
 -- the watchdog of this member is armed or fed in this event by the grant that the answer of this number tells
 abbrev pub IsFedBy : ℕ → ℕ → EventKind → Type 0
 IsFedBy m answer (kinds.Watchdog (watchdogs.Armed member until number)) = (member.id.number ≡ m) × (number ≡ answer)
-IsFedBy m answer (kinds.Watchdog (watchdogs.Fed member until (bases.Grant number))) = (member.id.number ≡ m) × (number ≡ answer)
+IsFedBy m answer (kinds.Watchdog (watchdogs.Fed member until (bases.Grant number))) =
+    (member.id.number ≡ m) × (number ≡ answer)
 IsFedBy m answer _ = ⊥
 
 -- it is fed in this event by the acknowledgements of these members of the failsafe request of this number
@@ -37,6 +38,9 @@ IsFedOn m members sequence _ = ⊥
 
 -- where an input arms or feeds the watchdog, this event behind those tells it
 pub record ShowsFeed (s : State) (m : ℕ) (input : AgentInput) (front : List Event) (event : Event) : Type 0 where
-  pub by_grant : input.feeds ≡ true → input.machine.by_failsafe ≡ false → (number : ℕ) → input.heard ≡ Some number → AllAre (KeepsMomentOf number) front × IsFedBy m number event.kind
-  pub by_failsafe : input.feeds ≡ true → input.machine.by_failsafe ≡ true → (was : Agent) (failsafe_check : FailsafeCheck) → (s.members m).agent ≡ Some was → was.failsafe_check ≡ Some failsafe_check
-      → (was.incarnation ≡ (s.members m).runs) × AllAre KeepsClockAndRuns front × IsFedOn m failsafe_check.members failsafe_check.sequence event.kind
+  pub by_grant : input.feeds ≡ true → input.machine.by_failsafe ≡ false → (number : ℕ)
+      → input.heard ≡ Some number → AllAre (KeepsMomentOf number) front × IsFedBy m number event.kind
+  pub by_failsafe : input.feeds ≡ true → input.machine.by_failsafe ≡ true → (was : Agent)
+      (failsafe_check : FailsafeCheck) → (s.members m).agent ≡ Some was → was.failsafe_check ≡ Some failsafe_check
+      → (was.incarnation ≡ (s.members m).runs) × AllAre KeepsClockAndRuns front
+      × IsFedOn m failsafe_check.members failsafe_check.sequence event.kind

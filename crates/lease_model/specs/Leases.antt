@@ -18,8 +18,8 @@ pub record FailsafeKey : Type 0 where
   pub revision : ℕ
   pub members : ℕ → Bool
 
--- what the lease reads of a question to the key store: a create with what it expects of the failsafe key, a renewal with the set
--- of members that it writes into the failsafe key, a release, another write, or a read
+-- what the lease reads of a question to the key store: a create with what it expects of the failsafe key, a
+-- renewal with the set of members that it writes into the failsafe key, a release, another write, or a read
 pub data Query : Type 0 where
   Create : (ttl : ℕ) → (expected : Option Expected) → Query
   Renew : (revision : ℕ) → (ttl : ℕ) → (carried : Option (ℕ → Bool)) → Query
@@ -27,7 +27,8 @@ pub data Query : Type 0 where
   Write : Query
   Read : Query
 
--- a question to the key store: its sender, the sender's incarnation, its number in that one, and the moment of its sending
+-- a question to the key store: its sender, the sender's incarnation,
+-- its number in that one, and the moment of its sending
 pub record Question : Type 0 where
   pub member : ℕ
   pub incarnation : ℕ
@@ -35,7 +36,8 @@ pub record Question : Type 0 where
   pub sent : ℕ
   pub query : Query
 
--- the grant of a create or a renewal: its revision, when it was asked for and granted, for how long, and the failsafe key then
+-- the grant of a create or a renewal: its revision, when it was asked
+-- for and granted, for how long, and the failsafe key then
 pub record Grant : Type 0 where
   pub revision : ℕ
   pub sent : ℕ

@@ -66,4 +66,5 @@ IsModeAsked mode _ = Unit {0}
 
 -- and each that a message in flight asks for
 abbrev pub AskMode : Bool → Flight → Type 0
-AskMode mode flight = (i : ℕ) (carried : InFlightFacts) → in_flight flight i ≡ Some carried → IsModeAsked mode carried.message.body
+AskMode mode flight =
+    (i : ℕ) (carried : InFlightFacts) → in_flight flight i ≡ Some carried → IsModeAsked mode carried.message.body

@@ -21,7 +21,8 @@ pub record Outcome : Type 0 where
 
 -- after a refusal the keys are as they were, and the answer has neither a snapshot nor a grant
 abbrev pub refused_outcome : Option LeaderKey → Option FailsafeKey → ℕ → Outcome
-refused_outcome leader failsafe revision = record { leader = leader; failsafe = failsafe; revision = revision; snapshot = false; grant = None }
+refused_outcome leader failsafe revision =
+    record { leader = leader; failsafe = failsafe; revision = revision; snapshot = false; grant = None }
 
 -- the failsafe key is as a create expects it
 abbrev pub is_as_read : Option Expected → Option FailsafeKey → Bool
@@ -42,9 +43,11 @@ create_if true clock failsafe revision by sent ttl = record {
 }
 create_if false clock failsafe revision by sent ttl = refused_outcome None failsafe revision
 
--- a create may compare the sync key too, which is no key of the lease: it may be refused where the keys of the lease are as expected
+-- a create may compare the sync key too, which is no key of the lease:
+-- it may be refused where the keys of the lease are as expected
 abbrev pub create_on : Bool → ℕ → Option LeaderKey → Option FailsafeKey → ℕ → ℕ → ℕ → ℕ → Option Expected → Outcome
-create_on granted clock None failsafe revision by sent ttl expected = create_if (is_as_read expected failsafe && granted) clock failsafe revision by sent ttl
+create_on granted clock None failsafe revision by sent ttl expected =
+    create_if (is_as_read expected failsafe && granted) clock failsafe revision by sent ttl
 create_on granted clock (Some key) failsafe revision by sent ttl expected = refused_outcome (Some key) failsafe revision
 
 -- the failsafe key after a renewal of this revision that carries these members
@@ -54,7 +57,8 @@ failsafe_carried revision (Some members) failsafe = Some (record { revision = re
 
 -- the lease never ends earlier than it did
 abbrev pub renewed : ℕ → ℕ → ℕ → LeaderKey → LeaderKey
-renewed clock revision ttl key = record { holder = key.holder; revision = revision; expiry = max key.expiry (clock + ttl) }
+renewed clock revision ttl key =
+    record { holder = key.holder; revision = revision; expiry = max key.expiry (clock + ttl) }
 
 -- a renewal of a leader key that is there: where its compare holds, the lease is extended and its set written
 abbrev pub renew_if : Bool → ℕ → LeaderKey → Option FailsafeKey → ℕ → ℕ → ℕ → Option (ℕ → Bool) → Outcome
@@ -63,18 +67,26 @@ renew_if true clock key failsafe revision sent ttl carried = record {
   failsafe = failsafe_carried (revision + 1) carried failsafe;
   revision = revision + 1;
   snapshot = true;
-  grant = Some (record { revision = revision + 1; sent = sent; moment = clock; ttl = ttl; failsafe = failsafe_carried (revision + 1) carried failsafe });
+  grant = Some (record {
+    revision = revision + 1;
+    sent = sent;
+    moment = clock;
+    ttl = ttl;
+    failsafe = failsafe_carried (revision + 1) carried failsafe;
+  });
 }
 renew_if false clock key failsafe revision sent ttl carried = refused_outcome (Some key) failsafe revision
 
 -- a renewal is granted where the leader key is there and has the revision that it compares
 abbrev pub renew_on : ℕ → Option LeaderKey → Option FailsafeKey → ℕ → ℕ → ℕ → ℕ → Option (ℕ → Bool) → Outcome
 renew_on clock None failsafe revision compared sent ttl carried = refused_outcome None failsafe revision
-renew_on clock (Some key) failsafe revision compared sent ttl carried = renew_if (key.revision == compared) clock key failsafe revision sent ttl carried
+renew_on clock (Some key) failsafe revision compared sent ttl carried =
+    renew_if (key.revision == compared) clock key failsafe revision sent ttl carried
 
 -- a release of a leader key that is there: where its compare holds, the key is gone
 abbrev pub release_if : Bool → LeaderKey → Option FailsafeKey → ℕ → Outcome
-release_if true key failsafe revision = record { leader = None; failsafe = failsafe; revision = revision + 1; snapshot = true; grant = None }
+release_if true key failsafe revision =
+    record { leader = None; failsafe = failsafe; revision = revision + 1; snapshot = true; grant = None }
 release_if false key failsafe revision = refused_outcome (Some key) failsafe revision
 
 -- a release is granted where the leader key is there and has the revision that it compares
@@ -84,17 +96,22 @@ release_on (Some key) failsafe revision compared = release_if (key.revision == c
 
 -- what another write compares is no key of the lease, so the keys of the lease don't tell whether it is granted
 abbrev pub write_if : Bool → Option LeaderKey → Option FailsafeKey → ℕ → Outcome
-write_if true leader failsafe revision = record { leader = leader; failsafe = failsafe; revision = revision + 1; snapshot = true; grant = None }
+write_if true leader failsafe revision =
+    record { leader = leader; failsafe = failsafe; revision = revision + 1; snapshot = true; grant = None }
 write_if false leader failsafe revision = refused_outcome leader failsafe revision
 
--- what a question of this member, sent at this moment, leaves; a test says whether it was granted, where the keys of the lease don't tell that:
--- of a create that compares the sync key, and of another write
+-- what a question of this member, sent at this moment, leaves; a test says whether it was granted, where
+-- the keys of the lease don't tell that: of a create that compares the sync key, and of another write
 abbrev pub outcome_of : ℕ → Option LeaderKey → Option FailsafeKey → ℕ → ℕ → ℕ → Bool → Query → Outcome
-outcome_of clock leader failsafe revision by sent granted (Create ttl expected) = create_on granted clock leader failsafe revision by sent ttl expected
-outcome_of clock leader failsafe revision by sent granted (Renew compared ttl carried) = renew_on clock leader failsafe revision compared sent ttl carried
-outcome_of clock leader failsafe revision by sent granted (Release compared) = release_on leader failsafe revision compared
+outcome_of clock leader failsafe revision by sent granted (Create ttl expected) =
+    create_on granted clock leader failsafe revision by sent ttl expected
+outcome_of clock leader failsafe revision by sent granted (Renew compared ttl carried) =
+    renew_on clock leader failsafe revision compared sent ttl carried
+outcome_of clock leader failsafe revision by sent granted (Release compared) =
+    release_on leader failsafe revision compared
 outcome_of clock leader failsafe revision by sent granted Write = write_if granted leader failsafe revision
-outcome_of clock leader failsafe revision by sent granted Read = record { leader = leader; failsafe = failsafe; revision = revision; snapshot = true; grant = None }
+outcome_of clock leader failsafe revision by sent granted Read =
+    record { leader = leader; failsafe = failsafe; revision = revision; snapshot = true; grant = None }
 
 -- what an answer says of a key: what is there, if the answer has a snapshot, and else nothing
 abbrev pub shown_if : {A : Type 0} → Bool → Option A → Option A
@@ -124,7 +141,8 @@ with_outcome s number answer request outcome = record s {
 -- the state once this message comes to the key store, which decides only where it is a question
 abbrev pub with_question : State → ℕ → ℕ → Bool → Option Flying → State
 with_question s number answer granted (Some (Requested request)) =
-    with_outcome s number answer request (outcome_of s.clock s.leader s.failsafe s.revision request.member request.sent granted request.query)
+    with_outcome s number answer request
+    (outcome_of s.clock s.leader s.failsafe s.revision request.member request.sent granted request.query)
 with_question s number answer granted _ = s
 
 -- the key store decides on the question that this message carries, and answers by another message

@@ -67,7 +67,8 @@ extended_by clock revision ttl (Some key) = Some (renewed clock revision ttl key
 
 -- the leader key after a granted question of this member: created, extended, released, or as it was
 abbrev pub leader_granted : ℕ → ℕ → Option LeaderKey → ℕ → Query → Option LeaderKey
-leader_granted clock revision leader by (Create ttl expected) = Some (record { holder = by; revision = revision + 1; expiry = clock + ttl })
+leader_granted clock revision leader by (Create ttl expected) =
+    Some (record { holder = by; revision = revision + 1; expiry = clock + ttl })
 leader_granted clock revision leader by (Renew compared ttl carried) = extended_by clock (revision + 1) ttl leader
 leader_granted clock revision leader by (Release compared) = None
 leader_granted clock revision leader by _ = leader
@@ -75,7 +76,8 @@ leader_granted clock revision leader by _ = leader
 -- the leader key after an event
 abbrev pub leader_after : ℕ → ℕ → Option LeaderKey → EventKind → Option LeaderKey
 leader_after clock revision leader kinds.Tick = leader_kept (clock + 1) leader
-leader_after clock revision leader (kinds.Store (stores.Granted number by txn standbys)) = leader_granted clock revision leader by.id.number (query_of txn)
+leader_after clock revision leader (kinds.Store (stores.Granted number by txn standbys)) =
+    leader_granted clock revision leader by.id.number (query_of txn)
 leader_after clock revision leader _ = leader
 
 -- the failsafe key after a granted question: only a renewal may write it
@@ -85,7 +87,8 @@ failsafe_granted revision failsafe _ = failsafe
 
 -- the failsafe key after an event
 abbrev pub failsafe_after : ℕ → Option FailsafeKey → EventKind → Option FailsafeKey
-failsafe_after revision failsafe (kinds.Store (stores.Granted number by txn standbys)) = failsafe_granted revision failsafe (query_of txn)
+failsafe_after revision failsafe (kinds.Store (stores.Granted number by txn standbys)) =
+    failsafe_granted revision failsafe (query_of txn)
 failsafe_after revision failsafe _ = failsafe
 
 -- the last granted revision, after an event
@@ -95,37 +98,67 @@ revision_after revision _ = revision
 
 -- the grant that an answer tells: that of the last revision, to this question
 abbrev pub grant_of : Bool → Past → Option Question → Option Grant
-grant_of true past (Some request) = Some (record { revision = past.revision; sent = request.sent; moment = past.clock; ttl = lease_span request.query; failsafe = past.failsafe })
+grant_of true past (Some request) = Some (record {
+  revision = past.revision;
+  sent = request.sent;
+  moment = past.clock;
+  ttl = lease_span request.query;
+  failsafe = past.failsafe;
+})
 grant_of _ past _ = None
 
 -- an answer to this member: with a snapshot it shows the keys as they are, and it may tell a grant
 abbrev pub answer_of : Past → ℕ → ℕ → ℕ → Bool → Option Grant → Answer
-answer_of past member incarnation sequence snapshot grant = record { member = member; incarnation = incarnation; sequence = sequence; leader = shown_if snapshot (seen_of past.leader); failsafe = shown_if snapshot past.failsafe; grant = grant }
+answer_of past member incarnation sequence snapshot grant = record {
+  member = member;
+  incarnation = incarnation;
+  sequence = sequence;
+  leader = shown_if snapshot (seen_of past.leader);
+  failsafe = shown_if snapshot past.failsafe;
+  grant = grant;
+}
 
 -- a message of this member to the key store
 abbrev pub question_in_flight_of : Past → ℕ → ℕ → ℕ → Body → Option Flying
-question_in_flight_of past member incarnation sequence bodies.Read = Some (Requested (record { member = member; incarnation = incarnation; sequence = sequence; sent = past.clock; query = Read }))
-question_in_flight_of past member incarnation sequence (bodies.Request txn) = Some (Requested (record { member = member; incarnation = incarnation; sequence = sequence; sent = past.clock; query = query_of txn }))
+question_in_flight_of past member incarnation sequence bodies.Read =
+    Some (Requested
+    (record { member = member; incarnation = incarnation; sequence = sequence; sent = past.clock; query = Read }))
+question_in_flight_of past member incarnation sequence (bodies.Request txn) = Some (Requested (record {
+  member = member;
+  incarnation = incarnation;
+  sequence = sequence;
+  sent = past.clock;
+  query = query_of txn;
+}))
 question_in_flight_of past member incarnation sequence _ = None
 
 -- a message of the key store to this member
 abbrev pub answer_in_flight_of : Past → ℕ → ℕ → ℕ → Body → Option Flying
-answer_in_flight_of past member incarnation sequence bodies.Snapshot = Some (Answered (answer_of past member incarnation sequence true None))
-answer_in_flight_of past member incarnation sequence (bodies.Granted request leased) = Some (Answered (answer_of past member incarnation sequence true (grant_of leased past (past.asked request))))
-answer_in_flight_of past member incarnation sequence (bodies.Refused request key found) = Some (Answered (answer_of past member incarnation sequence false None))
+answer_in_flight_of past member incarnation sequence bodies.Snapshot =
+    Some (Answered (answer_of past member incarnation sequence true None))
+answer_in_flight_of past member incarnation sequence (bodies.Granted request leased) =
+    Some (Answered (answer_of past member incarnation sequence true (grant_of leased past (past.asked request))))
+answer_in_flight_of past member incarnation sequence (bodies.Refused request key found) =
+    Some (Answered (answer_of past member incarnation sequence false None))
 answer_in_flight_of past member incarnation sequence _ = None
 
 -- a message of the first member to the second
 abbrev pub peer_in_flight_of : Past → ℕ → ℕ → ℕ → ℕ → Body → Option Flying
-peer_in_flight_of past by member incarnation sequence (bodies.FailsafeRequest ttl) = Some (FailsafeRequested (record { member = by; incarnation = incarnation; sequence = sequence; ttl = ttl.0; sent = past.clock }))
-peer_in_flight_of past by member incarnation sequence (bodies.FailsafeAnswer true) = Some (Acknowledged (record { member = member; incarnation = incarnation; sequence = sequence; by = by }))
+peer_in_flight_of past by member incarnation sequence (bodies.FailsafeRequest ttl) =
+    Some (FailsafeRequested
+    (record { member = by; incarnation = incarnation; sequence = sequence; ttl = ttl.0; sent = past.clock }))
+peer_in_flight_of past by member incarnation sequence (bodies.FailsafeAnswer true) =
+    Some (Acknowledged (record { member = member; incarnation = incarnation; sequence = sequence; by = by }))
 peer_in_flight_of past by member incarnation sequence _ = None
 
 -- what the lease reads of a message that is sent
 abbrev pub flying_of : Past → LinkEnd → LinkEnd → ℕ → ℕ → Body → Option Flying
-flying_of past (ends.Member member) ends.Store incarnation sequence body = question_in_flight_of past member.id.number incarnation sequence body
-flying_of past ends.Store (ends.Member member) incarnation sequence body = answer_in_flight_of past member.id.number incarnation sequence body
-flying_of past (ends.Member by) (ends.Member member) incarnation sequence body = peer_in_flight_of past by.id.number member.id.number incarnation sequence body
+flying_of past (ends.Member member) ends.Store incarnation sequence body =
+    question_in_flight_of past member.id.number incarnation sequence body
+flying_of past ends.Store (ends.Member member) incarnation sequence body =
+    answer_in_flight_of past member.id.number incarnation sequence body
+flying_of past (ends.Member by) (ends.Member member) incarnation sequence body =
+    peer_in_flight_of past by.id.number member.id.number incarnation sequence body
 flying_of past ends.Store ends.Store incarnation sequence body = None
 
 -- the questions so far, and the one that this message carries, if it is a question
@@ -135,13 +168,15 @@ asked_with asked number _ = asked
 
 -- the messages in flight, after one is sent, delivered or lost
 abbrev pub past_flight_by : Past → MessageEvent → ℕ → Option Flying
-past_flight_by past (Sent number message) = put_at past.flight number (flying_of past message.from message.to message.incarnation message.sequence message.body)
+past_flight_by past (Sent number message) =
+    put_at past.flight number (flying_of past message.from message.to message.incarnation message.sequence message.body)
 past_flight_by past (Delivered number) = put_at past.flight number None
 past_flight_by past (Lost number) = put_at past.flight number None
 
 -- the questions so far, after a message is sent, delivered or lost
 abbrev pub asked_by : Past → MessageEvent → ℕ → Option Question
-asked_by past (Sent number message) = asked_with past.asked number (flying_of past message.from message.to message.incarnation message.sequence message.body)
+asked_by past (Sent number message) = asked_with past.asked number
+    (flying_of past message.from message.to message.incarnation message.sequence message.body)
 asked_by past _ = past.asked
 
 -- the messages in flight, after an event
@@ -165,12 +200,14 @@ deadline_by deadline _ = deadline
 -- whose deadline acknowledgements set last, after a watchdog is armed or fed
 abbrev pub by_failsafe_by : (ℕ → Bool) → WatchdogEvent → ℕ → Bool
 by_failsafe_by by_failsafe (watchdogs.Armed member until answer) = put_at by_failsafe member.id.number false
-by_failsafe_by by_failsafe (watchdogs.Fed member until basis) = put_at by_failsafe member.id.number (is_acknowledged basis)
+by_failsafe_by by_failsafe (watchdogs.Fed member until basis) =
+    put_at by_failsafe member.id.number (is_acknowledged basis)
 by_failsafe_by by_failsafe _ = by_failsafe
 
 -- when the hold of each member ends, after one takes a hold, which never ends earlier than the one before
 abbrev pub hold_by : (ℕ → ℕ) → WatchdogEvent → ℕ → ℕ
-hold_by hold (watchdogs.HoldTaken member until from incarnation sequence) = put_at hold member.id.number (max (hold member.id.number) until.0)
+hold_by hold (watchdogs.HoldTaken member until from incarnation sequence) =
+    put_at hold member.id.number (max (hold member.id.number) until.0)
 hold_by hold _ = hold
 
 -- the deadline of each watchdog, after an event
@@ -211,7 +248,8 @@ abbrev pub past_over : Past → List Event → Past
 past_over past [] = past
 past_over past (event ∷ events) = past_over (past_after past event.kind) events
 
--- before the first event: there is no leader key and no failsafe key, nothing is in flight, and each agent is in its first incarnation
+-- before the first event: there is no leader key and no failsafe key,
+-- nothing is in flight, and each agent is in its first incarnation
 abbrev pub first_past : Past
 first_past = record {
   clock = 0;
@@ -244,7 +282,14 @@ first_volatile_state = record { live = false; agent = Some (fresh_agent 1) }
 
 -- the machine of a member, by the book and by what no event says of it
 abbrev pub machine_of : Past → VolatileState → ℕ → Machine
-machine_of past volatile_state m = record { live = volatile_state.live; deadline = past.deadline m; by_failsafe = past.by_failsafe m; hold = past.hold m; agent = volatile_state.agent; runs = past.runs m }
+machine_of past volatile_state m = record {
+  live = volatile_state.live;
+  deadline = past.deadline m;
+  by_failsafe = past.by_failsafe m;
+  hold = past.hold m;
+  agent = volatile_state.agent;
+  runs = past.runs m;
+}
 
 -- the state that a book and the volatile states of its members are
 abbrev pub state_of : Declared → Past → (ℕ → VolatileState) → State

@@ -50,12 +50,22 @@ input_of past m volatile_state heard feeds takes events = record {
   flight = (past_over past events).flight;
 }
 
--- the events of one delivery to the key store at this moment: of a request that is granted, of one that is refused, and of a read
+-- the events of one delivery to the key store at this moment: of a
+-- request that is granted, of one that is refused, and of a read
 abbrev pub granted_events : Ticks → ℕ → ℕ → Member → ℕ → ℕ → Txn → List Name → List Event
 granted_events tick number answer by incarnation sequence txn standbys =
     record { tick = tick; kind = kinds.Message (messages.Delivered number) }
     ∷ record { tick = tick; kind = kinds.Store (stores.Granted number by txn standbys) }
-    ∷ record { tick = tick; kind = kinds.Message (messages.Sent answer (record { from = ends.Store; to = ends.Member by; incarnation = incarnation; sequence = sequence; body = bodies.Granted number (is_lease txn) })) }
+    ∷ record {
+      tick = tick;
+      kind = kinds.Message (messages.Sent answer (record {
+        from = ends.Store;
+        to = ends.Member by;
+        incarnation = incarnation;
+        sequence = sequence;
+        body = bodies.Granted number (is_lease txn);
+      }));
+    }
     ∷ []
 
 -- the events of one delivery to the key store, of a request that is refused
@@ -63,14 +73,32 @@ abbrev pub refused_events : Ticks → ℕ → ℕ → Member → ℕ → ℕ →
 refused_events tick number answer by incarnation sequence request key found =
     record { tick = tick; kind = kinds.Message (messages.Delivered number) }
     ∷ record { tick = tick; kind = kinds.Store (stores.Refused number by request key found) }
-    ∷ record { tick = tick; kind = kinds.Message (messages.Sent answer (record { from = ends.Store; to = ends.Member by; incarnation = incarnation; sequence = sequence; body = bodies.Refused number key found })) }
+    ∷ record {
+      tick = tick;
+      kind = kinds.Message (messages.Sent answer (record {
+        from = ends.Store;
+        to = ends.Member by;
+        incarnation = incarnation;
+        sequence = sequence;
+        body = bodies.Refused number key found;
+      }));
+    }
     ∷ []
 
 -- the events of one delivery to the key store, of a read
 abbrev pub read_events : Ticks → ℕ → ℕ → Member → ℕ → ℕ → List Event
 read_events tick number answer by incarnation sequence =
     record { tick = tick; kind = kinds.Message (messages.Delivered number) }
-    ∷ record { tick = tick; kind = kinds.Message (messages.Sent answer (record { from = ends.Store; to = ends.Member by; incarnation = incarnation; sequence = sequence; body = bodies.Snapshot })) }
+    ∷ record {
+      tick = tick;
+      kind = kinds.Message (messages.Sent answer (record {
+        from = ends.Store;
+        to = ends.Member by;
+        incarnation = incarnation;
+        sequence = sequence;
+        body = bodies.Snapshot;
+      }));
+    }
     ∷ []
 
 -- an event that changes neither clock nor keys nor messages nor holds

@@ -3,8 +3,8 @@ use Rattle.std.specs.Prelude.{ℕ, ◌≡◌, ◌⊎◌, ◌+◌, nat_le, Bool, 
 use Rattle.lease_model.specs.Leases.{LeaderKey, LeaderSeen, FailsafeKey, Flying}
 use Rattle.event_book.specs.Premises.{Taking}
 
--- an agent waits for acknowledgements: of its failsafe request of this number, with this span, sent at this moment to these
--- members, of whom these have acknowledged it
+-- an agent waits for acknowledgements: of its failsafe request of this number, with
+-- this span, sent at this moment to these members, of whom these have acknowledged it
 pub record FailsafeCheck : Type 0 where
   pub sequence : ℕ
   pub ttl : ℕ
@@ -29,7 +29,8 @@ pub record Agent : Type 0 where
   pub leader : Option LeaderSeen
   -- the failsafe key of its turn's snapshot
   pub failsafe : Option FailsafeKey
-  -- the members that a failsafe key which it accepted in this incarnation listed, or that a renewal which it sent in this incarnation carried
+  -- the members that a failsafe key which it accepted in this incarnation
+  -- listed, or that a renewal which it sent in this incarnation carried
   pub known : ℕ → Bool
   -- it accepted a snapshot with a failsafe key in this incarnation
   pub informed : Bool
@@ -49,8 +50,8 @@ pub record Machine : Type 0 where
   -- how many incarnations of its agent have begun
   pub runs : ℕ
 
--- what the head of a script declares: the margin between a watchdog's deadline and the end of the lease in ticks, none where the
--- watchdog fires after half a lease; and whether failsafe mode is on
+-- what the head of a script declares: the margin between a watchdog's deadline and the end of the
+-- lease in ticks, none where the watchdog fires after half a lease; and whether failsafe mode is on
 pub record Declared : Type 0 where
   pub margin : ℕ → Option ℕ
   pub failsafe : Bool
@@ -115,11 +116,27 @@ deadline_if false deadline = None
 
 -- an agent at the beginning of its incarnation: it waits for nothing, and knows nothing
 abbrev pub fresh_agent : ℕ → Agent
-fresh_agent incarnation = record { incarnation = incarnation; last = 0; waits = None; lease = None; ready = false; leads = false; leader = None; failsafe = None; known = λ p. false; informed = false; failsafe_check = None }
+fresh_agent incarnation = record {
+  incarnation = incarnation;
+  last = 0;
+  waits = None;
+  lease = None;
+  ready = false;
+  leads = false;
+  leader = None;
+  failsafe = None;
+  known = λ p. false;
+  informed = false;
+  failsafe_check = None;
+}
 
 -- an agent that starts removes a deadline, but over a live server leaves it
 abbrev pub start_machine : Machine → Machine
-start_machine machine = record machine { deadline = deadline_if machine.live machine.deadline; agent = Some (fresh_agent (machine.runs + 1)); runs = machine.runs + 1 }
+start_machine machine = record machine {
+  deadline = deadline_if machine.live machine.deadline;
+  agent = Some (fresh_agent (machine.runs + 1));
+  runs = machine.runs + 1;
+}
 
 -- a kill ends the agent, and leaves its server and the deadline
 abbrev pub kill_machine : Machine → Machine

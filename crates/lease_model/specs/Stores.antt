@@ -22,7 +22,8 @@ use Rattle.event_book.specs.Functions.{set_members}
 
 -- the leader key with this value, revision and expiry, if the value is one of a leader key
 abbrev pub leader_value : Value → ℕ → Option Ticks → Option LeaderKey
-leader_value (values.Leader member) revision (Some expiry) = Some (record { holder = member.number; revision = revision; expiry = expiry.0 })
+leader_value (values.Leader member) revision (Some expiry) =
+    Some (record { holder = member.number; revision = revision; expiry = expiry.0 })
 leader_value _ revision _ = None
 
 -- the leader key as the key store has it
@@ -73,8 +74,10 @@ pub record IsSameStore (past : Past) (facts : Facts) : Type 0 where
 
 -- the grant that the store gives a question of the lease, under this revision and with this failsafe key
 abbrev pub lease_given : ℕ → ℕ → Option FailsafeKey → ℕ → Query → Option Grant
-lease_given clock revision failsafe sent (Create ttl expected) = Some (record { revision = revision; sent = sent; moment = clock; ttl = ttl; failsafe = failsafe })
-lease_given clock revision failsafe sent (Renew compared ttl carried) = Some (record { revision = revision; sent = sent; moment = clock; ttl = ttl; failsafe = failsafe })
+lease_given clock revision failsafe sent (Create ttl expected) =
+    Some (record { revision = revision; sent = sent; moment = clock; ttl = ttl; failsafe = failsafe })
+lease_given clock revision failsafe sent (Renew compared ttl carried) =
+    Some (record { revision = revision; sent = sent; moment = clock; ttl = ttl; failsafe = failsafe })
 lease_given clock revision failsafe sent _ = None
 
 -- what a granted question leaves
@@ -94,5 +97,6 @@ is_granted (Refusing key found) = false
 
 -- what a question leaves by the key store's decision
 abbrev pub outcome_by : Decision → ℕ → Option LeaderKey → Option FailsafeKey → ℕ → ℕ → ℕ → Query → Outcome
-outcome_by Granting clock leader failsafe revision by sent query = granted_outcome clock leader failsafe revision by sent query
+outcome_by Granting clock leader failsafe revision by sent query =
+    granted_outcome clock leader failsafe revision by sent query
 outcome_by (Refusing key found) clock leader failsafe revision by sent query = refused_outcome leader failsafe revision

@@ -36,22 +36,35 @@ use Rattle.lease_parts.proofs.SameMachine.{machine-same, machines-put}
 use Rattle.cluster_model.proofs.Places.{get-here, get-elsewhere, there}
 
 -- without its agent a member has none
-pub agent-without : (agents : List (Option AgentFacts)) (k : ℕ) → k < length agents → agent_now (option_map (λ (agent : Option AgentFacts). let none : Option AgentFacts = None in none) (slice_get agents k)) ≡ None
-agent-without agents k small = let found = there agents k small in ap (λ (o : Option (Option AgentFacts)). agent_now (option_map (λ (agent : Option AgentFacts). let none : Option AgentFacts = None in none) o)) found.1
+pub agent-without : (agents : List (Option AgentFacts)) (k : ℕ) → k < length agents
+    → agent_now (option_map (λ (agent : Option AgentFacts). let none : Option AgentFacts = None in none)
+    (slice_get agents k))
+    ≡ None
+agent-without agents k small = let found = there agents k small in
+    ap (λ (o : Option (Option AgentFacts)).
+    agent_now (option_map (λ (agent : Option AgentFacts). let none : Option AgentFacts = None in none) o))
+    found.1
 
 killed-machine : (cluster : Cluster) (member : Member) → member.id.number < length cluster.agents → (m : ℕ)
-    → machine_in (cluster_after cluster (kinds.Agent (agents.Killed member))) m ≡ put_at (machine_in cluster) member.id.number (kill_machine (machine_in cluster member.id.number)) m
+    → machine_in (cluster_after cluster (kinds.Agent (agents.Killed member))) m
+    ≡ put_at (machine_in cluster) member.id.number (kill_machine (machine_in cluster member.id.number)) m
 killed-machine cluster member small =
     let k : ℕ = member.id.number in
-    let runs : (m : ℕ) → run_in _ m ≡ run_in cluster.facts.processes m = λ m. seen-kept run_now cluster.facts.processes k m _ ended-run in
-    machines-put (machine_in cluster) (machine_in (cluster_after cluster (kinds.Agent (agents.Killed member)))) k (kill_machine (machine_in cluster k))
-    (machine-same _ _ _ _ _ _ _ _ _ _ _ _ refl refl refl refl (ap agent_now (get-here cluster.agents k _) ∙ agent-without cluster.agents k small) (runs k))
-    (λ m other. machine-same _ _ _ _ _ _ _ _ _ _ _ _ refl refl refl refl (ap agent_now (get-elsewhere cluster.agents k m _ other)) (runs m))
+    let runs : (m : ℕ) → run_in _ m ≡ run_in cluster.facts.processes m =
+    λ m. seen-kept run_now cluster.facts.processes k m _ ended-run in
+    machines-put (machine_in cluster) (machine_in (cluster_after cluster (kinds.Agent (agents.Killed member)))) k
+    (kill_machine (machine_in cluster k))
+    (machine-same _ _ _ _ _ _ _ _ _ _ _ _ refl refl refl refl
+    (ap agent_now (get-here cluster.agents k _) ∙ agent-without cluster.agents k small) (runs k))
+    (λ m other. machine-same _ _ _ _ _ _ _ _ _ _ _ _ refl refl refl refl
+    (ap agent_now (get-elsewhere cluster.agents k m _ other)) (runs m))
 
-pub kept-kill : (head : HeadText) (book : List Event) (cluster : Cluster) (member : Member) → member.id.number < member_count head → Bridged head book cluster
+pub kept-kill : (head : HeadText) (book : List Event) (cluster : Cluster) (member : Member)
+    → member.id.number < member_count head → Bridged head book cluster
     → IsKept head book cluster (event_of cluster (kinds.Agent (agents.Killed member)))
 kept-kill head book cluster member small good =
-    local-kept head book cluster (event_of cluster (kinds.Agent (agents.Killed member))) (Kill member.id.number) good tt (tt, tt) (tt, tt)
+    local-kept head book cluster (event_of cluster (kinds.Agent (agents.Killed member)))
+    (Kill member.id.number) good tt (tt, tt) (tt, tt)
     (killed-machine cluster member (subst (λ (n : ℕ). member.id.number < n) (sym good.matched.agents_sized) small))
 
 crashed-dead : (state : State) → live (crashed_state state) ≡ false
@@ -63,23 +76,33 @@ crashed-now None = refl
 crashed-now (Some s) = crashed-dead s.state
 
 crashed-machine : (cluster : Cluster) (server : ServerOf) (m : ℕ)
-    → machine_in (cluster_after cluster (kinds.Server (servers.Crashed server))) m ≡ put_at (machine_in cluster) server.id.number (crash_machine (machine_in cluster server.id.number)) m
+    → machine_in (cluster_after cluster (kinds.Server (servers.Crashed server))) m
+    ≡ put_at (machine_in cluster) server.id.number (crash_machine (machine_in cluster server.id.number)) m
 crashed-machine cluster server =
     let k : ℕ = server.id.number in
-    machines-put (machine_in cluster) (machine_in (cluster_after cluster (kinds.Server (servers.Crashed server)))) k (crash_machine (machine_in cluster k))
-    (machine-same _ _ _ _ _ _ _ _ _ _ _ _ (ap live_now (get-here cluster.facts.servers k _) ∙ crashed-now (slice_get cluster.facts.servers k)) refl refl refl refl refl)
-    (λ m other. machine-same _ _ _ _ _ _ _ _ _ _ _ _ (ap live_now (get-elsewhere cluster.facts.servers k m _ other)) refl refl refl refl refl)
+    machines-put (machine_in cluster) (machine_in (cluster_after cluster (kinds.Server (servers.Crashed server)))) k
+    (crash_machine (machine_in cluster k))
+    (machine-same _ _ _ _ _ _ _ _ _ _ _ _
+    (ap live_now (get-here cluster.facts.servers k _) ∙ crashed-now (slice_get cluster.facts.servers k)) refl
+    refl refl refl refl)
+    (λ m other. machine-same _ _ _ _ _ _ _ _ _ _ _ _
+    (ap live_now (get-elsewhere cluster.facts.servers k m _ other)) refl refl refl refl refl)
 
-pub kept-crash : (head : HeadText) (book : List Event) (cluster : Cluster) (server : ServerOf) → Bridged head book cluster
+pub kept-crash : (head : HeadText) (book : List Event) (cluster : Cluster) (server : ServerOf)
+    → Bridged head book cluster
     → IsKept head book cluster (event_of cluster (kinds.Server (servers.Crashed server)))
 kept-crash head book cluster server good =
-    local-kept head book cluster (event_of cluster (kinds.Server (servers.Crashed server))) (Crash server.id.number) good tt (tt, tt) (tt, tt) (crashed-machine cluster server)
+    local-kept head book cluster (event_of cluster (kinds.Server (servers.Crashed server)))
+    (Crash server.id.number) good tt (tt, tt) (tt, tt) (crashed-machine cluster server)
 
 pub kept-loss : (head : HeadText) (book : List Event) (cluster : Cluster) (number : ℕ) → Bridged head book cluster
     → IsKept head book cluster (event_of cluster (kinds.Message (messages.Lost number)))
 kept-loss head book cluster number good =
     let events : List Event = event_of cluster (kinds.Message (messages.Lost number)) in
-    action-kept head book cluster events (Lose number) good (asides-begin (MayBeginBehind (state_of (declared_of head) (past_of book) (volatile_of cluster)) (Lose number)) [] events (tt, tt)) (λ meets. record {
+    action-kept head book cluster events (Lose number) good
+    (asides-begin (MayBeginBehind (state_of (declared_of head) (past_of book) (volatile_of cluster)) (Lose number)) []
+    events (tt, tt))
+    (λ meets. record {
       lawful = tt;
       shows = tt;
       shown = loss-shown (declared_of head) book (volatile_of cluster) (record { 0 = cluster.facts.clock }) number;

@@ -64,29 +64,37 @@ first-process (suc count) (suc m) small = first-process count m (less-before m c
 
 first-machines : (head : HeadText) → IsSameEverywhere first_past (cluster_of head).facts
 first-machines head = record {
-  deadline = λ m. sym (seen-replicate (let none : Option Ticks = None in none) deadline_now None refl refl (member_count head) m);
+  deadline = λ m.
+      sym (seen-replicate (let none : Option Ticks = None in none) deadline_now None refl refl (member_count head) m);
   hold = λ m. sym (seen-replicate (let none : Option Ticks = None in none) hold_now 0 refl refl (member_count head) m);
   runs = λ m. sym (first-run (member_count head) m);
   writes = λ m. sym (seen-replicate (fresh head.base) writes_now false refl refl (member_count head) m);
 }
 
 -- what is seen of an agent at the beginning
-agent-first : (scope : Name) (options : List MemberOptions) (members : List Member) (found : Option Member) → agent_now (option_map (first_agent scope options members) found) ≡ Some (fresh_agent 1)
+agent-first : (scope : Name) (options : List MemberOptions) (members : List Member) (found : Option Member)
+    → agent_now (option_map (first_agent scope options members) found) ≡ Some (fresh_agent 1)
 agent-first scope options members None = refl
-agent-first scope options members (Some member) = ap Some (fresh-seen (who_of scope options members member) member.id.number 1)
+agent-first scope options members (Some member) =
+    ap Some (fresh-seen (who_of scope options members member) member.id.number 1)
 
-volatile-same : (a b : Bool) (x y : Option Agent) → a ≡ b → x ≡ y → ◌≡◌ {A = VolatileState} (record { live = a; agent = x }) (record { live = b; agent = y })
+volatile-same : (a b : Bool) (x y : Option Agent) → a ≡ b → x ≡ y
+    → ◌≡◌ {A = VolatileState} (record { live = a; agent = x }) (record { live = b; agent = y })
 volatile-same a b x y p q = cc
 
 first-volatile : (head : HeadText) → volatile_of (cluster_of head) ≡ first_volatile_states
 first-volatile head =
     let members : List Member = declared_members head in
-    fun_ext (λ m. volatile-same _ _ _ _ (seen-replicate (fresh head.base) live_now false refl refl (member_count head) m)
-    (ap agent_now (slice_get-map (first_agent head.cluster (options_of head) members) members m) ∙ agent-first head.cluster (options_of head) members (slice_get members m)))
+    fun_ext (λ m.
+    volatile-same _ _ _ _ (seen-replicate (fresh head.base) live_now false refl refl (member_count head) m)
+    (ap agent_now (slice_get-map (first_agent head.cluster (options_of head) members) members m)
+    ∙ agent-first head.cluster (options_of head) members (slice_get members m)))
 
-knows-first : (mode : Bool) (scope : Name) (options : List MemberOptions) (members : List Member) (count m : ℕ) (found : Option Member) (agent : AgentFacts) → slice_get members m ≡ found → m < count
+knows-first : (mode : Bool) (scope : Name) (options : List MemberOptions) (members : List Member)
+    (count m : ℕ) (found : Option Member) (agent : AgentFacts) → slice_get members m ≡ found → m < count
     → ((member : Member) → slice_get members m ≡ Some member → member.id.number ≡ m)
-    → option_map (first_agent scope options members) found ≡ Some (Some agent) → KnowsItself mode m (slice_get (first_processes count) m) agent
+    → option_map (first_agent scope options members) found ≡ Some (Some agent)
+    → KnowsItself mode m (slice_get (first_processes count) m) agent
 knows-first mode scope options members count m None agent is small number there = absurd (none-some (Some agent) there)
 knows-first mode scope options members count m (Some member) agent is small number there =
     let same = some-is _ agent (some-is _ (Some agent) there) in
@@ -101,14 +109,21 @@ knows-first mode scope options members count m (Some member) agent is small numb
       unpaused = ap (λ (a : AgentFacts). is_paused a.knows) (sym same);
     }
 
-first-knows : (head : HeadText) → length (names_of head) ≤ MOST_MEMBERS → KnowThemselves (declared_of head).failsafe (first_processes (member_count head)) (cluster_of head).agents
+first-knows : (head : HeadText) → length (names_of head) ≤ MOST_MEMBERS
+    → KnowThemselves (declared_of head).failsafe (first_processes (member_count head)) (cluster_of head).agents
 first-knows head few m agent is =
     let members : List Member = declared_members head in
-    let there : option_map (first_agent head.cluster (options_of head) members) (slice_get members m) ≡ Some (Some agent) = sym (slice_get-map (first_agent head.cluster (options_of head) members) members m) ∙ is in
-    let sized : length (cluster_of head).agents ≡ member_count head = length-map members (first_agent head.cluster (options_of head) members) ∙ counted head few in
-    knows-first (declared_of head).failsafe head.cluster (options_of head) members (member_count head) m (slice_get members m) agent refl (subst (λ (n : ℕ). m < n) sized (slice_get_within (cluster_of head).agents m (Some agent) is)) (numbered head few m) there
+    let there : option_map (first_agent head.cluster (options_of head) members) (slice_get members m)
+    ≡ Some (Some agent) = sym (slice_get-map (first_agent head.cluster (options_of head) members) members m) ∙ is in
+    let sized : length (cluster_of head).agents ≡ member_count head =
+    length-map members (first_agent head.cluster (options_of head) members) ∙ counted head few in
+    knows-first (declared_of head).failsafe head.cluster (options_of head) members (member_count head) m
+    (slice_get members m) agent refl
+    (subst (λ (n : ℕ). m < n) sized (slice_get_within (cluster_of head).agents m (Some agent) is))
+    (numbered head few m) there
 
-pub bridged-first : (head : HeadText) → length (names_of head) ≤ MOST_MEMBERS → head.config.config.pause ≡ false → Bridged head [] (cluster_of head)
+pub bridged-first : (head : HeadText) → length (names_of head) ≤ MOST_MEMBERS
+    → head.config.config.pause ≡ false → Bridged head [] (cluster_of head)
 bridged-first head few unpaused = record {
   matched = record {
     members = refl;
@@ -119,7 +134,9 @@ bridged-first head few unpaused = record {
       deadlines = length-replicate (member_count head) (let none : Option Ticks = None in none);
       holds = length-replicate (member_count head) (let none : Option Ticks = None in none);
     };
-    agents_sized = length-map (declared_members head) (first_agent head.cluster (options_of head) (declared_members head)) ∙ counted head few;
+    agents_sized =
+        length-map (declared_members head) (first_agent head.cluster (options_of head) (declared_members head))
+        ∙ counted head few;
     store = same-first head.config (names_of head) head.base;
     flight = flight-first head.config (names_of head) head.base;
     machines = first-machines head;
@@ -135,5 +152,6 @@ bridged-first head few unpaused = record {
     agents = first-knows head few;
     waiting = waiting-first head;
   };
-  carried = subst (λ (v : ℕ → VolatileState). IsCarried (state_of (declared_of head) (past_of []) v)) (sym (first-volatile head)) (good-start (declared_of head));
+  carried = subst (λ (v : ℕ → VolatileState). IsCarried (state_of (declared_of head) (past_of []) v))
+      (sym (first-volatile head)) (good-start (declared_of head));
 }

@@ -13,8 +13,10 @@ use Rattle.lease_model.proofs.Tools.{none-some}
 use Rattle.lease_parts.specs.AgentSeen.{agent_seen}
 
 -- of failsafe mode it takes nothing to be on
-pub fresh-keeps : (mode : Bool) (who : Who) (now incarnation : ℕ) → KeepsMode mode (starting_agent who now incarnation).knows
-fresh-keeps mode who now incarnation = record { settings = λ e. absurd (not-so e); confirmed = λ e. absurd (not-so e); races = λ e. absurd (not-so e) }
+pub fresh-keeps : (mode : Bool) (who : Who) (now incarnation : ℕ)
+    → KeepsMode mode (starting_agent who now incarnation).knows
+fresh-keeps mode who now incarnation =
+    record { settings = λ e. absurd (not-so e); confirmed = λ e. absurd (not-so e); races = λ e. absurd (not-so e) }
   where
     not-so : false ≡ true → ⊥
     not-so e = cc
@@ -24,7 +26,9 @@ pub fresh-sees : (mode : Bool) → ForSome {T = SnapshotFacts} None (TellsMode m
 fresh-sees mode snapshot e = absurd (none-some snapshot e)
 
 -- it knows nothing
-pub fresh-seen : (who : Who) (now incarnation : ℕ) → agent_seen (starting_agent who now incarnation) ≡ fresh_agent incarnation
+pub fresh-seen : (who : Who) (now incarnation : ℕ)
+    → agent_seen (starting_agent who now incarnation) ≡ fresh_agent incarnation
 fresh-seen who now incarnation =
-    let none : ◌≡◌ {A = ℕ → Bool} (λ p. bit_at 0 p == 1) (λ p. false) = fun_ext (λ p. ap (λ b. b == 1) (bit_at-zero p)) in
+    let none : ◌≡◌ {A = ℕ → Bool} (λ p. bit_at 0 p == 1) (λ p. false) =
+    fun_ext (λ p. ap (λ b. b == 1) (bit_at-zero p)) in
     ap (λ (known : ℕ → Bool). let agent : Agent = record (fresh_agent incarnation) { known = known } in agent) none

@@ -17,14 +17,17 @@ hands-off-back [] rest is = is
 hands-off-back (event ∷ book) rest is = hands-off-back book rest is.1
 
 -- events of which the first breaks a premise
-pub kept-breach : (head : HeadText) (book : List Event) (cluster : Cluster) (event : Event) (events : List Event) → (IsHandsOffKind event.kind → ⊥) → Bridged head book cluster
+pub kept-breach : (head : HeadText) (book : List Event) (cluster : Cluster) (event : Event) (events : List Event)
+    → (IsHandsOffKind event.kind → ⊥) → Bridged head book cluster
     → IsKept head book cluster (event ∷ events)
 kept-breach head book cluster event events breach good = record {
   inside = sole;
   behind = λ meets. absurd (breach (hands-off-back book (event ∷ events) meets.hands_off.events).0);
 }
   where
-    sole : (front rest : List Event) → front ++ rest ≡ event ∷ events → MeetsPremises head (book ++ front) → HasOneWriter (book ++ front)
+    sole : (front rest : List Event) → front ++ rest ≡ event ∷ events → MeetsPremises head (book ++ front)
+        → HasOneWriter (book ++ front)
     sole [] rest e meets = one-front-of (declared_of head) book (volatile_of cluster) Note [] good.carried tt
     sole (x ∷ front) rest e meets =
-        absurd (breach (subst (λ (z : Event). IsHandsOffKind z.kind) (head-is x event (front ++ rest) events e) (hands-off-back book (x ∷ front) meets.hands_off.events).0))
+        absurd (breach (subst (λ (z : Event). IsHandsOffKind z.kind) (head-is x event (front ++ rest) events e)
+        (hands-off-back book (x ∷ front) meets.hands_off.events).0))

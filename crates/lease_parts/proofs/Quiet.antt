@@ -43,18 +43,23 @@ live-at : (known : List ServerFacts) (m : ℕ) → live_in known m ≡ said (sli
 live-at known m = live-said (slice_get known m) ∙ ap said (sym (slice_get-map (λ s. live s.state) known m))
 
 -- who is live stays so where all states do
-pub live-kept : (before known : List ServerFacts) (m : ℕ) → map (λ s. live s.state) known ≡ map (λ s. live s.state) before → live_in known m ≡ live_in before m
+pub live-kept : (before known : List ServerFacts) (m : ℕ)
+    → map (λ s. live s.state) known ≡ map (λ s. live s.state) before → live_in known m ≡ live_in before m
 live-kept before known m same = live-at known m ∙ ap (λ xs. said (slice_get xs m)) same ∙ sym (live-at before m)
 
-live-mapped : (change : ServerFacts → ServerFacts) → ((s : ServerFacts) → live (change s).state ≡ live s.state) → (found : Option ServerFacts) → live_now (option_map change found) ≡ live_now found
+live-mapped : (change : ServerFacts → ServerFacts) → ((s : ServerFacts) → live (change s).state ≡ live s.state)
+    → (found : Option ServerFacts) → live_now (option_map change found) ≡ live_now found
 live-mapped change same None = refl
 live-mapped change same (Some s) = same s
 
 -- and where the one that changes does
-pub live-one : (known : List ServerFacts) (k m : ℕ) (change : ServerFacts → ServerFacts) → ((s : ServerFacts) → live (change s).state ≡ live s.state) → live_in (with_changed known k change) m ≡ live_in known m
+pub live-one : (known : List ServerFacts) (k m : ℕ) (change : ServerFacts → ServerFacts)
+    → ((s : ServerFacts) → live (change s).state ≡ live s.state)
+    → live_in (with_changed known k change) m ≡ live_in known m
 live-one known k m change same = seen-kept live_now known k m change (live-mapped change same)
 
-quiet-server : (now : ℕ) (known : List ServerFacts) (happening : ServerEvent) (m : ℕ) → IsQuiet (kinds.Server happening) → live_in (servers_by now known happening) m ≡ live_in known m
+quiet-server : (now : ℕ) (known : List ServerFacts) (happening : ServerEvent) (m : ℕ)
+    → IsQuiet (kinds.Server happening) → live_in (servers_by now known happening) m ≡ live_in known m
 quiet-server now known (servers.Follows server upstream) m is = live-one known server.id.number m _ (λ s. refl)
 quiet-server now known (servers.Diverged server upstream at) m is = live-one known server.id.number m _ (λ s. refl)
 quiet-server now known (servers.Slowed server stop start) m is = live-one known server.id.number m _ (λ s. refl)
@@ -62,15 +67,25 @@ quiet-server now known (servers.Frozen server) m is = refl
 quiet-server now known (servers.Thawed server) m is = refl
 quiet-server now known _ m is = absurd is
 
-pub quiet-machine : (cluster : Cluster) (kind : EventKind) → IsQuiet kind → (m : ℕ) → machine_in (cluster_after cluster kind) m ≡ machine_in cluster m
+pub quiet-machine : (cluster : Cluster) (kind : EventKind) → IsQuiet kind → (m : ℕ)
+    → machine_in (cluster_after cluster kind) m ≡ machine_in cluster m
 quiet-machine cluster (kinds.Store happening) is m = refl
-quiet-machine cluster (kinds.Server happening) is m = machine-same _ _ _ _ _ _ _ _ _ _ _ _ (quiet-server cluster.facts.clock cluster.facts.servers happening m is) refl refl refl refl refl
+quiet-machine cluster (kinds.Server happening) is m = machine-same _ _ _ _ _ _ _ _ _ _ _ _
+    (quiet-server cluster.facts.clock cluster.facts.servers happening m is) refl refl refl refl refl
 quiet-machine cluster (kinds.Log happening) is m =
-    machine-same _ _ _ _ _ _ _ _ _ _ _ _ (live-kept cluster.facts.servers _ m (logged-kept (λ s. live s.state) (λ s t live writes required confirmed. live) cluster.facts.servers happening)) refl refl refl refl refl
+    machine-same _ _ _ _ _ _ _ _ _ _ _ _
+    (live-kept cluster.facts.servers _ m
+    (logged-kept (λ s. live s.state) (λ s t live writes required confirmed. live) cluster.facts.servers happening))
+    refl refl refl refl refl
 quiet-machine cluster (kinds.Replication happening) is m =
-    machine-same _ _ _ _ _ _ _ _ _ _ _ _ (live-kept cluster.facts.servers _ m (replicated-kept (λ s. live s.state) (λ s t state log. ap live state) cluster.facts.servers happening)) refl refl refl refl refl
-quiet-machine cluster (kinds.Agent (agents.Suspended agent)) is m = machine-same _ _ _ _ _ _ _ _ _ _ _ _ refl refl refl refl refl (seen-kept run_now cluster.facts.processes agent.id.number m _ (suspended-run true))
-quiet-machine cluster (kinds.Agent (agents.Resumed agent)) is m = machine-same _ _ _ _ _ _ _ _ _ _ _ _ refl refl refl refl refl (seen-kept run_now cluster.facts.processes agent.id.number m _ (suspended-run false))
+    machine-same _ _ _ _ _ _ _ _ _ _ _ _
+    (live-kept cluster.facts.servers _ m
+    (replicated-kept (λ s. live s.state) (λ s t state log. ap live state) cluster.facts.servers happening))
+    refl refl refl refl refl
+quiet-machine cluster (kinds.Agent (agents.Suspended agent)) is m = machine-same _ _ _ _ _ _ _ _ _ _ _ _ refl
+    refl refl refl refl (seen-kept run_now cluster.facts.processes agent.id.number m _ (suspended-run true))
+quiet-machine cluster (kinds.Agent (agents.Resumed agent)) is m = machine-same _ _ _ _ _ _ _ _ _ _ _ _ refl
+    refl refl refl refl (seen-kept run_now cluster.facts.processes agent.id.number m _ (suspended-run false))
 quiet-machine cluster (kinds.Agent (agents.Passed agent)) is m = refl
 quiet-machine cluster (kinds.Link happening) is m = refl
 quiet-machine cluster (kinds.Note note) is m = refl
@@ -103,12 +118,17 @@ quiet-local (kinds.Watchdog happening) is = absurd is
 quiet-local _ is = tt
 
 -- one such event, as it happens
-pub kept-quiet : (head : HeadText) (book : List Event) (cluster : Cluster) (kind : EventKind) → IsQuiet kind → Bridged head book cluster → IsKept head book cluster (event_of cluster kind)
+pub kept-quiet : (head : HeadText) (book : List Event) (cluster : Cluster) (kind : EventKind) → IsQuiet kind
+    → Bridged head book cluster → IsKept head book cluster (event_of cluster kind)
 kept-quiet head book cluster kind is good =
-    local-kept head book cluster (event_of cluster kind) Note good tt (quiet-aside kind is, tt) (quiet-local kind is, tt) (quiet-machine cluster kind is)
+    local-kept head book cluster (event_of cluster kind) Note good tt (quiet-aside kind is, tt)
+    (quiet-local kind is, tt) (quiet-machine cluster kind is)
 
 -- such events, one after another
-pub kept-quietly : (head : HeadText) (kinds : List EventKind) → AllKinds IsQuiet kinds → (book : List Event) (cluster : Cluster) → Bridged head book cluster → IsKept head book cluster (events_of cluster kinds)
+pub kept-quietly : (head : HeadText) (kinds : List EventKind) → AllKinds IsQuiet kinds → (book : List Event)
+    (cluster : Cluster) → Bridged head book cluster → IsKept head book cluster (events_of cluster kinds)
 kept-quietly head [] all book cluster good = kept-none head book cluster good
 kept-quietly head (kind ∷ more) all book cluster good =
-    kept-then head book cluster (event_of cluster kind) (events_of (cluster_after cluster kind) more) (kept-quiet head book cluster kind all.0 good) (λ later. kept-quietly head more all.1 (book ++ event_of cluster kind) (cluster_after cluster kind) later)
+    kept-then head book cluster (event_of cluster kind) (events_of (cluster_after cluster kind) more)
+    (kept-quiet head book cluster kind all.0 good)
+    (λ later. kept-quietly head more all.1 (book ++ event_of cluster kind) (cluster_after cluster kind) later)

@@ -8,8 +8,8 @@ use Rattle.event_book.specs.declared.event.ServerEvent.TheVariants as servers
 use Rattle.event_book.specs.declared.event.StoreEvent.TheVariants as stores
 use Rattle.event_book.specs.declared.event.WatchdogEvent.TheVariants as watchdogs
 
--- an event beside the inputs and the starts of agents and the decisions of the key store, and no operator's promotion. Who begins in it
--- meets a premise
+-- an event beside the inputs and the starts of agents and the decisions of the
+-- key store, and no operator's promotion. Who begins in it meets a premise
 abbrev pub IsAsideIn : (ℕ → Type 0) → EventKind → Type 0
 IsAsideIn May (kinds.Message (messages.Sent number message)) = ⊥
 IsAsideIn May (kinds.Message (messages.Delivered number)) = ⊥

@@ -28,8 +28,8 @@ use Rattle.lease_parts.specs.Waiting.{AgentsAreSound, AreBetweenMembers}
 abbrev pub SeesMode : Bool → Knowledge → Type 0
 SeesMode mode knows = ForSome knows.seen (TellsMode mode)
 
--- the agent of the member of this number knows that number, and the run of its process, which runs; and it read of failsafe mode as it is declared, and of
--- no pause
+-- the agent of the member of this number knows that number, and the run of its
+-- process, which runs; and it read of failsafe mode as it is declared, and of no pause
 pub record KnowsItself (mode : Bool) (m : ℕ) (process : Option AgentProcess) (agent : AgentFacts) : Type 0 where
   pub found : AgentProcess
   pub is : process ≡ Some found
@@ -42,9 +42,11 @@ pub record KnowsItself (mode : Bool) (m : ℕ) (process : Option AgentProcess) (
 
 -- each agent that is there does
 abbrev pub KnowThemselves : Bool → List AgentProcess → List (Option AgentFacts) → Type 0
-KnowThemselves mode processes agents = (m : ℕ) (agent : AgentFacts) → slice_get agents m ≡ Some (Some agent) → KnowsItself mode m (slice_get processes m) agent
+KnowThemselves mode processes agents = (m : ℕ) (agent : AgentFacts) → slice_get agents m ≡ Some (Some agent)
+    → KnowsItself mode m (slice_get processes m) agent
 
--- the past of a book has whose deadline acknowledgements set last as the cluster has it. Failsafe mode is as it is declared in each configuration, and nobody
+-- the past of a book has whose deadline acknowledgements set last as the cluster
+-- has it. Failsafe mode is as it is declared in each configuration, and nobody
 -- asks to change it. Members stand at their numbers, and messages go between them
 pub record FitsFailsafe (mode : Bool) (count : ℕ) (past : Past) (cluster : Cluster) : Type 0 where
   pub sized : length cluster.failsafe_deadlines ≡ count

@@ -18,7 +18,8 @@ works_said (Some member) = is_armable member.options.watchdog member.options.dev
 
 -- what a head declares for the law: the margins of its members, and whether failsafe mode is on
 abbrev pub declared_of : HeadText → Declared
-declared_of head = record { margin = λ m. margin_said (slice_get head.members m); failsafe = head.config.config.failsafe_mode }
+declared_of head =
+    record { margin = λ m. margin_said (slice_get head.members m); failsafe = head.config.config.failsafe_mode }
 
 -- whose watchdog is on and works
 abbrev pub works_of : HeadText → ℕ → Bool

@@ -36,8 +36,10 @@ abbrev pub Keeps : HeadText → (Cluster → List Event) → Type 0
 Keeps head part = UpholdsAlways (one_writer head) part
 
 -- these events are this action: it is lawful, they tell it, and cluster and book fit behind them
-pub record TellsAction (head : HeadText) (book : List Event) (cluster : Cluster) (events : List Event) (action : Action) : Type 0 where
+pub record TellsAction (head : HeadText) (book : List Event) (cluster : Cluster) (events : List Event)
+    (action : Action) : Type 0 where
   pub lawful : IsLawfulAction (state_of (declared_of head) (past_of book) (volatile_of cluster)) action
   pub shows : ShowsIt (state_of (declared_of head) (past_of book) (volatile_of cluster)) action events
-  pub shown : IsShown (declared_of head) book (volatile_of cluster) (record { action = action; events = events; volatile_states = volatile_of (cluster_over cluster events) })
+  pub shown : IsShown (declared_of head) book (volatile_of cluster)
+      (record { action = action; events = events; volatile_states = volatile_of (cluster_over cluster events) })
   pub matched : IsMatched head (past_of (book ++ events)) (cluster_over cluster events)

@@ -49,7 +49,8 @@ run_now (Some process) = process.incarnation
 abbrev pub run_in : List AgentProcess → ℕ → ℕ
 run_in processes m = run_now (slice_get processes m)
 
--- a book's past has of each machine what the book leaves; which servers accept writes by the book is as their states say
+-- a book's past has of each machine what the book leaves; which
+-- servers accept writes by the book is as their states say
 pub record IsSameEverywhere (past : Past) (facts : Facts) : Type 0 where
   pub deadline : (m : ℕ) → past.deadline m ≡ deadline_in facts.deadlines m
   pub hold : (m : ℕ) → past.hold m ≡ hold_in facts.holds m
@@ -63,11 +64,13 @@ pub record IsSized (count : ℕ) (facts : Facts) : Type 0 where
   pub deadlines : length facts.deadlines ≡ count
   pub holds : length facts.holds ≡ count
 
--- whose watchdog this event feeds, who takes a hold, whose server begins and whose agent starts is one of so many members
+-- whose watchdog this event feeds, who takes a hold, whose server
+-- begins and whose agent starts is one of so many members
 abbrev pub IsWithinMembers : ℕ → EventKind → Type 0
 IsWithinMembers count (kinds.Watchdog (watchdogs.Armed member until answer)) = member.id.number < count
 IsWithinMembers count (kinds.Watchdog (watchdogs.Fed member until basis)) = member.id.number < count
-IsWithinMembers count (kinds.Watchdog (watchdogs.HoldTaken member until from incarnation sequence)) = member.id.number < count
+IsWithinMembers count (kinds.Watchdog (watchdogs.HoldTaken member until from incarnation sequence)) =
+    member.id.number < count
 IsWithinMembers count (kinds.Server (servers.Began server timeline)) = server.id.number < count
 IsWithinMembers count (kinds.Agent (agents.Started agent incarnation)) = agent.id.number < count
 IsWithinMembers count _ = Unit {0}

@@ -15,7 +15,8 @@ agent_now (Some agent) = option_map agent_seen agent
 
 -- what no event says of a member, by a cluster: whether its server is live, and its agent
 abbrev pub volatile_of : Cluster → ℕ → VolatileState
-volatile_of cluster m = record { live = live_in cluster.facts.servers m; agent = agent_now (slice_get cluster.agents m) }
+volatile_of cluster m =
+    record { live = live_in cluster.facts.servers m; agent = agent_now (slice_get cluster.agents m) }
 
 -- the machine of a member, by a cluster
 abbrev pub machine_in : Cluster → ℕ → Machine

@@ -23,12 +23,15 @@ use Rattle.agent_roles.specs.Asks.{IsQuestion}
 use Rattle.lease_book.specs.Waiting.{IsLastAsked, IsLastRun}
 use Rattle.lease_parts.specs.Machines.{run_in}
 
--- a question of this member that has the run and the number of what is waited for was asked when that was, for a lease of its span
+-- a question of this member that has the run and the number of what is
+-- waited for was asked when that was, for a lease of its span
 abbrev pub IsAskedAs : (ℕ → Option Question) → ℕ → ℕ → PendingQuestion → Type 0
-IsAskedAs asked m incarnation waited = (i : ℕ) (question : Question) → asked i ≡ Some question → question.member ≡ m → question.incarnation ≡ incarnation → question.sequence ≡ waited.sequence
+IsAskedAs asked m incarnation waited = (i : ℕ) (question : Question) → asked i ≡ Some question
+    → question.member ≡ m → question.incarnation ≡ incarnation → question.sequence ≡ waited.sequence
     → (question.sent ≡ waited.sent.0) × (lease_span question.query ≡ waited.ttl.0)
 
--- what an agent of this member waits for: the span is that of a lease, its number is counted, and so it was asked if it asks for a lease
+-- what an agent of this member waits for: the span is that of a lease,
+-- its number is counted, and so it was asked if it asks for a lease
 pub record IsAwaited (asked : ℕ → Option Question) (m incarnation last : ℕ) (waited : PendingQuestion) : Type 0 where
   pub span : IsLeaseSpan waited.ttl.0
   pub counted : waited.sequence ≤ last
@@ -42,7 +45,8 @@ pub record IsAgentSound (asked : ℕ → Option Question) (m : ℕ) (agent : Age
 
 -- each agent that is there is such
 abbrev pub AreAgentsSound : (ℕ → Option Question) → List (Option AgentFacts) → Type 0
-AreAgentsSound asked agents = (m : ℕ) (agent : AgentFacts) → slice_get agents m ≡ Some (Some agent) → IsAgentSound asked m agent
+AreAgentsSound asked agents =
+    (m : ℕ) (agent : AgentFacts) → slice_get agents m ≡ Some (Some agent) → IsAgentSound asked m agent
 
 -- an answer of the key store
 abbrev pub IsAnswer : Body → Type 0
@@ -59,7 +63,8 @@ IsPeerBody (bodies.FailsafeRequest ttl) = Unit {0}
 IsPeerBody (bodies.FailsafeAnswer accepted) = Unit {0}
 IsPeerBody _ = ⊥
 
--- a message is a question of a member to the key store, an answer of the key store to a member, or goes from one member to another
+-- a message is a question of a member to the key store, an answer of
+-- the key store to a member, or goes from one member to another
 abbrev pub IsAddressed : LinkEnd → LinkEnd → Body → Type 0
 IsAddressed (ends.Member by) ends.Store body = IsQuestion body
 IsAddressed ends.Store (ends.Member member) body = IsAnswer body
@@ -73,10 +78,11 @@ IsKnownEnd members (ends.Member member) = slice_get members member.id.number ≡
 
 -- each message in flight goes between such ends
 abbrev pub AreBetweenMembers : List Member → Flight → Type 0
-AreBetweenMembers members flight = (i : ℕ) (carried : InFlightFacts) → in_flight flight i ≡ Some carried → IsKnownEnd members carried.message.from × IsKnownEnd members carried.message.to
+AreBetweenMembers members flight = (i : ℕ) (carried : InFlightFacts) → in_flight flight i ≡ Some carried
+    → IsKnownEnd members carried.message.from × IsKnownEnd members carried.message.to
 
--- what holds of each message in flight: it is one of these, a question has a number that counts from 1, and the leader key of its snapshot
--- has an expiry
+-- what holds of each message in flight: it is one of these, a question has a
+-- number that counts from 1, and the leader key of its snapshot has an expiry
 pub record IsCarriedWell (carried : InFlightFacts) : Type 0 where
   pub addressed : IsAddressed carried.message.from carried.message.to carried.message.body
   pub numbered : is_answer carried.message.body ≡ false → 0 < carried.message.sequence

@@ -1,5 +1,5 @@
--- A failsafe request is in flight to each member once at most, and each member holds for it once at most: so those whose acknowledgements an agent waits for
--- took their holds when it has noted.
+-- A failsafe request is in flight to each member once at most, and each member holds for it once
+-- at most: so those whose acknowledgements an agent waits for took their holds when it has noted.
 use Rattle.std.proofs.Common.{◌≡◌, ◌≢◌, ◌⊎◌, ◌+◌, ◌==◌, ◌≤◌, ◌<◌, ℕ, zero, suc, nat_lt, Bool, true, false, cond, List, [], ◌∷◌, Option, Some, None, slice_get, option_map, refl, sym, subst, ap, ◌∙◌, arith, inl, inr}
 use Rattle.std.proofs.lemmas.Bool.{cases_eq}
 use Rattle.std.proofs.lemmas.Bool.Decides.{nat_tests}
@@ -52,11 +52,13 @@ pub record Request : Type 0 where
 
 -- a hold that was taken for it
 abbrev pub taking : Request → ℕ → Taking
-taking r moment = record { by = r.by; from = r.from; incarnation = r.incarnation; sequence = r.sequence; moment = moment }
+taking r moment =
+    record { by = r.by; from = r.from; incarnation = r.incarnation; sequence = r.sequence; moment = moment }
 
 -- the failsafe request that a message is, if it is one
 abbrev pub request_in : Member → Member → ℕ → ℕ → Body → Option Request
-request_in from to incarnation sequence (bodies.FailsafeRequest ttl) = Some (record { by = to.id.number; from = from.id.number; incarnation = incarnation; sequence = sequence })
+request_in from to incarnation sequence (bodies.FailsafeRequest ttl) =
+    Some (record { by = to.id.number; from = from.id.number; incarnation = incarnation; sequence = sequence })
 request_in from to incarnation sequence _ = None
 
 abbrev pub request_by : LinkEnd → LinkEnd → ℕ → ℕ → Body → Option Request
@@ -69,7 +71,8 @@ request_of message = request_by message.from message.to message.incarnation mess
 
 -- the failsafe request that a message acknowledges, if it does
 abbrev pub yes_in : Member → Member → ℕ → ℕ → Body → Option Request
-yes_in from to incarnation sequence (bodies.FailsafeAnswer true) = Some (record { by = from.id.number; from = to.id.number; incarnation = incarnation; sequence = sequence })
+yes_in from to incarnation sequence (bodies.FailsafeAnswer true) =
+    Some (record { by = from.id.number; from = to.id.number; incarnation = incarnation; sequence = sequence })
 yes_in from to incarnation sequence _ = None
 
 abbrev pub yes_by : LinkEnd → LinkEnd → ℕ → ℕ → Body → Option Request
@@ -84,36 +87,52 @@ yes_of message = yes_by message.from message.to message.incarnation message.sequ
 pub record IsGiven (runs : ℕ → ℕ) (known : List (Option AgentFacts)) (r : Request) : Type 0 where
   pub counted : 0 < r.sequence
   pub run : r.incarnation ≤ runs r.from
-  pub given : (agent : AgentFacts) → slice_get known r.from ≡ Some (Some agent) → r.incarnation ≡ agent.knows.incarnation → r.sequence ≤ agent.knows.sequence
+  pub given : (agent : AgentFacts) → slice_get known r.from ≡ Some (Some agent)
+      → r.incarnation ≡ agent.knows.incarnation → r.sequence ≤ agent.knows.sequence
 
--- requests are in flight once at most, and held for once at most; and whoever acknowledges holds from the moment of its word on
-pub record AskOnce (taken : List Taking) (runs : ℕ → ℕ) (flight : Flight) (known : List (Option AgentFacts)) : Type 0 where
-  pub once : (i j : ℕ) (c d : InFlightFacts) (r : Request) → in_flight flight i ≡ Some c → in_flight flight j ≡ Some d → request_of c.message ≡ Some r → request_of d.message ≡ Some r → i ≡ j
-  pub fresh : (i : ℕ) (c : InFlightFacts) (r : Request) (moment : ℕ) → in_flight flight i ≡ Some c → request_of c.message ≡ Some r → IsTaken taken (taking r moment) → ⊥
+-- requests are in flight once at most, and held for once at most; and
+-- whoever acknowledges holds from the moment of its word on
+pub record AskOnce (taken : List Taking) (runs : ℕ → ℕ) (flight : Flight) (known : List (Option AgentFacts)) : Type
+    0 where
+  pub once : (i j : ℕ) (c d : InFlightFacts) (r : Request) → in_flight flight i ≡ Some c
+      → in_flight flight j ≡ Some d → request_of c.message ≡ Some r → request_of d.message ≡ Some r → i ≡ j
+  pub fresh : (i : ℕ) (c : InFlightFacts) (r : Request) (moment : ℕ) → in_flight flight i ≡ Some c
+      → request_of c.message ≡ Some r → IsTaken taken (taking r moment) → ⊥
   pub unique : (r : Request) (a b : ℕ) → IsTaken taken (taking r a) → IsTaken taken (taking r b) → a ≡ b
-  pub yes : (i : ℕ) (c : InFlightFacts) (r : Request) → in_flight flight i ≡ Some c → yes_of c.message ≡ Some r → IsTaken taken (taking r c.sent.0)
-  pub asked : (i : ℕ) (c : InFlightFacts) (r : Request) → in_flight flight i ≡ Some c → request_of c.message ≡ Some r → IsGiven runs known r
+  pub yes : (i : ℕ) (c : InFlightFacts) (r : Request) → in_flight flight i ≡ Some c
+      → yes_of c.message ≡ Some r → IsTaken taken (taking r c.sent.0)
+  pub asked : (i : ℕ) (c : InFlightFacts) (r : Request) → in_flight flight i ≡ Some c
+      → request_of c.message ≡ Some r → IsGiven runs known r
   pub held : (r : Request) (moment : ℕ) → IsTaken taken (taking r moment) → IsGiven runs known r
 
--- those who acknowledged a request of this member hold for it, the earliest of them from the moment on that is noted; and some were asked
+-- those who acknowledged a request of this member hold for it, the
+-- earliest of them from the moment on that is noted; and some were asked
 pub record IsCounted (taken : List Taking) (m run sequence : ℕ) (ask : Ask) : Type 0 where
   pub some : ask.members.bits == 0 ≡ false
   pub none : ask.earliest ≡ None → ask.acknowledged.bits ≡ 0
-  pub each : (p : ℕ) (e : Ticks) → ask.earliest ≡ Some e → has ask.acknowledged p ≡ true → (t : ℕ) × (IsTaken taken (record { by = p; from = m; incarnation = run; sequence = sequence; moment = t }) × (e.0 ≤ t))
-  pub one : (e : Ticks) → ask.earliest ≡ Some e → (p : ℕ) × ((has ask.members p ≡ true) × IsTaken taken (record { by = p; from = m; incarnation = run; sequence = sequence; moment = e.0 }))
+  pub each : (p : ℕ) (e : Ticks) → ask.earliest ≡ Some e → has ask.acknowledged p ≡ true
+      → (t : ℕ)
+      × (IsTaken taken (record { by = p; from = m; incarnation = run; sequence = sequence; moment = t }) × (e.0 ≤ t))
+  pub one : (e : Ticks) → ask.earliest ≡ Some e
+      → (p : ℕ)
+      × ((has ask.members p ≡ true) ×
+      IsTaken taken (record { by = p; from = m; incarnation = run; sequence = sequence; moment = e.0 }))
 
 -- an agent of this member knows its incarnation, and who acknowledged what it waits for
 pub record KnowsAsked (taken : List Taking) (m run : ℕ) (agent : AgentFacts) : Type 0 where
   pub run_is : agent.knows.incarnation ≡ run
   pub ends : EndsAlone agent.role agent.knows.waited
   pub counted : HasCounted agent.knows
-  pub stays : (waited : PendingQuestion) → agent.knows.waited ≡ Some waited → is_staying waited.question ≡ true → IsCounted taken m run waited.sequence agent.knows.failsafe
+  pub stays : (waited : PendingQuestion) → agent.knows.waited ≡ Some waited
+      → is_staying waited.question ≡ true → IsCounted taken m run waited.sequence agent.knows.failsafe
 
 abbrev pub KnowAsked : List Taking → (ℕ → ℕ) → List (Option AgentFacts) → Type 0
-KnowAsked taken runs known = (m : ℕ) (agent : AgentFacts) → slice_get known m ≡ Some (Some agent) → KnowsAsked taken m (runs m) agent
+KnowAsked taken runs known =
+    (m : ℕ) (agent : AgentFacts) → slice_get known m ≡ Some (Some agent) → KnowsAsked taken m (runs m) agent
 
 abbrev pub RunsAre : (ℕ → ℕ) → List AgentProcess → Type 0
-RunsAre runs processes = (m : ℕ) (process : AgentProcess) → slice_get processes m ≡ Some process → process.incarnation ≡ runs m
+RunsAre runs processes =
+    (m : ℕ) (process : AgentProcess) → slice_get processes m ≡ Some process → process.incarnation ≡ runs m
 
 -- so it is behind a book
 pub record AsksOnce (moments : Moments) (cluster : Cluster) : Type 0 where
@@ -129,8 +148,11 @@ IsOther message = (request_of message ≡ None) × (yes_of message ≡ None)
 no-request : {A : Type 0} (o : Option A) (x : A) → o ≡ None → o ≡ Some x → ⊥
 no-request o x none some = none-some x (sym none ∙ some)
 
-given-sub : (runs : ℕ → ℕ) (known later : List (Option AgentFacts)) (r : Request) → ((m : ℕ) (agent : AgentFacts) → slice_get later m ≡ Some (Some agent) → slice_get known m ≡ Some (Some agent)) → IsGiven runs known r → IsGiven runs later r
-given-sub runs known later r sub old = record { counted = old.counted; run = old.run; given = λ agent is same. old.given agent (sub r.from agent is) same }
+given-sub : (runs : ℕ → ℕ) (known later : List (Option AgentFacts)) (r : Request)
+    → ((m : ℕ) (agent : AgentFacts) → slice_get later m ≡ Some (Some agent) → slice_get known m ≡ Some (Some agent))
+    → IsGiven runs known r → IsGiven runs later r
+given-sub runs known later r sub old =
+    record { counted = old.counted; run = old.run; given = λ agent is same. old.given agent (sub r.from agent is) same }
 
 pub once-sub : (taken : List Taking) (runs : ℕ → ℕ) (flight then : Flight) (known later : List (Option AgentFacts))
     → ((i : ℕ) (c : InFlightFacts) → in_flight then i ≡ Some c → (in_flight flight i ≡ Some c) ⊎ IsOther c.message)
@@ -138,13 +160,25 @@ pub once-sub : (taken : List Taking) (runs : ℕ → ℕ) (flight then : Flight)
     → AskOnce taken runs flight known → AskOnce taken runs then later
 once-sub taken runs flight then known later messages sub old = record {
   once = λ i j c d r is at rc rd. elim (messages i c is) [
-    | inl was ↦ elim (messages j d at) [ inl also ↦ old.once i j c d r was also rc rd | inr other ↦ absurd (no-request (request_of d.message) r other.0 rd) ]
+    | inl was ↦ elim (messages j d at) [
+      | inl also ↦ old.once i j c d r was also rc rd
+      | inr other ↦ absurd (no-request (request_of d.message) r other.0 rd)
+    ]
     | inr other ↦ absurd (no-request (request_of c.message) r other.0 rc)
   ];
-  fresh = λ i c r moment is rc taken_is. elim (messages i c is) [ inl was ↦ old.fresh i c r moment was rc taken_is | inr other ↦ absurd (no-request (request_of c.message) r other.0 rc) ];
+  fresh = λ i c r moment is rc taken_is. elim (messages i c is) [
+    | inl was ↦ old.fresh i c r moment was rc taken_is
+    | inr other ↦ absurd (no-request (request_of c.message) r other.0 rc)
+  ];
   unique = old.unique;
-  yes = λ i c r is yc. elim (messages i c is) [ inl was ↦ old.yes i c r was yc | inr other ↦ absurd (no-request (yes_of c.message) r other.1 yc) ];
-  asked = λ i c r is rc. elim (messages i c is) [ inl was ↦ given-sub runs known later r sub (old.asked i c r was rc) | inr other ↦ absurd (no-request (request_of c.message) r other.0 rc) ];
+  yes = λ i c r is yc. elim (messages i c is) [
+    | inl was ↦ old.yes i c r was yc
+    | inr other ↦ absurd (no-request (yes_of c.message) r other.1 yc)
+  ];
+  asked = λ i c r is rc. elim (messages i c is) [
+    | inl was ↦ given-sub runs known later r sub (old.asked i c r was rc)
+    | inr other ↦ absurd (no-request (request_of c.message) r other.0 rc)
+  ];
   held = λ r moment is. given-sub runs known later r sub (old.held r moment is);
 }
 
@@ -159,74 +193,114 @@ IsNeutral (kinds.Agent (agents.Started by incarnation)) = ⊥
 IsNeutral _ = Unit {0}
 
 -- a message that is sent is in flight behind those that were
-pub sent-then : (flight : Flight) (number : ℕ) (one : InFlightFacts) (i : ℕ) (c : InFlightFacts) → put_at (in_flight flight) number (Some one) i ≡ Some c → ((i ≢ number) × (in_flight flight i ≡ Some c)) ⊎ ((i ≡ number) × (one ≡ c))
+pub sent-then : (flight : Flight) (number : ℕ) (one : InFlightFacts) (i : ℕ) (c : InFlightFacts)
+    → put_at (in_flight flight) number (Some one) i ≡ Some c
+    → ((i ≢ number) × (in_flight flight i ≡ Some c)) ⊎ ((i ≡ number) × (one ≡ c))
 sent-then flight number one i c is = elim (cases_eq i number) [
-  | inl here ↦ inr (here, some-is one c (sym (put-here (in_flight flight) number (Some one)) ∙ ap (put_at (in_flight flight) number (Some one)) (sym here) ∙ is))
+  | inl here ↦ inr (
+    here,
+    some-is one c
+        (sym (put-here (in_flight flight) number (Some one))
+        ∙ ap (put_at (in_flight flight) number (Some one)) (sym here) ∙ is),
+  )
   | inr other ↦ inl (other, sym (put-there (in_flight flight) number (Some one) i other) ∙ is)
 ]
 
-other-sent : (flight : Flight) (number : ℕ) (one : InFlightFacts) → IsOther one.message → (i : ℕ) (c : InFlightFacts) → put_at (in_flight flight) number (Some one) i ≡ Some c → (in_flight flight i ≡ Some c) ⊎ IsOther c.message
-other-sent flight number one other i c is = elim (sent-then flight number one i c is) [ inl was ↦ inl was.1 | inr here ↦ inr (subst (λ (x : InFlightFacts). IsOther x.message) here.1 other) ]
+other-sent : (flight : Flight) (number : ℕ) (one : InFlightFacts) → IsOther one.message → (i : ℕ) (c : InFlightFacts)
+    → put_at (in_flight flight) number (Some one) i ≡ Some c → (in_flight flight i ≡ Some c) ⊎ IsOther c.message
+other-sent flight number one other i c is = elim (sent-then flight number one i c is) [
+  | inl was ↦ inl was.1
+  | inr here ↦ inr (subst (λ (x : InFlightFacts). IsOther x.message) here.1 other)
+]
 
-pub gone-sub : (flight : Flight) (number : ℕ) → Rises 0 flight → (i : ℕ) (c : InFlightFacts) → put_at (in_flight flight) number None i ≡ Some c → in_flight flight i ≡ Some c
+pub gone-sub : (flight : Flight) (number : ℕ) → Rises 0 flight → (i : ℕ) (c : InFlightFacts)
+    → put_at (in_flight flight) number None i ≡ Some c → in_flight flight i ≡ Some c
 gone-sub flight number order i c is = elim (cases_eq i number) [
-  | inl here ↦ absurd (none-some c (sym (put-here (in_flight flight) number None) ∙ ap (put_at (in_flight flight) number None) (sym here) ∙ is))
+  | inl here ↦
+      absurd (none-some c
+      (sym (put-here (in_flight flight) number None) ∙ ap (put_at (in_flight flight) number None) (sym here) ∙ is))
   | inr other ↦ sym (put-there (in_flight flight) number None i other) ∙ is
 ]
 
-none-there : {A : Type 0} (found : Option (Option A)) (agent : A) → option_map (λ (agent : Option A). let none : Option A = None in none) found ≡ Some (Some agent) → ⊥
+none-there : {A : Type 0} (found : Option (Option A)) (agent : A)
+    → option_map (λ (agent : Option A). let none : Option A = None in none) found ≡ Some (Some agent) → ⊥
 none-there None agent e = cc
 none-there (Some found) agent e = cc
 
-without-sub : (known : List (Option AgentFacts)) (k : ℕ) (m : ℕ) (agent : AgentFacts) → slice_get (with_changed known k (λ agent. None)) m ≡ Some (Some agent) → slice_get known m ≡ Some (Some agent)
+without-sub : (known : List (Option AgentFacts)) (k : ℕ) (m : ℕ) (agent : AgentFacts)
+    → slice_get (with_changed known k (λ agent. None)) m ≡ Some (Some agent) → slice_get known m ≡ Some (Some agent)
 without-sub known k m agent is = by (m == k) (sym (get-changed known k m (λ agent. None)) ∙ is)
   where
-    by : (same : Bool) → cond same (option_map (λ (agent : Option AgentFacts). let none : Option AgentFacts = None in none) (slice_get known m)) (slice_get known m) ≡ Some (Some agent) → slice_get known m ≡ Some (Some agent)
+    by : (same : Bool)
+        → cond same
+        (option_map (λ (agent : Option AgentFacts). let none : Option AgentFacts = None in none) (slice_get known m))
+        (slice_get known m) ≡ Some (Some agent)
+        → slice_get known m ≡ Some (Some agent)
     by true e = absurd (none-there (slice_get known m) agent e)
     by false e = e
 
 -- a process goes on in its incarnation
-changed-runs : (runs : ℕ → ℕ) (processes : List AgentProcess) (k : ℕ) (change : AgentProcess → AgentProcess) → ((process : AgentProcess) → (change process).incarnation ≡ process.incarnation) → RunsAre runs processes → RunsAre runs (with_changed processes k change)
-changed-runs runs processes k change same old m process is = by (m == k) (slice_get processes m) refl (sym (get-changed processes k m change) ∙ is)
+changed-runs : (runs : ℕ → ℕ) (processes : List AgentProcess) (k : ℕ) (change : AgentProcess → AgentProcess)
+    → ((process : AgentProcess) → (change process).incarnation ≡ process.incarnation) → RunsAre runs processes
+    → RunsAre runs (with_changed processes k change)
+changed-runs runs processes k change same old m process is =
+    by (m == k) (slice_get processes m) refl (sym (get-changed processes k m change) ∙ is)
   where
-    by : (here : Bool) (found : Option AgentProcess) → slice_get processes m ≡ found → cond here (option_map change found) found ≡ Some process → process.incarnation ≡ runs m
+    by : (here : Bool) (found : Option AgentProcess) → slice_get processes m ≡ found
+        → cond here (option_map change found) found ≡ Some process → process.incarnation ≡ runs m
     by true None at e = absurd (none-some process e)
-    by true (Some was) at e = ap (λ (p : AgentProcess). p.incarnation) (sym (some-is (change was) process e)) ∙ same was ∙ old m was at
+    by true (Some was) at e =
+        ap (λ (p : AgentProcess). p.incarnation) (sym (some-is (change was) process e)) ∙ same was ∙ old m was at
     by false found at e = old m process (at ∙ e)
 
-agents-sub : (taken : List Taking) (runs : ℕ → ℕ) (known later : List (Option AgentFacts)) → ((m : ℕ) (agent : AgentFacts) → slice_get later m ≡ Some (Some agent) → slice_get known m ≡ Some (Some agent)) → KnowAsked taken runs known → KnowAsked taken runs later
+agents-sub : (taken : List Taking) (runs : ℕ → ℕ) (known later : List (Option AgentFacts))
+    → ((m : ℕ) (agent : AgentFacts) → slice_get later m ≡ Some (Some agent) → slice_get known m ≡ Some (Some agent))
+    → KnowAsked taken runs known → KnowAsked taken runs later
 agents-sub taken runs known later sub old m agent is = old m agent (sub m agent is)
 
-same-agents : (known : List (Option AgentFacts)) (m : ℕ) (agent : AgentFacts) → slice_get known m ≡ Some (Some agent) → slice_get known m ≡ Some (Some agent)
+same-agents : (known : List (Option AgentFacts)) (m : ℕ) (agent : AgentFacts)
+    → slice_get known m ≡ Some (Some agent) → slice_get known m ≡ Some (Some agent)
 same-agents known m agent is = is
 
-same-flight : (flight : Flight) (i : ℕ) (c : InFlightFacts) → in_flight flight i ≡ Some c → (in_flight flight i ≡ Some c) ⊎ IsOther c.message
+same-flight : (flight : Flight) (i : ℕ) (c : InFlightFacts) → in_flight flight i ≡ Some c
+    → (in_flight flight i ≡ Some c) ⊎ IsOther c.message
 same-flight flight i c is = inl is
 
-pub neutral-one : (moments : Moments) (cluster : Cluster) (kind : EventKind) → IsNeutral kind → Rises 0 cluster.facts.flight → AsksOnce moments cluster → AsksOnce (moments_after moments kind) (cluster_after cluster kind)
-neutral-one moments cluster (kinds.Message (messages.Sent number message)) is order old = let one : InFlightFacts = launched cluster.facts.clock cluster.facts.keys message in record {
-  runs = old.runs;
-  agents = old.agents;
-  asks = once-sub moments.taken moments.runs cluster.facts.flight _ cluster.agents cluster.agents
-      (λ i c at. other-sent cluster.facts.flight number one is i c (sym (in-with cluster.facts.flight number one i) ∙ at)) (same-agents cluster.agents) old.asks;
-}
+pub neutral-one : (moments : Moments) (cluster : Cluster) (kind : EventKind) → IsNeutral kind
+    → Rises 0 cluster.facts.flight → AsksOnce moments cluster
+    → AsksOnce (moments_after moments kind) (cluster_after cluster kind)
+neutral-one moments cluster (kinds.Message (messages.Sent number message)) is order old =
+    let one : InFlightFacts = launched cluster.facts.clock cluster.facts.keys message in record {
+      runs = old.runs;
+      agents = old.agents;
+      asks = once-sub moments.taken moments.runs cluster.facts.flight _ cluster.agents cluster.agents
+          (λ i c at.
+          other-sent cluster.facts.flight number one is i c (sym (in-with cluster.facts.flight number one i) ∙ at))
+          (same-agents cluster.agents) old.asks;
+    }
 neutral-one moments cluster (kinds.Message (messages.Delivered number)) is order old = absurd is
 neutral-one moments cluster (kinds.Message (messages.Lost number)) is order old = record {
   runs = old.runs;
   agents = old.agents;
   asks = once-sub moments.taken moments.runs cluster.facts.flight _ cluster.agents cluster.agents
-      (λ i c at. inl (gone-sub cluster.facts.flight number order i c (sym (in-without 0 cluster.facts.flight number i order) ∙ at))) (same-agents cluster.agents) old.asks;
+      (λ i c at. inl
+      (gone-sub cluster.facts.flight number order i c (sym (in-without 0 cluster.facts.flight number i order) ∙ at)))
+      (same-agents cluster.agents) old.asks;
 }
 neutral-one moments cluster (kinds.Watchdog (watchdogs.HoldTaken by until from run sequence)) is order old =
-    let same : taken_with moments.clock moments.taken by.id.number from.id.number run sequence ≡ moments.taken = ap (taken_with moments.clock moments.taken by.id.number from.id.number run) is in record {
+    let same : taken_with moments.clock moments.taken by.id.number from.id.number run sequence ≡ moments.taken =
+    ap (taken_with moments.clock moments.taken by.id.number from.id.number run) is in
+    record {
       runs = old.runs;
       agents = subst (λ (taken : List Taking). KnowAsked taken moments.runs cluster.agents) (sym same) old.agents;
-      asks = subst (λ (taken : List Taking). AskOnce taken moments.runs cluster.facts.flight cluster.agents) (sym same) old.asks;
+      asks = subst (λ (taken : List Taking). AskOnce taken moments.runs cluster.facts.flight cluster.agents)
+          (sym same) old.asks;
     }
 neutral-one moments cluster (kinds.Watchdog (watchdogs.Reset by)) is order old = record {
   runs = changed-runs moments.runs cluster.facts.processes by.id.number ended_process (λ process. refl) old.runs;
   agents = agents-sub moments.taken moments.runs cluster.agents _ (without-sub cluster.agents by.id.number) old.agents;
-  asks = once-sub moments.taken moments.runs cluster.facts.flight cluster.facts.flight cluster.agents _ (same-flight cluster.facts.flight) (without-sub cluster.agents by.id.number) old.asks;
+  asks = once-sub moments.taken moments.runs cluster.facts.flight cluster.facts.flight cluster.agents _
+      (same-flight cluster.facts.flight) (without-sub cluster.agents by.id.number) old.asks;
 }
 neutral-one moments cluster (kinds.Agent (agents.Woken by)) is order old = absurd is
 neutral-one moments cluster (kinds.Agent (agents.Operated by action)) is order old = absurd is
@@ -234,30 +308,44 @@ neutral-one moments cluster (kinds.Agent (agents.Started by incarnation)) is ord
 neutral-one moments cluster (kinds.Agent (agents.Killed by)) is order old = record {
   runs = changed-runs moments.runs cluster.facts.processes by.id.number ended_process (λ process. refl) old.runs;
   agents = agents-sub moments.taken moments.runs cluster.agents _ (without-sub cluster.agents by.id.number) old.agents;
-  asks = once-sub moments.taken moments.runs cluster.facts.flight cluster.facts.flight cluster.agents _ (same-flight cluster.facts.flight) (without-sub cluster.agents by.id.number) old.asks;
+  asks = once-sub moments.taken moments.runs cluster.facts.flight cluster.facts.flight cluster.agents _
+      (same-flight cluster.facts.flight) (without-sub cluster.agents by.id.number) old.asks;
 }
 neutral-one moments cluster (kinds.Agent (agents.Suspended by)) is order old = record {
-  runs = changed-runs moments.runs cluster.facts.processes by.id.number (λ state. record state { suspended = true }) (λ process. refl) old.runs;
+  runs = changed-runs moments.runs cluster.facts.processes by.id.number
+      (λ state. record state { suspended = true }) (λ process. refl) old.runs;
   agents = old.agents;
   asks = old.asks;
 }
 neutral-one moments cluster (kinds.Agent (agents.Resumed by)) is order old = record {
-  runs = changed-runs moments.runs cluster.facts.processes by.id.number (λ state. record state { suspended = false }) (λ process. refl) old.runs;
+  runs = changed-runs moments.runs cluster.facts.processes by.id.number
+      (λ state. record state { suspended = false }) (λ process. refl) old.runs;
   agents = old.agents;
   asks = old.asks;
 }
 neutral-one moments cluster _ is order old = record { runs = old.runs; agents = old.agents; asks = old.asks }
 
-pub neutral-over : (moments : Moments) (cluster : Cluster) (events : List Event) → AllAre IsNeutral events → AreNumberedAbove cluster.facts.sent events → KnowsSending moments cluster.facts → AsksOnce moments cluster → AsksOnce (moments_over moments events) (cluster_over cluster events)
+pub neutral-over : (moments : Moments) (cluster : Cluster) (events : List Event) → AllAre IsNeutral events
+    → AreNumberedAbove cluster.facts.sent events → KnowsSending moments cluster.facts
+    → AsksOnce moments cluster → AsksOnce (moments_over moments events) (cluster_over cluster events)
 neutral-over moments cluster [] all above knows old = old
 neutral-over moments cluster (event ∷ events) all above knows old =
-    neutral-over (moments_after moments event.kind) (cluster_after cluster event.kind) events all.1 above.1 (sending-by moments cluster.facts event.kind above.0 knows) (neutral-one moments cluster event.kind all.0 knows.order old)
+    neutral-over (moments_after moments event.kind) (cluster_after cluster event.kind) events all.1 above.1
+    (sending-by moments cluster.facts event.kind above.0 knows)
+    (neutral-one moments cluster event.kind all.0 knows.order old)
 
 -- ---- an agent starts in a new incarnation
-pub changed-at : {A : Type 0} (known : List A) (k m : ℕ) (change : A → A) (x : A) → slice_get (with_changed known k change) m ≡ Some x → ((m ≢ k) × (slice_get known m ≡ Some x)) ⊎ ((m ≡ k) × ((was : A) × ((slice_get known m ≡ Some was) × (change was ≡ x))))
-changed-at {A} known k m change x is = by (m == k) refl (slice_get known m) refl (sym (get-changed known k m change) ∙ is)
+pub changed-at : {A : Type 0} (known : List A) (k m : ℕ) (change : A → A) (x : A)
+    → slice_get (with_changed known k change) m ≡ Some x
+    → ((m ≢ k) × (slice_get known m ≡ Some x))
+    ⊎ ((m ≡ k) × ((was : A) × ((slice_get known m ≡ Some was) × (change was ≡ x))))
+changed-at {A} known k m change x is =
+    by (m == k) refl (slice_get known m) refl (sym (get-changed known k m change) ∙ is)
   where
-    by : (same : Bool) → (m == k) ≡ same → (found : Option A) → slice_get known m ≡ found → cond same (option_map change found) found ≡ Some x → ((m ≢ k) × (slice_get known m ≡ Some x)) ⊎ ((m ≡ k) × ((was : A) × ((slice_get known m ≡ Some was) × (change was ≡ x))))
+    by : (same : Bool) → (m == k) ≡ same → (found : Option A) → slice_get known m ≡ found
+        → cond same (option_map change found) found ≡ Some x
+        → ((m ≢ k) × (slice_get known m ≡ Some x))
+        ⊎ ((m ≡ k) × ((was : A) × ((slice_get known m ≡ Some was) × (change was ≡ x))))
     by true same None at e = absurd (none-some x e)
     by true same (Some was) at e = inr (eq-from m k same, (was, (at, some-is (change was) x e)))
     by false same found at e = inl (ne-of m k same, at ∙ e)
@@ -265,18 +353,27 @@ changed-at {A} known k m change x is = by (m == k) refl (slice_get known m) refl
         ne-of : (a b : ℕ) → (a == b) ≡ false → a ≢ b
         ne-of a b off is = grind (arith, nat_tests)
 
-pub started-one : (moments : Moments) (cluster : Cluster) (by : Member) (process : AgentProcess) → slice_get cluster.facts.processes by.id.number ≡ Some process → AsksOnce moments cluster
-    → AsksOnce (moments_after moments (kinds.Agent (agents.Started by (process.incarnation + 1)))) (cluster_after cluster (kinds.Agent (agents.Started by (process.incarnation + 1))))
+pub started-one : (moments : Moments) (cluster : Cluster) (by : Member) (process : AgentProcess)
+    → slice_get cluster.facts.processes by.id.number ≡ Some process → AsksOnce moments cluster
+    → AsksOnce (moments_after moments (kinds.Agent (agents.Started by (process.incarnation + 1))))
+    (cluster_after cluster (kinds.Agent (agents.Started by (process.incarnation + 1))))
 started-one moments cluster by process here old = record {
-  runs = λ m found is. elim (changed-at cluster.facts.processes by.id.number m (λ state. running_in incarnation) found is) [
-    | inl other ↦ old.runs m found other.1 ∙ sym (put-there moments.runs by.id.number incarnation m other.0)
-    | inr same ↦ ap (λ (p : AgentProcess). p.incarnation) (sym same.1.1.1) ∙ sym (runs-here m same.0)
-  ];
+  runs = λ m found is.
+      elim (changed-at cluster.facts.processes by.id.number m (λ state. running_in incarnation) found is) [
+        | inl other ↦ old.runs m found other.1 ∙ sym (put-there moments.runs by.id.number incarnation m other.0)
+        | inr same ↦ ap (λ (p : AgentProcess). p.incarnation) (sym same.1.1.1) ∙ sym (runs-here m same.0)
+      ];
   agents = λ m agent is. elim (changed-at cluster.agents by.id.number m (λ was. Some one) (Some agent) is) [
-    | inl other ↦ subst (λ (n : ℕ). KnowsAsked moments.taken m n agent) (sym (put-there moments.runs by.id.number incarnation m other.0)) (old.agents m agent other.1)
+    | inl other ↦ subst (λ (n : ℕ). KnowsAsked moments.taken m n agent)
+        (sym (put-there moments.runs by.id.number incarnation m other.0)) (old.agents m agent other.1)
     | inr same ↦
         subst (KnowsAsked moments.taken m (runs m)) (some-is one agent same.1.1.1)
-        (record { run_is = sym (runs-here m same.0); ends = tt; counted = λ waited e. absurd (none-some waited e); stays = λ waited e. absurd (none-some waited e) })
+        (record {
+          run_is = sym (runs-here m same.0);
+          ends = tt;
+          counted = λ waited e. absurd (none-some waited e);
+          stays = λ waited e. absurd (none-some waited e);
+        })
   ];
   asks = record {
     once = old.asks.once;
@@ -305,11 +402,14 @@ started-one moments cluster by process here old = record {
 
     later : (m : ℕ) → moments.runs m ≤ runs m
     later m = elim (cases_eq m by.id.number) [
-      | inl same ↦ let a : runs m ≡ incarnation = runs-here m same in let b : moments.runs m ≡ moments.runs by.id.number = ap moments.runs same in omega (arith, a, b, was)
-      | inr other ↦ let a : runs m ≡ moments.runs m = put-there moments.runs by.id.number incarnation m other in omega (arith, a)
+      | inl same ↦ let a : runs m ≡ incarnation = runs-here m same in
+          let b : moments.runs m ≡ moments.runs by.id.number = ap moments.runs same in omega (arith, a, b, was)
+      | inr other ↦
+          let a : runs m ≡ moments.runs m = put-there moments.runs by.id.number incarnation m other in omega (arith, a)
     ]
 
-    given : (r : Request) → IsGiven moments.runs cluster.agents r → IsGiven runs (with_changed cluster.agents by.id.number (λ was. Some one)) r
+    given : (r : Request) → IsGiven moments.runs cluster.agents r
+        → IsGiven runs (with_changed cluster.agents by.id.number (λ was. Some one)) r
     given r given_is = record {
       counted = given_is.counted;
       run = let a : r.incarnation ≤ moments.runs r.from = given_is.run in omega (arith, a, later r.from);
@@ -318,8 +418,10 @@ started-one moments cluster by process here old = record {
         | inr here ↦
             let a : r.incarnation ≤ moments.runs r.from = given_is.run in
             let b : moments.runs r.from ≡ moments.runs by.id.number = ap moments.runs here.0 in
-            let c : incarnation ≡ agent.knows.incarnation = ap (λ (x : AgentFacts). x.knows.incarnation) (some-is one agent here.1.1.1) in
-            absurd (not-new r.incarnation (moments.runs r.from) (moments.runs by.id.number) process.incarnation agent.knows.incarnation a b was c same)
+            let c : incarnation ≡ agent.knows.incarnation =
+            ap (λ (x : AgentFacts). x.knows.incarnation) (some-is one agent here.1.1.1) in
+            absurd (not-new r.incarnation (moments.runs r.from)
+            (moments.runs by.id.number) process.incarnation agent.knows.incarnation a b was c same)
       ];
     }
       where
@@ -327,9 +429,11 @@ started-one moments cluster by process here old = record {
         not-new x y z p a one two three four five = omega (arith, one, two, three, four, five)
 
 -- ---- the members of a head stand at their numbers
-pub numbered-members : (n : ℕ) (names : List Name) (i : ℕ) (m : Member) → slice_get (members_from n names) i ≡ Some m → m.id.number ≡ n + i
+pub numbered-members : (n : ℕ) (names : List Name) (i : ℕ) (m : Member)
+    → slice_get (members_from n names) i ≡ Some m → m.id.number ≡ n + i
 numbered-members n [] i m is = absurd (none-some m is)
-numbered-members n (name ∷ names) i m is = by (λ k. numbered-members (n + 1) names k m) (nat_lt n MOST_MEMBERS) refl i is
+numbered-members n (name ∷ names) i m is =
+    by (λ k. numbered-members (n + 1) names k m) (nat_lt n MOST_MEMBERS) refl i is
   where
     rest : List Member
     rest = members_from (n + 1) names
@@ -343,7 +447,9 @@ numbered-members n (name ∷ names) i m is = by (λ k. numbered-members (n + 1) 
     past : (k i : ℕ) → k ≡ (n + 1) + i → k < MOST_MEMBERS → nat_lt n MOST_MEMBERS ≡ false → ⊥
     past k i e below off = grind (arith, nat_tests)
 
-    by : ((k : ℕ) → slice_get rest k ≡ Some m → m.id.number ≡ (n + 1) + k) → (test : Bool) (off : nat_lt n MOST_MEMBERS ≡ test) (i : ℕ) → slice_get (put_first (member_by n test off) name rest) i ≡ Some m → m.id.number ≡ n + i
+    by : ((k : ℕ) → slice_get rest k ≡ Some m → m.id.number ≡ (n + 1) + k)
+        → (test : Bool) (off : nat_lt n MOST_MEMBERS ≡ test) (i : ℕ)
+        → slice_get (put_first (member_by n test off) name rest) i ≡ Some m → m.id.number ≡ n + i
     by later true off zero e = first-number m.id.number (ap (λ (x : Member). x.id.number) (sym (some-is _ m e)))
     by later true off (suc i) e = next-number m.id.number i (later i e)
     by later false off i e = absurd (past m.id.number i (later i e) m.id.below off)

@@ -60,11 +60,14 @@ module _ (head : HeadText) (few : length (names_of head) ≤ MOST_MEMBERS) where
   quiet-own (kinds.Server (servers.Began server timeline)) is = absurd is
   quiet-own _ is = tt
 
-  upheld-quiet : (book : List Event) (cluster : Cluster) (events : List Event) → NamesSoFar head book cluster → AllAre IsQuiet events
+  upheld-quiet : (book : List Event) (cluster : Cluster) (events : List Event) → NamesSoFar head book cluster
+      → AllAre IsQuiet events
       → Upholds (names_told head) book cluster events
-  upheld-quiet book cluster events good all = upheld-own head book cluster events good (all-more IsQuiet Own events quiet-own all)
+  upheld-quiet book cluster events good all =
+      upheld-own head book cluster events good (all-more IsQuiet Own events quiet-own all)
 
-  pub found-own : (cluster : Cluster) (found : Option EventKind) → HoldsIf Own found → AllAre Own (events_of cluster (kinds_of found))
+  pub found-own : (cluster : Cluster) (found : Option EventKind) → HoldsIf Own found
+      → AllAre Own (events_of cluster (kinds_of found))
   found-own cluster found is = all-kinds Own cluster (kinds_of found) (one-kind Own found is)
 
   -- ---- a message that goes from and to declared members
@@ -72,7 +75,8 @@ module _ (head : HeadText) (few : length (names_of head) ≤ MOST_MEMBERS) where
   lost-own cluster true number = (tt, tt)
   lost-own cluster false number = tt
 
-  pub sends-own : (cluster : Cluster) (message : Message) → HasDeclaredEnds head message → AllAre Own (send_events cluster message)
+  pub sends-own : (cluster : Cluster) (message : Message) → HasDeclaredEnds head message
+      → AllAre Own (send_events cluster message)
   sends-own cluster message own = (own, lost-own _ _ _)
 
   -- ---- a server of a declared member begins
@@ -80,35 +84,45 @@ module _ (head : HeadText) (few : length (names_of head) ≤ MOST_MEMBERS) where
   loss-own member true = (tt, tt)
   loss-own member false = tt
 
-  begun-own : (member : Member) → IsDeclared head member → (timeline : ℕ) (acknowledged : List ℕ) (log : Option (List Entry))
+  begun-own : (member : Member) → IsDeclared head member
+      → (timeline : ℕ) (acknowledged : List ℕ) (log : Option (List Entry))
       → AllKinds Own (beginning_kinds member timeline acknowledged log)
-  begun-own member is timeline acknowledged log = (declared-named head few member is, loss-own member (lacks_in (entries_of log) acknowledged))
+  begun-own member is timeline acknowledged log =
+      (declared-named head few member is, loss-own member (lacks_in (entries_of log) acknowledged))
 
   -- ---- a tick
   upholds-reset : (member : Member) → UpholdsAlways (names_told head) (λ cluster. reset_events cluster member)
   upholds-reset member book cluster good =
       upheld-own head book cluster (reset_events cluster member) good
-      (found-own cluster _ (holds-then Own (reset_of cluster.facts.clock member) (slice_get cluster.facts.deadlines member.id.number)
+      (found-own cluster _
+      (holds-then Own (reset_of cluster.facts.clock member) (slice_get cluster.facts.deadlines member.id.number)
       (λ deadline. holds-if Own _ (kinds.Watchdog (Reset member)) tt)))
 
-  completed-own : (member : Member) → IsDeclared head member → (acknowledged : List ℕ) (log : Option (List Entry)) (found : Option Completion)
+  completed-own : (member : Member) → IsDeclared head member
+      → (acknowledged : List ℕ) (log : Option (List Entry)) (found : Option Completion)
       → AllKinds Own (completed_by member acknowledged log found)
   completed-own member is acknowledged log None = tt
-  completed-own member is acknowledged log (Some (completions.Begins timeline)) = begun-own member is timeline acknowledged log
+  completed-own member is acknowledged log (Some (completions.Begins timeline)) =
+      begun-own member is timeline acknowledged log
   completed-own member is acknowledged log (Some completions.Ends) = (tt, tt)
 
-  upholds-completion : (member : Member) → IsDeclared head member → UpholdsAlways (names_told head) (λ cluster. completion_events cluster member)
+  upholds-completion : (member : Member) → IsDeclared head member
+      → UpholdsAlways (names_told head) (λ cluster. completion_events cluster member)
   upholds-completion member is book cluster good =
-      upheld-for_some (names_told head) (composable head) book cluster (slice_get cluster.facts.servers member.id.number) _ good (λ s at.
+      upheld-for_some (names_told head) (composable head) book cluster
+      (slice_get cluster.facts.servers member.id.number) _ good (λ s at.
       upheld-own head book cluster _ good
       (all-kinds Own cluster (completion_kinds cluster.facts.clock member cluster.facts.acknowledged s)
       (completed-own member is cluster.facts.acknowledged s.log (completion_of cluster.facts.clock s))))
 
-  upholds-completions : UpholdsAlways (names_told head) (λ cluster. each completion_events cluster cluster.facts.members)
+  upholds-completions : UpholdsAlways (names_told head)
+      (λ cluster. each completion_events cluster cluster.facts.members)
   upholds-completions book cluster good =
-      subst (λ (ms : List Member). Upholds (names_told head) book cluster (each completion_events cluster ms)) (sym good.members)
+      subst (λ (ms : List Member). Upholds (names_told head) book cluster (each completion_events cluster ms))
+      (sym good.members)
       (upholds-each (names_told head) (composable head) completion_events (declared_members head)
-      (each-declared head few (λ m. UpholdsAlways (names_told head) (λ c. completion_events c m)) upholds-completion) book cluster good)
+      (each-declared head few (λ m. UpholdsAlways (names_told head) (λ c. completion_events c m)) upholds-completion)
+      book cluster good)
 
   pub upholds-tick : UpholdsAlways (names_told head) tick_events
   upholds-tick book cluster good =
@@ -120,65 +134,89 @@ module _ (head : HeadText) (few : length (names_of head) ≤ MOST_MEMBERS) where
       let expired : Cluster = cluster_over reset expiries in
       let completes : List Event = each completion_events expired expired.facts.members in
       let first : List Event = book ++ event_of cluster kinds.Tick in
-      upheld-then promise (composable head) book cluster (event_of cluster kinds.Tick) (resets ++ (expiries ++ completes))
+      upheld-then promise (composable head) book cluster (event_of cluster kinds.Tick)
+      (resets ++ (expiries ++ completes))
       (upheld-own head book cluster _ good (tt, tt)) (λ was.
       upheld-then promise (composable head) first ticked resets (expiries ++ completes)
       (upholds-all promise (composable head) reset_events upholds-reset ticked.facts.members first ticked was) (λ later.
       upheld-then promise (composable head) (first ++ resets) reset expiries completes
-      (upheld-quiet (first ++ resets) reset expiries later (all-kinds IsQuiet reset (next_expiries cluster) (next-quiet cluster)))
+      (upheld-quiet (first ++ resets) reset expiries later
+      (all-kinds IsQuiet reset (next_expiries cluster) (next-quiet cluster)))
       (upholds-completions ((first ++ resets) ++ expiries) expired)))
 
   -- ---- streams
-  pub upholds-receive : (most : ℕ) (member : Member) → UpholdsAlways (names_told head) (λ cluster. receive_events_at_most cluster most member)
-  upholds-receive most member book cluster good = upheld-quiet book cluster (receive_events_at_most cluster most member) good (most-quiet cluster most member)
+  pub upholds-receive : (most : ℕ) (member : Member)
+      → UpholdsAlways (names_told head) (λ cluster. receive_events_at_most cluster most member)
+  upholds-receive most member book cluster good =
+      upheld-quiet book cluster (receive_events_at_most cluster most member) good (most-quiet cluster most member)
 
-  pub upholds-acknowledge : (member : Member) → UpholdsAlways (names_told head) (λ cluster. acknowledge_events cluster member)
-  upholds-acknowledge member book cluster good = upheld-quiet book cluster (acknowledge_events cluster member) good (acknowledges-quiet cluster member)
+  pub upholds-acknowledge : (member : Member)
+      → UpholdsAlways (names_told head) (λ cluster. acknowledge_events cluster member)
+  upholds-acknowledge member book cluster good =
+      upheld-quiet book cluster (acknowledge_events cluster member) good (acknowledges-quiet cluster member)
 
   -- ---- commands
-  pub upholds-command : (command : Command) → UpholdsAlways (names_told head) (λ cluster. events_of cluster (kinds_of (command_kind cluster command)))
+  pub upholds-command : (command : Command)
+      → UpholdsAlways (names_told head) (λ cluster. events_of cluster (kinds_of (command_kind cluster command)))
   upholds-command command book cluster good =
       upheld-own head book cluster _ good
-      (found-own cluster (command_kind cluster command) (each-command-holds Own cluster (record { killed = λ m. tt; crashed = λ m. tt }) command
+      (found-own cluster (command_kind cluster command)
+      (each-command-holds Own cluster (record { killed = λ m. tt; crashed = λ m. tt }) command
       (λ is. holds-more IsQuiet Own (command_kind cluster command) quiet-own (command-quiet cluster command is))))
 
   promoted-own : (member : Member) → IsDeclared head member → (acknowledged : List ℕ) (s : ServerFacts) (test : Bool)
-      → AllKinds Own (cond test (kinds.Server (servers.Promoted (server_of member)) ∷ beginning_kinds member (s.timeline + 1) acknowledged s.log) [])
+      → AllKinds Own
+      (cond test
+      (kinds.Server (servers.Promoted (server_of member))
+      ∷ beginning_kinds member (s.timeline + 1) acknowledged s.log) [])
   promoted-own member is acknowledged s true = (tt, begun-own member is (s.timeline + 1) acknowledged s.log)
   promoted-own member is acknowledged s false = tt
 
-  pub upholds-promote : (member : Member) → IsDeclared head member → UpholdsAlways (names_told head) (λ cluster. promote_events cluster member)
+  pub upholds-promote : (member : Member) → IsDeclared head member
+      → UpholdsAlways (names_told head) (λ cluster. promote_events cluster member)
   upholds-promote member is book cluster good =
-      upheld-for_some (names_told head) (composable head) book cluster (slice_get cluster.facts.servers member.id.number) _ good (λ s at.
+      upheld-for_some (names_told head) (composable head) book cluster
+      (slice_get cluster.facts.servers member.id.number) _ good (λ s at.
       upheld-own head book cluster _ good
-      (all-kinds Own cluster (promote_kinds member cluster.facts.acknowledged s) (promoted-own member is cluster.facts.acknowledged s (is_replica s.state))))
+      (all-kinds Own cluster (promote_kinds member cluster.facts.acknowledged s)
+      (promoted-own member is cluster.facts.acknowledged s (is_replica s.state))))
 
-  pub upholds-restart : (id : MemberId) → UpholdsAlways (names_told head) (λ cluster. for_some (declared cluster id) (agent_start_events cluster))
+  pub upholds-restart : (id : MemberId)
+      → UpholdsAlways (names_told head) (λ cluster. for_some (declared cluster id) (agent_start_events cluster))
   upholds-restart id book cluster good =
-      upheld-for_some (names_told head) (composable head) book cluster (declared cluster id) (agent_start_events cluster) good (λ m is.
-      upheld-for_some (names_told head) (composable head) book cluster (slice_get cluster.facts.processes m.id.number) _ good (λ process at.
+      upheld-for_some (names_told head) (composable head) book cluster (declared cluster id)
+      (agent_start_events cluster) good (λ m is.
+      upheld-for_some (names_told head) (composable head) book cluster
+      (slice_get cluster.facts.processes m.id.number) _ good (λ process at.
       upheld-own head book cluster _ good
       (all-kinds Own cluster (agent_started m process ∷ kinds_of (disarm_at_start m process (machine_of cluster m)))
       (starts-hold Own m process (machine_of cluster m) tt tt tt))))
 
   -- ---- the key store, which answers whoever asked
-  decision-own : (cluster : Cluster) (number : ℕ) (message : Message) (txn : Txn) (decision : Decision) (from : LinkEnd) → IsDeclaredEnd head message.from
+  decision-own : (cluster : Cluster) (number : ℕ) (message : Message) (txn : Txn) (decision : Decision) (from : LinkEnd)
+      → IsDeclaredEnd head message.from
       → AllAre Own (decision_events cluster number message txn decision from)
   decision-own cluster number message txn decision ends.Store own = tt
-  decision-own cluster number message txn Grant (ends.Member by) own = (tt, sends-own _ (answer_message message (decision_body number txn Grant)) (tt, own))
+  decision-own cluster number message txn Grant (ends.Member by) own =
+      (tt, sends-own _ (answer_message message (decision_body number txn Grant)) (tt, own))
   decision-own cluster number message txn (Refusal key found) (ends.Member by) own =
       (tt, sends-own _ (answer_message message (decision_body number txn (Refusal key found))) (tt, own))
 
   answer-own : (cluster : Cluster) (number : ℕ) (message : Message) (body : Body) → IsDeclaredEnd head message.from
       → AllAre Own (answer_events_by cluster number message body)
-  answer-own cluster number message bodies.Read own = sends-own cluster (answer_message message bodies.Snapshot) (tt, own)
+  answer-own cluster number message bodies.Read own =
+      sends-own cluster (answer_message message bodies.Snapshot) (tt, own)
   answer-own cluster number message (bodies.Request txn) own =
       decision-own cluster number message txn (decision_on cluster.facts.keys cluster.facts.clock txn) message.from own
   answer-own cluster number message _ own = tt
 
-  pub upheld-arrival : (book : List Event) (cluster : Cluster) (number : ℕ) (message : InFlightFacts) → NamesSoFar head book cluster
+  pub upheld-arrival : (book : List Event) (cluster : Cluster) (number : ℕ) (message : InFlightFacts)
+      → NamesSoFar head book cluster
       → in_flight cluster.facts.flight number ≡ Some message
       → Upholds (names_told head) book cluster (arrival_events_at cluster number message ends.Store)
   upheld-arrival book cluster number message good found =
-      upheld-own head book cluster (arrival_events_at cluster number message ends.Store) good
-      (tt, answer-own (cluster_after cluster (kinds.Message (Delivered number))) number message.message message.message.body (good.flight.ends number message found).0)
+      upheld-own head book cluster (arrival_events_at cluster number message ends.Store) good (
+        tt,
+        answer-own (cluster_after cluster (kinds.Message (Delivered number))) number message.message
+            message.message.body (good.flight.ends number message found).0,
+      )

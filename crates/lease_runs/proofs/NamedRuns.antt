@@ -61,45 +61,59 @@ module _ (head : HeadText) (few : length (names_of head) ≤ MOST_MEMBERS) where
   IsOwnReceiver None = Unit {0}
   IsOwnReceiver (Some to) = IsDeclaredEnd head to
 
-  found-declared : (members : List Member) → members ≡ declared_members head → (i : ℕ) (found : Option Member) → slice_get members i ≡ found
+  found-declared : (members : List Member) → members ≡ declared_members head → (i : ℕ) (found : Option Member)
+      → slice_get members i ≡ found
       → IsOwnReceiver (option_map (λ (m : Member). ends.Member m) found)
   found-declared members same i None is = tt
-  found-declared members same i (Some m) is = declared-at head few i m (sym (ap (λ (ms : List Member). slice_get ms i) same) ∙ is)
+  found-declared members same i (Some m) is =
+      declared-at head few i m (sym (ap (λ (ms : List Member). slice_get ms i) same) ∙ is)
 
-  receiver-declared : (members : List Member) → members ≡ declared_members head → (to : Target) → IsOwnReceiver (receiver_of members to)
+  receiver-declared : (members : List Member) → members ≡ declared_members head → (to : Target)
+      → IsOwnReceiver (receiver_of members to)
   receiver-declared members same targets.Store = tt
-  receiver-declared members same (targets.Member id) = found-declared members same id.number (slice_get members id.number) refl
+  receiver-declared members same (targets.Member id) =
+      found-declared members same id.number (slice_get members id.number) refl
 
   -- ---- an output of the agent of a declared member
   module _ (member : Member) (is : IsDeclared head member) where
-    sending-own : (cluster : Cluster) (found : Option AgentProcess) (to : Option LinkEnd) (sequence : ℕ) (body : Body) → IsOwnReceiver to
+    sending-own : (cluster : Cluster) (found : Option AgentProcess) (to : Option LinkEnd) (sequence : ℕ) (body : Body)
+        → IsOwnReceiver to
         → AllAre Own (sending_events cluster member found to sequence body)
     sending-own cluster None to sequence body own = tt
     sending-own cluster (Some process) None sequence body own = tt
-    sending-own cluster (Some process) (Some to) sequence body own = sends-own head few cluster (agent_message member to process.incarnation sequence body) (is, own)
+    sending-own cluster (Some process) (Some to) sequence body own =
+        sends-own head few cluster (agent_message member to process.incarnation sequence body) (is, own)
 
     replying-own : (cluster : Cluster) (to : Option LinkEnd) (incarnation sequence : ℕ) (body : Body) → IsOwnReceiver to
         → AllAre Own (replying_events cluster member to incarnation sequence body)
     replying-own cluster None incarnation sequence body own = tt
-    replying-own cluster (Some to) incarnation sequence body own = sends-own head few cluster (agent_message member to incarnation sequence body) (is, own)
+    replying-own cluster (Some to) incarnation sequence body own =
+        sends-own head few cluster (agent_message member to incarnation sequence body) (is, own)
 
     -- what comes of an output that sends no message
-    mine-own : (incarnation heard : ℕ) (kind : EventKind) → IsOfInput member incarnation heard sends_none kind → Own kind
-    mine-own incarnation heard (kinds.Message (Sent number message)) mine = absurd (no-sent member incarnation message mine)
+    mine-own : (incarnation heard : ℕ) (kind : EventKind) → IsOfInput member incarnation heard sends_none kind
+        → Own kind
+    mine-own incarnation heard (kinds.Message (Sent number message)) mine =
+        absurd (no-sent member incarnation message mine)
     mine-own incarnation heard (kinds.Server (servers.Began server timeline)) mine =
-        subst (λ (s : ServerOf). slice_get (names_of head) s.id.number ≡ Some s.name) (sym mine.0) (declared-named head few member is)
+        subst (λ (s : ServerOf). slice_get (names_of head) s.id.number ≡ Some s.name) (sym mine.0)
+        (declared-named head few member is)
     mine-own incarnation heard _ mine = tt
 
-    output-own : (heard : HeardMessage) (output : Output) (cluster : Cluster) → cluster.facts.members ≡ declared_members head
+    output-own : (heard : HeardMessage) (output : Output) (cluster : Cluster)
+        → cluster.facts.members ≡ declared_members head
         → AllAre Own (output_events member heard cluster output)
     output-own heard (outputs.Send to sequence body) cluster members =
-        sending-own cluster (slice_get cluster.facts.processes member.id.number) (receiver_of cluster.facts.members to) sequence body
+        sending-own cluster (slice_get cluster.facts.processes member.id.number)
+        (receiver_of cluster.facts.members to) sequence body
         (receiver-declared cluster.facts.members members to)
     output-own heard (outputs.Answer to incarnation sequence answer) cluster members =
-        replying-own cluster (receiver_of cluster.facts.members (targets.Member to)) incarnation sequence (bodies.Answer answer)
+        replying-own cluster (receiver_of cluster.facts.members (targets.Member to)) incarnation sequence
+        (bodies.Answer answer)
         (receiver-declared cluster.facts.members members (targets.Member to))
     output-own heard (outputs.FailsafeAnswer to incarnation sequence accepted) cluster members =
-        replying-own cluster (receiver_of cluster.facts.members (targets.Member to)) incarnation sequence (bodies.FailsafeAnswer accepted)
+        replying-own cluster (receiver_of cluster.facts.members (targets.Member to)) incarnation sequence
+        (bodies.FailsafeAnswer accepted)
         (receiver-declared cluster.facts.members members (targets.Member to))
     output-own heard (outputs.HoldTaken until from sequence) cluster members =
         let found = slice_get cluster.facts.members from.number in
@@ -107,23 +121,31 @@ module _ (head : HeadText) (few : length (names_of head) ≤ MOST_MEMBERS) where
         found-own head few cluster (option_map hold found) (holds-mapped Own hold found (λ m. tt))
     output-own heard output cluster members =
         let incarnation = run_in cluster.facts.processes member.id.number in
-        all-more (IsOfInput member incarnation heard.number sends_none) Own (output_events member heard cluster output) (mine-own incarnation heard.number)
+        all-more (IsOfInput member incarnation heard.number sends_none) Own
+        (output_events member heard cluster output) (mine-own incarnation heard.number)
         (output-mine member incarnation heard.number sends_none cluster heard refl (record {
           process = λ process found. sym (ap run_now found);
-          numbered = λ n peer found. numbered head few n peer (ap (λ (ms : List Member). slice_get ms n) (sym members) ∙ found);
+          numbered = λ n peer found.
+              numbered head few n peer (ap (λ (ms : List Member). slice_get ms n) (sym members) ∙ found);
         }) output tt tt)
 
-    upholds-output : (heard : HeardMessage) (output : Output) → UpholdsAlways (names_told head) (λ cluster. output_events member heard cluster output)
+    upholds-output : (heard : HeardMessage) (output : Output)
+        → UpholdsAlways (names_told head) (λ cluster. output_events member heard cluster output)
     upholds-output heard output book cluster good =
-        upheld-own head book cluster (output_events member heard cluster output) good (output-own heard output cluster good.members)
+        upheld-own head book cluster (output_events member heard cluster output) good
+        (output-own heard output cluster good.members)
 
     -- what it does behind an event
-    upheld-input : (book : List Event) (cluster : Cluster) (kind : EventKind) (heard : HeardMessage) (outcome : Option Outcome) → NamesSoFar head book cluster → Own kind
-        → Upholds (names_told head) book cluster (event_of cluster kind ++ input_events (cluster_after cluster kind) member heard outcome)
+    upheld-input : (book : List Event) (cluster : Cluster) (kind : EventKind) (heard : HeardMessage)
+        (outcome : Option Outcome) → NamesSoFar head book cluster → Own kind
+        → Upholds (names_told head) book cluster
+        (event_of cluster kind ++ input_events (cluster_after cluster kind) member heard outcome)
     upheld-input book cluster kind heard outcome good own =
-        upheld-then (names_told head) (composable head) book cluster (event_of cluster kind) (input_events (cluster_after cluster kind) member heard outcome)
+        upheld-then (names_told head) (composable head) book cluster (event_of cluster kind)
+        (input_events (cluster_after cluster kind) member heard outcome)
         (upheld-own head book cluster _ good (own, tt))
-        (upholds-all (names_told head) (composable head) (output_events member heard) (upholds-output heard) (outputs_of outcome)
+        (upholds-all (names_told head) (composable head) (output_events member heard) (upholds-output heard)
+        (outputs_of outcome)
         (book ++ event_of cluster kind) (cluster_after cluster kind))
 
   -- ---- every run
@@ -132,14 +154,20 @@ module _ (head : HeadText) (few : length (names_of head) ≤ MOST_MEMBERS) where
     members = λ book cluster good. declared-in head few cluster good.members;
     inputs = record {
       wakes = λ book cluster member process good is found acts.
-          upheld-input member is book cluster (kinds.Agent (Woken member)) no_message (outcome_of cluster member Wake) good tt;
+          upheld-input member is book cluster (kinds.Agent (Woken member)) no_message
+          (outcome_of cluster member Wake) good tt;
       hears = λ book cluster number message member good found to through.
-          upheld-input member (subst (IsDeclaredEnd head) to (good.flight.ends number message found).1) book cluster (kinds.Message (Delivered number))
+          upheld-input member (subst (IsDeclaredEnd head) to (good.flight.ends number message found).1) book cluster
+          (kinds.Message (Delivered number))
           (heard_message number message) (outcome_of_heard cluster member (heard_from cluster message)) good tt;
-      operates = λ book cluster member process o request asked good is found acts stands answers. let action : OperatorAction = action_of o asked in
-          upheld-input member is book cluster (kinds.Agent (Operated member action)) no_message (outcome_of cluster member (HearsOperator action)) good tt;
+      operates =
+          λ book cluster member process o request asked good is found acts stands answers. let action : OperatorAction =
+          action_of o asked in
+          upheld-input member is book cluster (kinds.Agent (Operated member action)) no_message
+          (outcome_of cluster member (HearsOperator action)) good tt;
     };
-    arrivals = λ book cluster number message good found to. upheld-arrival head few book cluster number message good found;
+    arrivals =
+        λ book cluster number message good found to. upheld-arrival head few book cluster number message good found;
     losses = λ number book cluster good. upheld-own head book cluster _ good (tt, tt);
     notes = λ note book cluster good. upheld-own head book cluster _ good (tt, tt);
     ticks = upholds-tick head few;
@@ -152,9 +180,16 @@ module _ (head : HeadText) (few : length (names_of head) ≤ MOST_MEMBERS) where
 
   -- before the first event nothing is in flight
   names-first : NamesSoFar head [] (cluster_of head)
-  names-first = record { named = tt; members = refl; flight = record { order = tt; ends = λ i carried e. absurd (none-some carried e) } }
+  names-first = record {
+    named = tt;
+    members = refl;
+    flight = record { order = tt; ends = λ i carried e. absurd (none-some carried e) };
+  }
 
-pub runs-name : (head : HeadText) (steps : List Step) → IsHead head → AllAre (NamesServer (slice_get (names_of head))) (run_events (cluster_of head) steps)
+pub runs-name : (head : HeadText) (steps : List Step) → IsHead head
+    → AllAre (NamesServer (slice_get (names_of head))) (run_events (cluster_of head) steps)
 runs-name head steps is =
     let few = few-names head is in
-    ((upholds-run (IsDeclared head) (names_told head) (composable head) (parts head few) steps [] (cluster_of head) (names-first head few)).behind tt).named
+    ((upholds-run (IsDeclared head) (names_told head) (composable head) (parts head few) steps []
+    (cluster_of head) (names-first head few)).behind
+    tt).named

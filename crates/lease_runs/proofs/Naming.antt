@@ -1,5 +1,5 @@
--- Servers begin under the names that the head declares. Between the parts of a step messages in flight go from and to declared members,
--- since who hears one acts, and may begin.
+-- Servers begin under the names that the head declares. Between the parts of a step messages
+-- in flight go from and to declared members, since who hears one acts, and may begin.
 use Rattle.std.proofs.Common.{ℕ, ◌≡◌, ◌∙◌, List, [], ◌∷◌, Some, slice_get, sym, subst, arith}
 use Rattle.script_model.specs.Script.{HeadText, names_of}
 use Rattle.event_book.specs.declared.event.Event.{Event}
@@ -45,36 +45,45 @@ own-named head kind own = own
 -- the ends of each are declared, and their numbers rise
 pub record IsDeclaredFlight (head : HeadText) (flight : Flight) : Type 0 where
   pub order : Rises 0 flight
-  pub ends : (i : ℕ) (carried : InFlightFacts) → in_flight flight i ≡ Some carried → HasDeclaredEnds head carried.message
+  pub ends : (i : ℕ) (carried : InFlightFacts) → in_flight flight i ≡ Some carried
+      → HasDeclaredEnds head carried.message
 
 module _ (head : HeadText) where
-  flight-with : (facts : Facts) (number : ℕ) (message : Message) → HasDeclaredEnds head message → IsDeclaredFlight head facts.flight
+  flight-with : (facts : Facts) (number : ℕ) (message : Message) → HasDeclaredEnds head message
+      → IsDeclaredFlight head facts.flight
       → IsDeclaredFlight head (facts_after facts (kinds.Message (Sent number message))).flight
   flight-with facts number message own old =
       let one : InFlightFacts = launched facts.clock facts.keys message in
       record {
         order = rises-with 0 facts.flight number one (omega arith) old.order;
-        ends = λ i c e. put-all (in_flight facts.flight) number (Some one) (λ n o. (c : InFlightFacts) → o ≡ Some c → HasDeclaredEnds head c.message)
-            (λ c is. subst (λ (x : InFlightFacts). HasDeclaredEnds head x.message) (some-is one c is) own) (λ n other c is. old.ends n c is)
+        ends = λ i c e. put-all (in_flight facts.flight) number (Some one)
+            (λ n o. (c : InFlightFacts) → o ≡ Some c → HasDeclaredEnds head c.message)
+            (λ c is. subst (λ (x : InFlightFacts). HasDeclaredEnds head x.message) (some-is one c is) own)
+            (λ n other c is. old.ends n c is)
             i c (sym (in-with facts.flight number one i) ∙ e);
       }
 
-  flight-without : (flight : Flight) (number : ℕ) → IsDeclaredFlight head flight → IsDeclaredFlight head (without_message flight number)
+  flight-without : (flight : Flight) (number : ℕ) → IsDeclaredFlight head flight
+      → IsDeclaredFlight head (without_message flight number)
   flight-without flight number old = record {
     order = rises-without 0 flight number old.order;
-    ends = λ i c e. old.ends i c (dropped (in_flight flight) number i c (sym (in-without 0 flight number i old.order) ∙ e));
+    ends = λ i c e.
+        old.ends i c (dropped (in_flight flight) number i c (sym (in-without 0 flight number i old.order) ∙ e));
   }
 
-  flight-after : (facts : Facts) (kind : EventKind) → IsOwn head kind → IsDeclaredFlight head facts.flight → IsDeclaredFlight head (facts_after facts kind).flight
+  flight-after : (facts : Facts) (kind : EventKind) → IsOwn head kind → IsDeclaredFlight head facts.flight
+      → IsDeclaredFlight head (facts_after facts kind).flight
   flight-after facts (kinds.Message (Sent number message)) own old = flight-with facts number message own old
   flight-after facts (kinds.Message (Delivered number)) own old = flight-without facts.flight number old
   flight-after facts (kinds.Message (Lost number)) own old = flight-without facts.flight number old
   flight-after facts _ own old = old
 
-  flight-over : (cluster : Cluster) (events : List Event) → AllAre (IsOwn head) events → IsDeclaredFlight head cluster.facts.flight
+  flight-over : (cluster : Cluster) (events : List Event) → AllAre (IsOwn head) events
+      → IsDeclaredFlight head cluster.facts.flight
       → IsDeclaredFlight head (cluster_over cluster events).facts.flight
   flight-over cluster [] all old = old
-  flight-over cluster (event ∷ events) all old = flight-over (cluster_after cluster event.kind) events all.1 (flight-after cluster.facts event.kind all.0 old)
+  flight-over cluster (event ∷ events) all old =
+      flight-over (cluster_after cluster event.kind) events all.1 (flight-after cluster.facts event.kind all.0 old)
 
 -- ---- what holds between two parts of a step
 pub record NamesSoFar (head : HeadText) (book : List Event) (cluster : Cluster) : Type 0 where
@@ -90,12 +99,14 @@ pub composable : (head : HeadText) → IsComposable (names_told head)
 composable head = record { front = λ front rest meets. tt; now = λ book cluster good. tt }
 
 -- own events keep what holds between two parts of a step
-pub upheld-own : (head : HeadText) (book : List Event) (cluster : Cluster) (events : List Event) → NamesSoFar head book cluster → AllAre (IsOwn head) events
+pub upheld-own : (head : HeadText) (book : List Event) (cluster : Cluster) (events : List Event)
+    → NamesSoFar head book cluster → AllAre (IsOwn head) events
     → Upholds (names_told head) book cluster events
 upheld-own head book cluster events good all = record {
   inside = λ front rest e meets. tt;
   behind = λ meets. record {
-    named = all-both (NamesServer (slice_get (names_of head))) book events good.named (all-more (IsOwn head) (NamesServer (slice_get (names_of head))) events (own-named head) all);
+    named = all-both (NamesServer (slice_get (names_of head))) book events good.named
+        (all-more (IsOwn head) (NamesServer (slice_get (names_of head))) events (own-named head) all);
     members = members-over cluster events ∙ good.members;
     flight = flight-over head cluster events all good.flight;
   };

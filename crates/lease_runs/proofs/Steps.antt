@@ -34,5 +34,6 @@ parts head few = record {
   commands = λ command book cluster good. kept-command-kind head few book cluster command good;
 }
 
-pub keeps-run : (head : HeadText) → length (names_of head) ≤ MOST_MEMBERS → (steps : List Step) → Keeps head (λ cluster. run_events cluster steps)
+pub keeps-run : (head : HeadText) → length (names_of head) ≤ MOST_MEMBERS → (steps : List Step)
+    → Keeps head (λ cluster. run_events cluster steps)
 keeps-run head few steps = upholds-run (IsDeclared head) (one_writer head) (composable head) (parts head few) steps

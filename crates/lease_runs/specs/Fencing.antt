@@ -20,7 +20,8 @@ pub record HasLeaderKey (cluster : Cluster) (revision : ℕ) : Type 0 where
 
 -- a write that is granted under the lease of a revision finds the leader key as that lease left it
 abbrev pub IsFenced : Cluster → EventKind → Type 0
-IsFenced cluster (kinds.Store (stores.Granted number by txn standbys)) = (revision : ℕ) → ComparesWith Leader revision (compares_of txn) → HasLeaderKey cluster revision
+IsFenced cluster (kinds.Store (stores.Granted number by txn standbys)) =
+    (revision : ℕ) → ComparesWith Leader revision (compares_of txn) → HasLeaderKey cluster revision
 IsFenced cluster _ = Unit {0}
 
 -- each of these events does, at its moment

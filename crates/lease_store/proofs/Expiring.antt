@@ -26,7 +26,9 @@ clash key keys e = absurd (no-key e)
     no-key : key ∷ keys ≡ [] → ⊥
     no-key e = cc
 
-kept-cased : (now : ℕ) (pair : Key × KeyEntry) (pairs : Pairs) (b : Bool) → keys_behind now pair pairs b ≡ [] → (absent_keys now pairs ≡ [] → present_pairs now pairs ≡ pairs) → cond b (pair ∷ present_pairs now pairs) (present_pairs now pairs) ≡ pair ∷ pairs
+kept-cased : (now : ℕ) (pair : Key × KeyEntry) (pairs : Pairs) (b : Bool) → keys_behind now pair pairs b ≡ []
+    → (absent_keys now pairs ≡ [] → present_pairs now pairs ≡ pairs)
+    → cond b (pair ∷ present_pairs now pairs) (present_pairs now pairs) ≡ pair ∷ pairs
 kept-cased now pair pairs true none more = ap (λ (es : Pairs). pair ∷ es) (more none)
 kept-cased now pair pairs false none more = clash pair.0 (keys_of_pairs (gone now pairs)) none
 
@@ -43,16 +45,20 @@ none-cased (key ∷ keys) h = absurd (no-way (h (λ e. clash key keys e)))
     no-way e = cc
 
 -- where it is false that a key is absent, all are present
-pub all-present : (now : ℕ) (pairs : Pairs) → (absent_keys now pairs ≢ [] → false ≡ true) → present_pairs now pairs ≡ pairs
+pub all-present : (now : ℕ) (pairs : Pairs) → (absent_keys now pairs ≢ [] → false ≡ true)
+    → present_pairs now pairs ≡ pairs
 all-present now pairs h = all-kept now pairs (none-cased (absent_keys now pairs) h)
 
 -- one that is present is none of the absent ones
-past-present : (now : ℕ) (pair : Key × KeyEntry) (pairs : Pairs) → is_present now pair.1.expiry ≡ true → absent_keys now (pair ∷ pairs) ≡ absent_keys now pairs
+past-present : (now : ℕ) (pair : Key × KeyEntry) (pairs : Pairs) → is_present now pair.1.expiry ≡ true
+    → absent_keys now (pair ∷ pairs) ≡ absent_keys now pairs
 past-present now pair pairs is = ap (keys_behind now pair pairs) is
 
 -- one that is absent is among them
-some-absent : (now : ℕ) (pair : Key × KeyEntry) (pairs : Pairs) → is_present now pair.1.expiry ≡ false → absent_keys now (pair ∷ pairs) ≢ []
-some-absent now pair pairs is none = clash pair.0 (keys_of_pairs (gone now pairs)) (sym (ap (keys_behind now pair pairs) is) ∙ none)
+some-absent : (now : ℕ) (pair : Key × KeyEntry) (pairs : Pairs) → is_present now pair.1.expiry ≡ false
+    → absent_keys now (pair ∷ pairs) ≢ []
+some-absent now pair pairs is none =
+    clash pair.0 (keys_of_pairs (gone now pairs)) (sym (ap (keys_behind now pair pairs) is) ∙ none)
 
 -- ---- the first that ends
 -- when the first one ends of those of all that are not left, but at most a given moment
@@ -77,25 +83,37 @@ less-from : (a b : ℕ) → nat_lt a b ≡ true → a < b
 less-from a b h = grind (arith, nat_tests)
 
 -- it stays behind one that doesn't end before
-first-stays : (all left : Pairs) (pair : Key × KeyEntry) (most first : ℕ) → ((now : ℕ) → now < first → is_present now pair.1.expiry ≡ true) → IsFirst all (pair ∷ left) most first → IsFirst all left most first
+first-stays : (all left : Pairs) (pair : Key × KeyEntry) (most first : ℕ)
+    → ((now : ℕ) → now < first → is_present now pair.1.expiry ≡ true) → IsFirst all (pair ∷ left) most first
+    → IsFirst all left most first
 first-stays all left pair most first lasts is = record {
   within = is.within;
   before = λ now h. sym (past-present now pair left (lasts now h)) ∙ is.before now h;
   least = is.least;
 }
 
-pub first-lasting : (all left : Pairs) (pair : Key × KeyEntry) (most first : ℕ) → pair.1.expiry ≡ None → IsFirst all (pair ∷ left) most first → IsFirst all left most first
-first-lasting all left pair most first none is = first-stays all left pair most first (λ now h. ap (is_present now) none) is
+pub first-lasting : (all left : Pairs) (pair : Key × KeyEntry) (most first : ℕ) → pair.1.expiry ≡ None
+    → IsFirst all (pair ∷ left) most first → IsFirst all left most first
+first-lasting all left pair most first none is =
+    first-stays all left pair most first (λ now h. ap (is_present now) none) is
 
-pub first-later : (all left : Pairs) (pair : Key × KeyEntry) (most first : ℕ) (expiry : Ticks) → pair.1.expiry ≡ Some expiry → nat_lt expiry.0 first ≡ false → IsFirst all (pair ∷ left) most first → IsFirst all left most first
+pub first-later : (all left : Pairs) (pair : Key × KeyEntry) (most first : ℕ) (expiry : Ticks)
+    → pair.1.expiry ≡ Some expiry → nat_lt expiry.0 first ≡ false → IsFirst all (pair ∷ left) most first
+    → IsFirst all left most first
 first-later all left pair most first expiry at late is =
     first-stays all left pair most first (λ now h. ap (is_present now) at ∙ present-before now expiry.0 first late h) is
 
-pub first-earlier : (all left : Pairs) (pair : Key × KeyEntry) (most first : ℕ) (expiry : Ticks) → pair.1.expiry ≡ Some expiry → nat_lt expiry.0 first ≡ true → IsFirst all (pair ∷ left) most first → IsFirst all left most expiry.0
+pub first-earlier : (all left : Pairs) (pair : Key × KeyEntry) (most first : ℕ) (expiry : Ticks)
+    → pair.1.expiry ≡ Some expiry → nat_lt expiry.0 first ≡ true → IsFirst all (pair ∷ left) most first
+    → IsFirst all left most expiry.0
 first-earlier all left pair most first expiry at early is =
     let less : expiry.0 < first = less-from expiry.0 first early in
     record {
       within = omega (arith, less, is.within);
-      before = λ now h. sym (past-present now pair left (ap (is_present now) at ∙ present-before now expiry.0 expiry.0 (ended-at expiry.0) h)) ∙ is.before now (omega (arith, h, less));
-      least = λ h. subst (λ (keys : List Key). keys ≢ []) (is.before expiry.0 less) (some-absent expiry.0 pair left (ap (is_present expiry.0) at ∙ ended-at expiry.0));
+      before = λ now h.
+          sym (past-present now pair left
+          (ap (is_present now) at ∙ present-before now expiry.0 expiry.0 (ended-at expiry.0) h))
+          ∙ is.before now (omega (arith, h, less));
+      least = λ h. subst (λ (keys : List Key). keys ≢ []) (is.before expiry.0 less)
+          (some-absent expiry.0 pair left (ap (is_present expiry.0) at ∙ ended-at expiry.0));
     }

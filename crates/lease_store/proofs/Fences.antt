@@ -39,51 +39,80 @@ later-none revision = record { above = λ stored h. absurd (never stored h) }
     never stored h = cc
 
 later-some : (revision : ℕ) (stored : KeyEntry) → revision < stored.revision → Later revision (Some stored)
-later-some revision stored h = record { above = λ other is. subst (λ (n : ℕ). revision < n) (revision-of stored other is) h }
+later-some revision stored h = record {
+  above = λ other is. subst (λ (n : ℕ). revision < n) (revision-of stored other is) h;
+}
 
-later-cond : (revision : ℕ) (b : Bool) (stored : KeyEntry) (found : Option KeyEntry) → revision < stored.revision → Later revision found → Later revision (cond b (Some stored) found)
+later-cond : (revision : ℕ) (b : Bool) (stored : KeyEntry) (found : Option KeyEntry)
+    → revision < stored.revision → Later revision found → Later revision (cond b (Some stored) found)
 later-cond revision true stored found h old = later-some revision stored h
 later-cond revision false stored found h old = old
 
-later-left : (revision : ℕ) (b : Bool) (found : Option KeyEntry) → Later revision found → Later revision (cond b found None)
+later-left : (revision : ℕ) (b : Bool) (found : Option KeyEntry) → Later revision found
+    → Later revision (cond b found None)
 later-left revision true found old = old
 later-left revision false found old = later-none revision
 
-later-put : (revision : ℕ) (key : Key) (stored : KeyEntry) (es : List (Key × KeyEntry)) → revision < stored.revision → Later revision (find key_cmp keys.Leader es) → Later revision (find key_cmp keys.Leader (put key_cmp key stored es))
-later-put revision key stored es h old = subst (Later revision) (sym (find_put keys.Leader key stored es)) (later-cond revision (eq_by_cmp key_cmp keys.Leader key) stored (find key_cmp keys.Leader es) h old)
+later-put : (revision : ℕ) (key : Key) (stored : KeyEntry) (es : List (Key × KeyEntry))
+    → revision < stored.revision → Later revision (find key_cmp keys.Leader es)
+    → Later revision (find key_cmp keys.Leader (put key_cmp key stored es))
+later-put revision key stored es h old = subst (Later revision) (sym (find_put keys.Leader key stored es))
+    (later-cond revision (eq_by_cmp key_cmp keys.Leader key) stored (find key_cmp keys.Leader es) h old)
 
-later-pairs_extended : (revision by until : ℕ) (key : Key) (es : List (Key × KeyEntry)) (found : Option KeyEntry) → revision < by → Later revision (find key_cmp keys.Leader es) → Later revision (find key_cmp keys.Leader (pairs_extended by until es key found))
+later-pairs_extended : (revision by until : ℕ) (key : Key) (es : List (Key × KeyEntry)) (found : Option KeyEntry)
+    → revision < by → Later revision (find key_cmp keys.Leader es)
+    → Later revision (find key_cmp keys.Leader (pairs_extended by until es key found))
 later-pairs_extended revision by until key es None h old = old
-later-pairs_extended revision by until key es (Some stored) h old = later-put revision key (record stored { revision = by; expiry = extended_expiry until stored.expiry }) es h old
+later-pairs_extended revision by until key es (Some stored) h old =
+    later-put revision key (record stored { revision = by; expiry = extended_expiry until stored.expiry }) es h old
 
-later-without : (revision : ℕ) (key : Key) (es : List (Key × KeyEntry)) → Later revision (find key_cmp keys.Leader es) → Later revision (find key_cmp keys.Leader (without key es))
-later-without revision key es old = subst (Later revision) (sym (find_without keys.Leader key es)) (later-left revision (not (eq_by_cmp key_cmp key keys.Leader)) (find key_cmp keys.Leader es) old)
+later-without : (revision : ℕ) (key : Key) (es : List (Key × KeyEntry))
+    → Later revision (find key_cmp keys.Leader es) → Later revision (find key_cmp keys.Leader (without key es))
+later-without revision key es old = subst (Later revision) (sym (find_without keys.Leader key es))
+    (later-left revision (not (eq_by_cmp key_cmp key keys.Leader)) (find key_cmp keys.Leader es) old)
 
-later-pairs_after : (revision by now : ℕ) (write : Write) (es : List (Key × KeyEntry)) → revision < by → Later revision (find key_cmp keys.Leader es) → Later revision (find key_cmp keys.Leader (pairs_after by now es write))
-later-pairs_after revision by now (Sets key value) es h old = later-put revision key (record { value = value; revision = by; expiry = None }) es h old
-later-pairs_after revision by now (Leases key value ttl) es h old = later-put revision key (record { value = value; revision = by; expiry = Some (record { 0 = now + ttl.0 }) }) es h old
-later-pairs_after revision by now (Extends key ttl) es h old = later-pairs_extended revision by (now + ttl.0) key es (find key_cmp key es) h old
+later-pairs_after : (revision by now : ℕ) (write : Write) (es : List (Key × KeyEntry)) → revision < by
+    → Later revision (find key_cmp keys.Leader es)
+    → Later revision (find key_cmp keys.Leader (pairs_after by now es write))
+later-pairs_after revision by now (Sets key value) es h old =
+    later-put revision key (record { value = value; revision = by; expiry = None }) es h old
+later-pairs_after revision by now (Leases key value ttl) es h old = later-put revision key
+    (record { value = value; revision = by; expiry = Some (record { 0 = now + ttl.0 }) }) es h old
+later-pairs_after revision by now (Extends key ttl) es h old =
+    later-pairs_extended revision by (now + ttl.0) key es (find key_cmp key es) h old
 later-pairs_after revision by now (Deletes key) es h old = later-without revision key es old
 
-later-all : (revision by now : ℕ) (writes : List Write) (es : List (Key × KeyEntry)) → revision < by → Later revision (find key_cmp keys.Leader es) → Later revision (find key_cmp keys.Leader (pairs_over by now es writes))
+later-all : (revision by now : ℕ) (writes : List Write) (es : List (Key × KeyEntry)) → revision < by
+    → Later revision (find key_cmp keys.Leader es)
+    → Later revision (find key_cmp keys.Leader (pairs_over by now es writes))
 later-all revision by now [] es h old = old
-later-all revision by now (write ∷ writes) es h old = later-all revision by now writes (pairs_after by now es write) h (later-pairs_after revision by now write es h old)
+later-all revision by now (write ∷ writes) es h old =
+    later-all revision by now writes (pairs_after by now es write) h (later-pairs_after revision by now write es h old)
 
 -- ---- a granted lease
-later-lease : (revision : ℕ) (stored : KeyEntry) (es : List (Key × KeyEntry)) → revision < stored.revision → Later revision (find key_cmp keys.Leader (put key_cmp keys.Leader stored es))
-later-lease revision stored es h = subst (Later revision) (sym (find_put keys.Leader keys.Leader stored es)) (later-some revision stored h)
+later-lease : (revision : ℕ) (stored : KeyEntry) (es : List (Key × KeyEntry)) → revision < stored.revision
+    → Later revision (find key_cmp keys.Leader (put key_cmp keys.Leader stored es))
+later-lease revision stored es h =
+    subst (Later revision) (sym (find_put keys.Leader keys.Leader stored es)) (later-some revision stored h)
 
-later-renewal : (revision by until : ℕ) (es : List (Key × KeyEntry)) (found : Option KeyEntry) → find key_cmp keys.Leader es ≡ found → revision < by → Later revision (find key_cmp keys.Leader (pairs_extended by until es keys.Leader found))
+later-renewal : (revision by until : ℕ) (es : List (Key × KeyEntry)) (found : Option KeyEntry)
+    → find key_cmp keys.Leader es ≡ found → revision < by
+    → Later revision (find key_cmp keys.Leader (pairs_extended by until es keys.Leader found))
 later-renewal revision by until es None is h = subst (Later revision) (sym is) (later-none revision)
-later-renewal revision by until es (Some stored) is h = later-lease revision (record stored { revision = by; expiry = extended_expiry until stored.expiry }) es h
+later-renewal revision by until es (Some stored) is h =
+    later-lease revision (record stored { revision = by; expiry = extended_expiry until stored.expiry }) es h
 
-later-leased : (revision by now : ℕ) (member : MemberId) (txn : Txn) (es : List (Key × KeyEntry)) → is_lease txn ≡ true → revision < by → Later revision (find key_cmp keys.Leader (pairs_over by now es (writes_of member txn)))
+later-leased : (revision by now : ℕ) (member : MemberId) (txn : Txn) (es : List (Key × KeyEntry)) → is_lease txn ≡ true
+    → revision < by → Later revision (find key_cmp keys.Leader (pairs_over by now es (writes_of member txn)))
 later-leased revision by now member (txns.Create info ttl failsafe sync) es is h =
-    let stored : KeyEntry = record { value = values.Leader member; revision = by; expiry = Some (record { 0 = now + ttl.0 }) } in
-    later-all revision by now (Leases (keys.Member member) (values.Member info) ttl ∷ []) (put key_cmp keys.Leader stored es) h (later-lease revision stored es h)
+    let stored : KeyEntry =
+    record { value = values.Leader member; revision = by; expiry = Some (record { 0 = now + ttl.0 }) } in
+    later-all revision by now (Leases (keys.Member member) (values.Member info) ttl ∷ [])
+    (put key_cmp keys.Leader stored es) h (later-lease revision stored es h)
 later-leased revision by now member (txns.Renew compared info ttl status row failsafe) es is h =
     later-all revision by now
-    (Leases (keys.Member member) (values.Member info) ttl ∷ (status_writes status ++ (row_writes row ++ failsafe_writes failsafe)))
+    (Leases (keys.Member member) (values.Member info) ttl
+    ∷ (status_writes status ++ (row_writes row ++ failsafe_writes failsafe)))
     (pairs_extended by (now + ttl.0) es keys.Leader (find key_cmp keys.Leader es)) h
     (later-renewal revision by (now + ttl.0) es (find key_cmp keys.Leader es) refl h)
 later-leased revision by now member _ es is h = absurd (never is)
@@ -98,34 +127,45 @@ pub record Fenced (revision : ℕ) (store : Keys) : Type 0 where
   pub counted : revision ≤ store.revision
   pub leader : Later revision (find key_cmp keys.Leader store.pairs)
 
-fenced-granted : (revision : ℕ) (store : Keys) (request : StoreRequest) → Fenced revision store → Fenced revision (keys_after_grant store request.at request.by request.txn)
+fenced-granted : (revision : ℕ) (store : Keys) (request : StoreRequest) → Fenced revision store
+    → Fenced revision (keys_after_grant store request.at request.by request.txn)
 fenced-granted revision store request f = record {
   kept = kept_after (store.revision + 1) request.at request.by request.txn store.pairs f.kept;
   counted = omega (arith, f.counted);
-  leader = later-all revision (store.revision + 1) request.at (writes_of request.by request.txn) store.pairs (omega (arith, f.counted)) f.leader;
+  leader = later-all revision (store.revision + 1) request.at (writes_of request.by request.txn) store.pairs
+      (omega (arith, f.counted)) f.leader;
 }
 
-fenced-keys_by_decision : (revision : ℕ) (store : Keys) (request : StoreRequest) (decision : Decision) → Fenced revision store → Fenced revision (keys_by_decision decision store request)
+fenced-keys_by_decision : (revision : ℕ) (store : Keys) (request : StoreRequest) (decision : Decision)
+    → Fenced revision store → Fenced revision (keys_by_decision decision store request)
 fenced-keys_by_decision revision store request Grant f = fenced-granted revision store request f
 fenced-keys_by_decision revision store request (Refusal key found) f = f
 
 later-present : (revision now : ℕ) (found : Option KeyEntry) → Later revision found → Later revision (present now found)
-later-present revision now found old = record { above = λ stored h. old.above stored (present_found now found stored h) }
+later-present revision now found old = record {
+  above = λ stored h. old.above stored (present_found now found stored h);
+}
 
-fenced-keys_after_call : (revision : ℕ) (store : Keys) (call : Call) → Fenced revision store → Fenced revision (keys_after_call store call)
-fenced-keys_after_call revision store (Asks request) f = fenced-keys_by_decision revision store request (decision_on store request.at request.txn) f
+fenced-keys_after_call : (revision : ℕ) (store : Keys) (call : Call) → Fenced revision store
+    → Fenced revision (keys_after_call store call)
+fenced-keys_after_call revision store (Asks request) f =
+    fenced-keys_by_decision revision store request (decision_on store request.at request.txn) f
 fenced-keys_after_call revision store (Drops now) f = record {
   kept = kept_present now store.pairs f.kept;
   counted = f.counted;
-  leader = subst (Later revision) (sym (find_present now keys.Leader store.pairs f.kept.order)) (later-present revision now (find key_cmp keys.Leader store.pairs) f.leader);
+  leader = subst (Later revision) (sym (find_present now keys.Leader store.pairs f.kept.order))
+      (later-present revision now (find key_cmp keys.Leader store.pairs) f.leader);
 }
 
-fenced-states : (revision : ℕ) (store : Keys) (calls : List Call) → Fenced revision store → Fenced revision (keys_over store calls)
+fenced-states : (revision : ℕ) (store : Keys) (calls : List Call) → Fenced revision store
+    → Fenced revision (keys_over store calls)
 fenced-states revision store [] f = f
-fenced-states revision store (call ∷ calls) f = fenced-states revision (keys_after_call store call) calls (fenced-keys_after_call revision store call f)
+fenced-states revision store (call ∷ calls) f =
+    fenced-states revision (keys_after_call store call) calls (fenced-keys_after_call revision store call f)
 
 -- ---- a transaction that compares an earlier revision
-decision_if-both : (b : Bool) (key : Key) (found : Expected) (rest : Decision) → decision_if b key found rest ≡ Grant → (b ≡ true) × (rest ≡ Grant)
+decision_if-both : (b : Bool) (key : Key) (found : Expected) (rest : Decision)
+    → decision_if b key found rest ≡ Grant → (b ≡ true) × (rest ≡ Grant)
 decision_if-both true key found rest h = (refl, h)
 decision_if-both false key found rest h = absurd (never h)
   where
@@ -142,26 +182,34 @@ as-expected Absent (Revision b) h = cc
 as-expected (Revision a) Absent h = cc
 
 -- what a granted transaction compares is what is found
-granted-finds : (es : List (Key × KeyEntry)) (now : ℕ) (key : Key) (revision : ℕ) (compares : List (Key × Expected)) → decision_by es now compares ≡ Grant → ComparesWith key revision compares → found_in (key_in es now key) ≡ Revision revision
+granted-finds : (es : List (Key × KeyEntry)) (now : ℕ) (key : Key) (revision : ℕ) (compares : List (Key × Expected))
+    → decision_by es now compares ≡ Grant → ComparesWith key revision compares
+    → found_in (key_in es now key) ≡ Revision revision
 granted-finds es now key revision [] grant with_key = absurd with_key
 granted-finds es now key revision (compare ∷ compares) grant with_key =
-    let parts = decision_if-both (is_as_expected compare.1 (found_in (key_in es now compare.0))) compare.0 (found_in (key_in es now compare.0)) (decision_by es now compares) grant in
+    let parts = decision_if-both (is_as_expected compare.1 (found_in (key_in es now compare.0))) compare.0
+    (found_in (key_in es now compare.0)) (decision_by es now compares) grant in
     elim with_key [
-      | inl is ↦ ap (λ (c : Key × Expected). found_in (key_in es now c.0)) (sym is) ∙ sym (as-expected compare.1 (found_in (key_in es now compare.0)) parts.0) ∙ ap (λ (c : Key × Expected). c.1) is
+      | inl is ↦ ap (λ (c : Key × Expected). found_in (key_in es now c.0)) (sym is)
+          ∙ sym (as-expected compare.1 (found_in (key_in es now compare.0)) parts.0)
+          ∙ ap (λ (c : Key × Expected). c.1) is
       | inr more ↦ granted-finds es now key revision compares parts.1 more
     ]
 
-found-later : (revision earlier : ℕ) (found : Option KeyEntry) → Later revision found → found_in found ≡ Revision earlier → revision < earlier
+found-later : (revision earlier : ℕ) (found : Option KeyEntry) → Later revision found
+    → found_in found ≡ Revision earlier → revision < earlier
 found-later revision earlier None old is = absurd (never is)
   where
     never : Absent ≡ Revision earlier → ⊥
     never h = cc
-found-later revision earlier (Some stored) old is = subst (λ (n : ℕ). revision < n) (same stored.revision earlier is) (old.above stored refl)
+found-later revision earlier (Some stored) old is =
+    subst (λ (n : ℕ). revision < n) (same stored.revision earlier is) (old.above stored refl)
   where
     same : (a b : ℕ) → Revision a ≡ Revision b → a ≡ b
     same a b h = cc
 
-pub not_granted : (revision earlier : ℕ) (store : Keys) (late : StoreRequest) → Fenced revision store → earlier ≤ revision → ComparesWith keys.Leader earlier (compares_of late.txn) → ¬ IsGranted store late
+pub not_granted : (revision earlier : ℕ) (store : Keys) (late : StoreRequest) → Fenced revision store
+    → earlier ≤ revision → ComparesWith keys.Leader earlier (compares_of late.txn) → ¬ IsGranted store late
 not_granted revision earlier store late f le compares granted =
     let lt = found-later revision earlier (key_in store.pairs late.at keys.Leader)
     (later-present revision late.at (find key_cmp keys.Leader store.pairs) f.leader)
@@ -171,48 +219,60 @@ not_granted revision earlier store late f le compares granted =
     apart : revision < earlier → earlier ≤ revision → ⊥
     apart lt le = omega arith
 
-fenced-lease : (store : Keys) (lease : StoreRequest) (decision : Decision) → IsKept store.pairs → is_lease lease.txn ≡ true → decision ≡ Grant → Fenced store.revision (keys_by_decision decision store lease)
+fenced-lease : (store : Keys) (lease : StoreRequest) (decision : Decision) → IsKept store.pairs
+    → is_lease lease.txn ≡ true → decision ≡ Grant → Fenced store.revision (keys_by_decision decision store lease)
 fenced-lease store lease Grant kept leases granted = record {
   kept = kept_after (store.revision + 1) lease.at lease.by lease.txn store.pairs kept;
   counted = omega arith;
-  leader = later-leased store.revision (store.revision + 1) lease.at lease.by lease.txn store.pairs leases (omega arith);
+  leader =
+      later-leased store.revision (store.revision + 1) lease.at lease.by lease.txn store.pairs leases (omega arith);
 }
 fenced-lease store lease (Refusal key found) kept leases granted = absurd (never granted)
   where
     never : Refusal key found ≡ Grant → ⊥
     never h = cc
 
-pub fenced_off : (store : Keys) (lease late : StoreRequest) (calls : List Call) (revision : ℕ) → IsKept store.pairs → is_lease lease.txn ≡ true → IsGranted store lease → ComparesWith keys.Leader revision (compares_of late.txn) → revision ≤ store.revision → ¬ IsGranted (keys_over (keys_after_request store lease) calls) late
+pub fenced_off : (store : Keys) (lease late : StoreRequest) (calls : List Call) (revision : ℕ) → IsKept store.pairs
+    → is_lease lease.txn ≡ true → IsGranted store lease → ComparesWith keys.Leader revision (compares_of late.txn)
+    → revision ≤ store.revision → ¬ IsGranted (keys_over (keys_after_request store lease) calls) late
 fenced_off store lease late calls revision kept leases granted compares earlier =
     not_granted store.revision revision (keys_over (keys_after_request store lease) calls) late
-    (fenced-states store.revision (keys_after_request store lease) calls (fenced-lease store lease (decision_on store lease.at lease.txn) kept leases granted))
+    (fenced-states store.revision (keys_after_request store lease) calls
+    (fenced-lease store lease (decision_on store lease.at lease.txn) kept leases granted))
     earlier compares
 
 -- ---- runs
-kept-keys_by_decision : (store : Keys) (request : StoreRequest) (decision : Decision) → IsKept store.pairs → IsKept (keys_by_decision decision store request).pairs
-kept-keys_by_decision store request Grant kept = kept_after (store.revision + 1) request.at request.by request.txn store.pairs kept
+kept-keys_by_decision : (store : Keys) (request : StoreRequest) (decision : Decision) → IsKept store.pairs
+    → IsKept (keys_by_decision decision store request).pairs
+kept-keys_by_decision store request Grant kept =
+    kept_after (store.revision + 1) request.at request.by request.txn store.pairs kept
 kept-keys_by_decision store request (Refusal key found) kept = kept
 
 kept-keys_after_call : (store : Keys) (call : Call) → IsKept store.pairs → IsKept (keys_after_call store call).pairs
-kept-keys_after_call store (Asks request) kept = kept-keys_by_decision store request (decision_on store request.at request.txn) kept
+kept-keys_after_call store (Asks request) kept =
+    kept-keys_by_decision store request (decision_on store request.at request.txn) kept
 kept-keys_after_call store (Drops now) kept = kept_present now store.pairs kept
 
 -- every run keeps what holds of the pairs of a store
 pub kept_states : (store : Keys) (calls : List Call) → IsKept store.pairs → IsKept (keys_over store calls).pairs
 kept_states store [] kept = kept
-kept_states store (call ∷ calls) kept = kept_states (keys_after_call store call) calls (kept-keys_after_call store call kept)
+kept_states store (call ∷ calls) kept =
+    kept_states (keys_after_call store call) calls (kept-keys_after_call store call kept)
 
 pub kept_first : (config : Settings) → IsKept (first_keys config).pairs
 kept_first config = record { order = refl; kinds = (tt, tt); config = refl }
 
-grows-keys_by_decision : (store : Keys) (request : StoreRequest) (decision : Decision) → store.revision ≤ (keys_by_decision decision store request).revision
+grows-keys_by_decision : (store : Keys) (request : StoreRequest) (decision : Decision)
+    → store.revision ≤ (keys_by_decision decision store request).revision
 grows-keys_by_decision store request Grant = omega arith
 grows-keys_by_decision store request (Refusal key found) = omega arith
 
 grows-keys_after_call : (store : Keys) (call : Call) → store.revision ≤ (keys_after_call store call).revision
-grows-keys_after_call store (Asks request) = grows-keys_by_decision store request (decision_on store request.at request.txn)
+grows-keys_after_call store (Asks request) =
+    grows-keys_by_decision store request (decision_on store request.at request.txn)
 grows-keys_after_call store (Drops now) = omega arith
 
 pub grows_states : (store : Keys) (calls : List Call) → store.revision ≤ (keys_over store calls).revision
 grows_states store [] = omega arith
-grows_states store (call ∷ calls) = omega (arith, grows-keys_after_call store call, grows_states (keys_after_call store call) calls)
+grows_states store (call ∷ calls) =
+    omega (arith, grows-keys_after_call store call, grows_states (keys_after_call store call) calls)

@@ -1,4 +1,5 @@
--- Pairs that are put in the order of their keys: they keep their kinds, and what is found at a key; and pairs in that order stay.
+-- Pairs that are put in the order of their keys: they keep their
+-- kinds, and what is found at a key; and pairs in that order stay.
 use Rattle.std.proofs.Common.{◌≡◌, ◌++◌, List, [], ◌∷◌, Option, Some, None, IsTrue, refl, ap, ◌∙◌, cond, true}
 use Rattle.std.specs.declared.cmp.Ordering.{Ordering}
 use Rattle.std.specs.declared.cmp.Ordering.TheVariants.{Less, Equal, Greater}
@@ -25,7 +26,8 @@ kinds-in_key_order (e ∷ es) k = kinds-put e.0 e.1 (in_key_order es) k.0 (kinds
 -- what is found at a key is what was
 pub find-in_key_order : (q : Key) (es : List (Key × KeyEntry)) → find key_cmp q (in_key_order es) ≡ find key_cmp q es
 find-in_key_order q [] = refl
-find-in_key_order q (e ∷ es) = find_put q e.0 e.1 (in_key_order es) ∙ ap (λ (found : Option KeyEntry). cond (eq_by_cmp key_cmp q e.0) (Some e.1) found) (find-in_key_order q es)
+find-in_key_order q (e ∷ es) = find_put q e.0 e.1 (in_key_order es)
+    ∙ ap (λ (found : Option KeyEntry). cond (eq_by_cmp key_cmp q e.0) (Some e.1) found) (find-in_key_order q es)
 
 -- ---- pairs in that order
 less : (o : Ordering) → is_lt o ≡ true → o ≡ Less
@@ -33,9 +35,11 @@ less Less h = refl
 less Equal h = cc
 less Greater h = cc
 
-put-front : (e : Key × KeyEntry) (es : List (Key × KeyEntry)) → below_all key_cmp e.0 es ≡ true → put key_cmp e.0 e.1 es ≡ e ∷ es
+put-front : (e : Key × KeyEntry) (es : List (Key × KeyEntry)) → below_all key_cmp e.0 es ≡ true
+    → put key_cmp e.0 e.1 es ≡ e ∷ es
 put-front e [] h = refl
-put-front e (f ∷ es) h = ap (λ (o : Ordering). by_order o (e ∷ f ∷ es) ((f.0, e.1) ∷ es) (f ∷ put key_cmp e.0 e.1 es)) (less _ (and_parts (is_lt (key_cmp e.0 f.0)) (below_all key_cmp e.0 es) h).0)
+put-front e (f ∷ es) h = ap (λ (o : Ordering). by_order o (e ∷ f ∷ es) ((f.0, e.1) ∷ es) (f ∷ put key_cmp e.0 e.1 es))
+    (less _ (and_parts (is_lt (key_cmp e.0 f.0)) (below_all key_cmp e.0 es) h).0)
 
 pub in_key_order-sorted : (es : List (Key × KeyEntry)) → IsTrue (is_sorted key_cmp es) → in_key_order es ≡ es
 in_key_order-sorted [] h = refl
@@ -47,11 +51,13 @@ in_key_order-sorted (e ∷ es) h =
 lt-from : (o : Ordering) → o ≡ Less → is_lt o ≡ true
 lt-from o e = ap is_lt e
 
-below-more : (low high : Key) (es : List (Key × KeyEntry)) → key_cmp low high ≡ Less → below_all key_cmp high es ≡ true → below_all key_cmp low es ≡ true
+below-more : (low high : Key) (es : List (Key × KeyEntry)) → key_cmp low high ≡ Less
+    → below_all key_cmp high es ≡ true → below_all key_cmp low es ≡ true
 below-more low high [] h below = refl
 below-more low high (e ∷ es) h below =
     let p = and_parts (is_lt (key_cmp high e.0)) (below_all key_cmp high es) below in
-    and_from (is_lt (key_cmp low e.0)) (below_all key_cmp low es) (lt-from _ (keys_total.trans low high e.0 h (less _ p.0))) (below-more low high es h p.1)
+    and_from (is_lt (key_cmp low e.0)) (below_all key_cmp low es)
+    (lt-from _ (keys_total.trans low high e.0 h (less _ p.0))) (below-more low high es h p.1)
 
 record Risen (last : Key) (es : List (Key × KeyEntry)) : Type 0 where
   pub below : below_all key_cmp last es ≡ true
@@ -64,7 +70,8 @@ risen last (e ∷ es) h =
     let more : Risen e.0 es = risen e.0 es p.1 in
     let first : key_cmp last e.0 ≡ Less = less _ p.0 in
     record {
-      below = and_from (is_lt (key_cmp last e.0)) (below_all key_cmp last es) p.0 (below-more last e.0 es first more.below);
+      below =
+          and_from (is_lt (key_cmp last e.0)) (below_all key_cmp last es) p.0 (below-more last e.0 es first more.below);
       sorted = and_from (below_all key_cmp e.0 es) (is_sorted key_cmp es) more.below more.sorted;
     }
 
@@ -87,6 +94,7 @@ pub put_all-none : (es : List (Key × KeyEntry)) → put_all [] es ≡ in_key_or
 put_all-none [] = refl
 put_all-none (e ∷ es) = ap (put key_cmp e.0 e.1) (put_all-none es)
 
-pub put_all-last : (ordered es : List (Key × KeyEntry)) (e : Key × KeyEntry) → put_all ordered (es ++ e ∷ []) ≡ put_all (put key_cmp e.0 e.1 ordered) es
+pub put_all-last : (ordered es : List (Key × KeyEntry)) (e : Key × KeyEntry)
+    → put_all ordered (es ++ e ∷ []) ≡ put_all (put key_cmp e.0 e.1 ordered) es
 put_all-last ordered [] e = refl
 put_all-last ordered (f ∷ es) e = ap (put key_cmp f.0 f.1) (put_all-last ordered es e)

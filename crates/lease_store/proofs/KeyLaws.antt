@@ -11,12 +11,14 @@ use Rattle.store_keys.specs.declared.key.Key.TheVariants.{Leader, Config, Member
 use Rattle.lease_store.specs.KeyOrder.{key_rank_of, key_number_of, key_cmp}
 use Rattle.pat_base.specs.declared.member_id.TheConstants.{MOST_MEMBERS}
 
-alike : (k : ℕ) (p q : k < MOST_MEMBERS) → ◌≡◌ {A = MemberId} (record { number = k; below = p }) (record { number = k; below = q })
+alike : (k : ℕ) (p q : k < MOST_MEMBERS)
+    → ◌≡◌ {A = MemberId} (record { number = k; below = p }) (record { number = k; below = q })
 alike k p q = ap (λ (x : k < MOST_MEMBERS). record { number = k; below = x }) (le_prop p q)
 
 -- members of one number are one
 pub same_member : (m n : MemberId) → m.number ≡ n.number → m ≡ n
-same_member m n e = subst (λ (k : ℕ). (q : k < MOST_MEMBERS) → ◌≡◌ {A = MemberId} m (record { number = k; below = q })) e (λ q. alike m.number m.below q) n.below
+same_member m n e = subst (λ (k : ℕ). (q : k < MOST_MEMBERS) → ◌≡◌ {A = MemberId} m (record { number = k; below = q }))
+    e (λ q. alike m.number m.below q) n.below
 
 same_parts : (a b : Key) → key_rank_of a ≡ key_rank_of b → key_number_of a ≡ key_number_of b → a ≡ b
 same_parts Leader Leader p q = refl
@@ -35,5 +37,6 @@ keys_total = then_total (on_total key_rank_of nat_cmp_total) (on_total key_numbe
 -- keys that compare alike are one
 pub keys_exact : CmpEqualImpliesEq key_cmp
 keys_exact a b h =
-    let e = exact_pairs nat_cmp nat_cmp exact_unsigned exact_unsigned (key_rank_of a, key_number_of a) (key_rank_of b, key_number_of b) h in
+    let e = exact_pairs nat_cmp nat_cmp exact_unsigned exact_unsigned (key_rank_of a, key_number_of a)
+    (key_rank_of b, key_number_of b) h in
     same_parts a b (ap (λ (p : ℕ × ℕ). p.0) e) (ap (λ (p : ℕ × ℕ). p.1) e)

@@ -17,7 +17,8 @@ compare_if key (Some expected) = (key, expected) ∷ []
 -- what a transaction compares, in this order
 abbrev pub compares_of : Txn → List (Key × Expected)
 compares_of (txns.Touch info ttl) = []
-compares_of (txns.Create info ttl failsafe sync) = (keys.Leader, Absent) ∷ (compare_if keys.Failsafe failsafe ++ compare_if keys.Sync sync)
+compares_of (txns.Create info ttl failsafe sync) =
+    (keys.Leader, Absent) ∷ (compare_if keys.Failsafe failsafe ++ compare_if keys.Sync sync)
 compares_of (txns.Renew revision info ttl status row failsafe) = (keys.Leader, Revision revision) ∷ []
 compares_of (txns.Release revision) = (keys.Leader, Revision revision) ∷ []
 compares_of (txns.Claim revision sync) = (keys.Leader, Revision revision) ∷ (keys.Sync, sync) ∷ []

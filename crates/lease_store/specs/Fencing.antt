@@ -47,4 +47,5 @@ keys_over store (call ∷ calls) = keys_over (keys_after_call store call) calls
 -- one of these compares expects this revision at the key
 abbrev pub ComparesWith : Key → ℕ → List (Key × Expected) → Type 0
 ComparesWith key revision [] = ⊥
-ComparesWith key revision (compare ∷ compares) = (compare ≡ (key, Revision revision)) ⊎ ComparesWith key revision compares
+ComparesWith key revision (compare ∷ compares) =
+    (compare ≡ (key, Revision revision)) ⊎ ComparesWith key revision compares

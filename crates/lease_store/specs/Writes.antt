@@ -50,8 +50,11 @@ nobody = record { bits = 0 }
 -- what a transaction of a member writes
 abbrev pub writes_of : MemberId → Txn → List Write
 writes_of by (txns.Touch info ttl) = Leases (keys.Member by) (values.Member info) ttl ∷ []
-writes_of by (txns.Create info ttl failsafe sync) = Leases keys.Leader (values.Leader by) ttl ∷ Leases (keys.Member by) (values.Member info) ttl ∷ []
-writes_of by (txns.Renew revision info ttl status row failsafe) = Extends keys.Leader ttl ∷ Leases (keys.Member by) (values.Member info) ttl ∷ (status_writes status ++ (row_writes row ++ failsafe_writes failsafe))
+writes_of by (txns.Create info ttl failsafe sync) =
+    Leases keys.Leader (values.Leader by) ttl ∷ Leases (keys.Member by) (values.Member info) ttl ∷ []
+writes_of by (txns.Renew revision info ttl status row failsafe) =
+    Extends keys.Leader ttl ∷ Leases (keys.Member by) (values.Member info) ttl
+    ∷ (status_writes status ++ (row_writes row ++ failsafe_writes failsafe))
 writes_of by (txns.Release revision) = Deletes keys.Leader ∷ []
 writes_of by (txns.Claim revision sync) = Sets keys.Sync (sync_value by nobody) ∷ []
 writes_of by (txns.SetSync revision sync standbys) = Sets keys.Sync (sync_value by standbys) ∷ []
@@ -82,7 +85,8 @@ extended_expiry until (Some expiry) = Some (record { 0 = max expiry.0 until })
 -- the pairs with the lease of a key extended until a moment, where the key has an entry
 abbrev pub pairs_extended : ℕ → ℕ → List (Key × KeyEntry) → Key → Option KeyEntry → List (Key × KeyEntry)
 pairs_extended revision until pairs key None = pairs
-pairs_extended revision until pairs key (Some stored) = put key_cmp key (record stored { revision = revision; expiry = extended_expiry until stored.expiry }) pairs
+pairs_extended revision until pairs key (Some stored) =
+    put key_cmp key (record stored { revision = revision; expiry = extended_expiry until stored.expiry }) pairs
 
 -- the pairs without a key
 abbrev pub without : Key → List (Key × KeyEntry) → List (Key × KeyEntry)
@@ -90,9 +94,12 @@ without key pairs = filter (λ pair. not (eq_by_cmp key_cmp key pair.0)) pairs
 
 -- the pairs after a write of this revision at a moment
 abbrev pub pairs_after : ℕ → ℕ → List (Key × KeyEntry) → Write → List (Key × KeyEntry)
-pairs_after revision now pairs (Sets key value) = put key_cmp key (record { value = value; revision = revision; expiry = None }) pairs
-pairs_after revision now pairs (Leases key value ttl) = put key_cmp key (record { value = value; revision = revision; expiry = Some (record { 0 = now + ttl.0 }) }) pairs
-pairs_after revision now pairs (Extends key ttl) = pairs_extended revision (now + ttl.0) pairs key (find key_cmp key pairs)
+pairs_after revision now pairs (Sets key value) =
+    put key_cmp key (record { value = value; revision = revision; expiry = None }) pairs
+pairs_after revision now pairs (Leases key value ttl) =
+    put key_cmp key (record { value = value; revision = revision; expiry = Some (record { 0 = now + ttl.0 }) }) pairs
+pairs_after revision now pairs (Extends key ttl) =
+    pairs_extended revision (now + ttl.0) pairs key (find key_cmp key pairs)
 pairs_after revision now pairs (Deletes key) = without key pairs
 
 -- the pairs after these writes, in this order
@@ -117,16 +124,19 @@ deleted_key _ = None
 -- an entry whose lease is extended until a moment, where there is one
 abbrev pub extended_put : ℕ → ℕ → Key → Option KeyEntry → List (Key × KeyEntry)
 extended_put revision until key None = []
-extended_put revision until key (Some stored) = (key, record stored { revision = revision; expiry = extended_expiry until stored.expiry }) ∷ []
+extended_put revision until key (Some stored) =
+    (key, record stored { revision = revision; expiry = extended_expiry until stored.expiry }) ∷ []
 
 -- what a write of this revision at a moment puts among the pairs
 abbrev pub puts_of : ℕ → ℕ → List (Key × KeyEntry) → Write → List (Key × KeyEntry)
 puts_of revision now pairs (Sets key value) = (key, record { value = value; revision = revision; expiry = None }) ∷ []
-puts_of revision now pairs (Leases key value ttl) = (key, record { value = value; revision = revision; expiry = Some (record { 0 = now + ttl.0 }) }) ∷ []
+puts_of revision now pairs (Leases key value ttl) =
+    (key, record { value = value; revision = revision; expiry = Some (record { 0 = now + ttl.0 }) }) ∷ []
 puts_of revision now pairs (Extends key ttl) = extended_put revision (now + ttl.0) key (find key_cmp key pairs)
 puts_of revision now pairs (Deletes key) = []
 
 -- what these writes put among the pairs
 abbrev pub puts_of_all : ℕ → ℕ → List (Key × KeyEntry) → List Write → List (Key × KeyEntry)
 puts_of_all revision now pairs [] = []
-puts_of_all revision now pairs (write ∷ writes) = puts_of revision now pairs write ++ puts_of_all revision now pairs writes
+puts_of_all revision now pairs (write ∷ writes) =
+    puts_of revision now pairs write ++ puts_of_all revision now pairs writes

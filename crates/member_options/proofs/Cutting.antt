@@ -6,8 +6,11 @@ use Rattle.script_words.specs.declared.fault.Fault.{Fault}
 use Rattle.member_options.specs.OptionReading.{words_in, option_words, with_word, with_words}
 use Rattle.member_options.specs.declared.member_option.SaidOptions.{SaidOptions}
 
-word-step : (t : Bool) (b : ℕ) (bs : List ℕ) (o : Option ℕ) → (words_in bs ≡ (cut_at bs o).0 ∷ option_words (cut_at bs o).1)
-    → cond t ([] ∷ words_in bs) (push_byte b (words_in bs)) ≡ (cut_at (b ∷ bs) (cond t (Some 0) (one_more o))).0 ∷ option_words (cut_at (b ∷ bs) (cond t (Some 0) (one_more o))).1
+word-step : (t : Bool) (b : ℕ) (bs : List ℕ) (o : Option ℕ)
+    → (words_in bs ≡ (cut_at bs o).0 ∷ option_words (cut_at bs o).1)
+    → cond t ([] ∷ words_in bs) (push_byte b (words_in bs))
+    ≡ (cut_at (b ∷ bs) (cond t (Some 0) (one_more o))).0
+    ∷ option_words (cut_at (b ∷ bs) (cond t (Some 0) (one_more o))).1
 word-step true b bs o ih = refl
 word-step false b bs None ih = rw ih refl
 word-step false b bs (Some m) ih =
@@ -26,8 +29,10 @@ words_left None = 0
 words_left (Some words) = length words + 1
 
 -- one more word is judged
-pub word-judged : (outcome next said : Result SaidOptions Fault) (rest : Option (List ℕ)) (words : List ℕ) (cut : List ℕ × Option (List ℕ))
-    → rest ≡ Some words → cut ≡ cut_word words → next ≡ with_word outcome cut.0 → with_words outcome (option_words rest) ≡ said → with_words next (option_words cut.1) ≡ said
+pub word-judged : (outcome next said : Result SaidOptions Fault) (rest : Option (List ℕ)) (words : List ℕ)
+    (cut : List ℕ × Option (List ℕ))
+    → rest ≡ Some words → cut ≡ cut_word words → next ≡ with_word outcome cut.0
+    → with_words outcome (option_words rest) ≡ said → with_words next (option_words cut.1) ≡ said
 word-judged outcome next said rest words cut some same is all =
     ap (λ r. with_words r (option_words cut.1)) is
     ∙ ap (λ p. with_words (with_word outcome p.0) (option_words p.1)) same

@@ -12,10 +12,12 @@ use Rattle.member_options.specs.Hosts.{host_by, host_of}
 use Rattle.script_words.specs.Lines.{first_at}
 use Rattle.script_words.proofs.Outcomes.{some_is, none_is}
 
-hosted : (bytes : List ℕ) (test : Bool) (is : is_host bytes ≡ test) (host : Host) → host_bytes host ≡ bytes → host_by bytes test is ≡ Some host
+hosted : (bytes : List ℕ) (test : Bool) (is : is_host bytes ≡ test) (host : Host) → host_bytes host ≡ bytes
+    → host_by bytes test is ≡ Some host
 unfolding host_by
 hosted bytes true is host e = ap Some (host_bytes-injective (host_from bytes is) host (take-padded 40 bytes ∙ sym e))
-hosted bytes false is host e = let text : is_host bytes ≡ true = subst (λ (t : List ℕ). is_host t ≡ true) e host.legal in cc
+hosted bytes false is host e =
+    let text : is_host bytes ≡ true = subst (λ (t : List ℕ). is_host t ≡ true) e host.legal in cc
 
 -- bytes that are the text of a host are that host
 pub host_of-Some : (bytes : List ℕ) (host : Host) → host_bytes host ≡ bytes → host_of bytes ≡ Some host
@@ -33,14 +35,17 @@ unfolding host_of
 host_of-None bytes e = unhosted bytes (is_host bytes) refl e
 
 no-host : (result : Option Host) (test : Bool) → result ≡ None → IsSome result ↔ IsTrue test → test ≡ false
-no-host result true none found = let some : IsSome {T = Host} None = subst (λ (o : Option Host). IsSome o) none (found.1 refl) in cc
+no-host result true none found =
+    let some : IsSome {T = Host} None = subst (λ (o : Option Host). IsSome o) none (found.1 refl) in cc
 no-host result false none found = refl
 
 -- where nothing is found there is none
-pub none-host : (bytes : List ℕ) (result : Option Host) → result ≡ None → IsSome result ↔ IsTrue (is_host bytes) → host_of bytes ≡ None
+pub none-host : (bytes : List ℕ) (result : Option Host) → result ≡ None
+    → IsSome result ↔ IsTrue (is_host bytes) → host_of bytes ≡ None
 none-host bytes result none found = host_of-None bytes (no-host result (is_host bytes) none found)
 
-texted : (bytes : List ℕ) (test : Bool) (is : is_host bytes ≡ test) (host : Host) → host_by bytes test is ≡ Some host → host_bytes host ≡ bytes
+texted : (bytes : List ℕ) (test : Bool) (is : is_host bytes ≡ test) (host : Host)
+    → host_by bytes test is ≡ Some host → host_bytes host ≡ bytes
 unfolding host_by
 texted bytes true is host e = ap host_bytes (sym (some_is (host_from bytes is) host e)) ∙ take-padded 40 bytes
 texted bytes false is host e = absurd (none_is host e)

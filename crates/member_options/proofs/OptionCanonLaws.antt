@@ -31,15 +31,20 @@ none-either : (t : Bool) → ◌≡◌ {A = List MemberOption} [] (cond t [] [])
 none-either true = refl
 none-either false = refl
 
-named-option : {A : Type 0} (name other : OptionName) (option : A → MemberOption) (o : Option A) → ((x : A) → name_of_option (option x) ≡ other) → options_of_name name (option_said option o) ≡ cond (same_option_name name other) (option_said option o) []
+named-option : {A : Type 0} (name other : OptionName) (option : A → MemberOption) (o : Option A)
+    → ((x : A) → name_of_option (option x) ≡ other)
+    → options_of_name name (option_said option o) ≡ cond (same_option_name name other) (option_said option o) []
 named-option name other option None is = none-either (same_option_name name other)
 named-option name other option (Some x) is = ap (λ n. cond (same_option_name name n) (option x ∷ []) []) (is x)
 
-named-flag : (name : OptionName) (option : MemberOption) (set : Bool) → options_of_name name (flag_said option set) ≡ cond (same_option_name name (name_of_option option)) (flag_said option set) []
+named-flag : (name : OptionName) (option : MemberOption) (set : Bool)
+    → options_of_name name (flag_said option set)
+    ≡ cond (same_option_name name (name_of_option option)) (flag_said option set) []
 named-flag name option true = refl
 named-flag name option false = none-either (same_option_name name (name_of_option option))
 
-named-said : (name other : OptionName) (said : SaidOptions) → options_of_name name (said_by other said) ≡ cond (same_option_name name other) (said_by other said) []
+named-said : (name other : OptionName) (said : SaidOptions)
+    → options_of_name name (said_by other said) ≡ cond (same_option_name name other) (said_by other said) []
 named-said name names.Host said = named-option name names.Host options.Host said.host (λ x. refl)
 named-said name names.NoFailover said = named-flag name options.NoFailover said.nofailover
 named-said name names.NoSync said = named-flag name options.NoSync said.nosync
@@ -50,14 +55,17 @@ named-said name names.Device said = named-option name names.Device options.Devic
 named-said name names.Margin said = named-option name names.Margin options.Margin said.margin (λ x. refl)
 
 named-all : (name : OptionName) (said : SaidOptions) (others : List OptionName)
-    → options_of_name name (flat_map (λ n. said_by n said) others) ≡ flat_map (λ n. cond (same_option_name name n) (said_by n said) []) others
+    → options_of_name name (flat_map (λ n. said_by n said) others)
+    ≡ flat_map (λ n. cond (same_option_name name n) (said_by n said) []) others
 named-all name said [] = refl
 named-all name said (n ∷ ns) =
-    filter-append (λ option. same_option_name name (name_of_option option)) (said_by n said) (flat_map (λ m. said_by m said) ns)
+    filter-append (λ option. same_option_name name (name_of_option option)) (said_by n said)
+    (flat_map (λ m. said_by m said) ns)
     ∙ (λ i. named-said name n said i ++ named-all name said ns i)
 
 -- each name stands once among all
-once-among : (name : OptionName) (said : SaidOptions) → flat_map (λ n. cond (same_option_name name n) (said_by n said) []) option_names ≡ said_by name said
+once-among : (name : OptionName) (said : SaidOptions)
+    → flat_map (λ n. cond (same_option_name name n) (said_by n said) []) option_names ≡ said_by name said
 once-among names.Host said = append-nil (said_by names.Host said)
 once-among names.NoFailover said = append-nil (said_by names.NoFailover said)
 once-among names.NoSync said = append-nil (said_by names.NoSync said)
@@ -73,7 +81,8 @@ say-once said name = named-all name said option_names ∙ once-among name said
 -- there are no more of them than names
 few-of : (said : SaidOptions) (some : List OptionName) → length (flat_map (λ n. said_by n said) some) ≤ length some
 few-of said [] = omega arith
-few-of said (n ∷ ns) = omega (arith, length-append (said_by n said) (flat_map (λ m. said_by m said) ns), said-few n said, few-of said ns)
+few-of said (n ∷ ns) =
+    omega (arith, length-append (said_by n said) (flat_map (λ m. said_by m said) ns), said-few n said, few-of said ns)
 
 pub few-options : (declared : MemberOptions) → length (options_to_say declared) ≤ 8
 few-options declared = few-of (to_say declared) option_names
@@ -84,11 +93,14 @@ pub record AreEnough (declared : MemberOptions) (os : List MemberOption) : Type 
   pub once : SayOnce os said
   pub is : options_or_default said ≡ declared
 
-host-again : (host : Host) (t : Bool) → bytes_eq (host_bytes host) (host_bytes local_host) ≡ t → host_or_default (cond t None (Some host)) ≡ host
-host-again host true is = host_bytes-injective local_host host (sym ((bytes_eq-Decides (host_bytes host) (host_bytes local_host)).0 is))
+host-again : (host : Host) (t : Bool) → bytes_eq (host_bytes host) (host_bytes local_host) ≡ t
+    → host_or_default (cond t None (Some host)) ≡ host
+host-again host true is =
+    host_bytes-injective local_host host (sym ((bytes_eq-Decides (host_bytes host) (host_bytes local_host)).0 is))
 host-again host false is = refl
 
-priority-again : (priority : Priority) (t : Bool) → is_default_priority priority.number ≡ t → priority_or_default (cond t None (Some priority)) ≡ priority
+priority-again : (priority : Priority) (t : Bool) → is_default_priority priority.number ≡ t
+    → priority_or_default (cond t None (Some priority)) ≡ priority
 priority-again priority true is = default-is priority is
 priority-again priority false is = refl
 
@@ -101,9 +113,11 @@ device-again : (works : Bool) → works_or_default (device_to_say works) ≡ wor
 device-again true = refl
 device-again false = refl
 
-margin-again : (margin : SafetyMargin) (t : Bool) → is_default_margin margin ≡ t → margin_or_default (cond t None (Some margin)) ≡ margin
+margin-again : (margin : SafetyMargin) (t : Bool) → is_default_margin margin ≡ t
+    → margin_or_default (cond t None (Some margin)) ≡ margin
 margin-again margins.HalfOfLease true is = cc
-margin-again (margins.Seconds margin) true is = ap margins.Seconds (same_margin default_margin margin (default-seconds ∙ sym (eqb-true margin.seconds unsaid_margin is)))
+margin-again (margins.Seconds margin) true is = ap margins.Seconds
+    (same_margin default_margin margin (default-seconds ∙ sym (eqb-true margin.seconds unsaid_margin is)))
 margin-again margin false is = refl
 
 pub options-enough : (declared : MemberOptions) → AreEnough declared (options_to_say declared)
@@ -112,7 +126,8 @@ options-enough declared = record {
   once = say-once (to_say declared);
   is = λ i. record {
     host = host-again declared.host (bytes_eq (host_bytes declared.host) (host_bytes local_host)) refl i;
-    tags = tags_with (to_say declared) (priority-again (priority_of declared.tags) (is_default_priority declared.tags.failover_priority) refl i);
+    tags = tags_with (to_say declared)
+        (priority-again (priority_of declared.tags) (is_default_priority declared.tags.failover_priority) refl i);
     watchdog = mode-again declared.watchdog i;
     device_works = device-again declared.device_works i;
     margin = margin-again declared.margin (is_default_margin declared.margin) refl i;

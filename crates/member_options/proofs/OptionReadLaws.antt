@@ -12,21 +12,27 @@ use Rattle.member_options.specs.declared.member_option.SaidOptions.{SaidOptions}
 use Rattle.member_options.proofs.OptionWords.{option_in-Ok}
 use Rattle.member_options.proofs.SaidLaws.{SayMore, moved, none-said}
 
-one-more : (said more all : SaidOptions) (option : MemberOption) (os : List MemberOption) → with_option said option ≡ Ok more → SayMore more os all → SayMore said (option ∷ os) all
+one-more : (said more all : SaidOptions) (option : MemberOption) (os : List MemberOption)
+    → with_option said option ≡ Ok more → SayMore more os all → SayMore said (option ∷ os) all
 one-more said more all option os e rest =
     let p = cond-Err (is_said (name_of_option option) said) (Ok (saying option said)) faults.Duplicate more e in
-    λ name. moved said option os name p.0 ∙ ap (λ (s : SaidOptions). said_by name s ++ options_of_name name os) (ok_is (saying option said) more p.1) ∙ rest name
+    λ name. moved said option os name p.0
+    ∙ ap (λ (s : SaidOptions). said_by name s ++ options_of_name name os) (ok_is (saying option said) more p.1)
+    ∙ rest name
 
 -- behind a fault nothing is said
-still-Err : (f : Fault) (r : Result MemberOption Fault) → (g : Fault) × (on_ok (both (Err f) r) (λ p. with_option p.0 p.1) ≡ Err g)
+still-Err : (f : Fault) (r : Result MemberOption Fault)
+    → (g : Fault) × (on_ok (both (Err f) r) (λ p. with_option p.0 p.1) ≡ Err g)
 still-Err f (Ok o) = (f, refl)
 still-Err f (Err g) = (earlier f g, refl)
 
 with_words-Err : (ws : List (List ℕ)) (f : Fault) (all : SaidOptions) → with_words (Err f) ws ≡ Ok all → ⊥
 with_words-Err [] f all e = err_is f all e
-with_words-Err (w ∷ ws) f all e = let s = still-Err f (option_in w) in with_words-Err ws s.0 all (sym (ap (λ r. with_words r ws) s.1) ∙ e)
+with_words-Err (w ∷ ws) f all e =
+    let s = still-Err f (option_in w) in with_words-Err ws s.0 all (sym (ap (λ r. with_words r ws) s.1) ∙ e)
 
-first-Ok : (ws : List (List ℕ)) (r : Result SaidOptions Fault) (all : SaidOptions) → with_words r ws ≡ Ok all → (said : SaidOptions) × (r ≡ Ok said)
+first-Ok : (ws : List (List ℕ)) (r : Result SaidOptions Fault) (all : SaidOptions) → with_words r ws ≡ Ok all
+    → (said : SaidOptions) × (r ≡ Ok said)
 first-Ok ws (Ok said) all e = (said, refl)
 first-Ok ws (Err f) all e = absurd (with_words-Err ws f all e)
 
@@ -37,7 +43,11 @@ record AreSaid (ws : List (List ℕ)) (said all : SaidOptions) : Type 0 where
   pub more : SayMore said os all
 
 words-Ok : (ws : List (List ℕ)) (said all : SaidOptions) → with_words (Ok said) ws ≡ Ok all → AreSaid ws said all
-words-Ok [] said all e = record { os = []; text = refl; more = λ name. append-nil (said_by name said) ∙ ap (said_by name) (ok_is said all e) }
+words-Ok [] said all e = record {
+  os = [];
+  text = refl;
+  more = λ name. append-nil (said_by name said) ∙ ap (said_by name) (ok_is said all e);
+}
 words-Ok (w ∷ ws) said all e =
     let m = first-Ok ws (with_word (Ok said) w) all e in
     let p = on_ok-Ok (both (Ok said) (option_in w)) (λ p. with_option p.0 p.1) m.0 m.1 in
@@ -58,7 +68,8 @@ pub record AreDeclared (rest : Option (List ℕ)) (declared : MemberOptions) : T
   pub text : map option_text words ≡ option_words rest
   pub is : options_or_default said ≡ declared
 
-pub options_in-Ok : (rest : Option (List ℕ)) (declared : MemberOptions) → options_in rest ≡ Ok declared → AreDeclared rest declared
+pub options_in-Ok : (rest : Option (List ℕ)) (declared : MemberOptions) → options_in rest ≡ Ok declared
+    → AreDeclared rest declared
 options_in-Ok rest declared e =
     let p = on_ok-Ok (said_in rest) (λ said. Ok (options_or_default said)) declared e in
     let q = words-Ok (option_words rest) nothing_said p.0 p.1 in

@@ -41,15 +41,20 @@ first_said : {A : Type 0} → (MemberOption → Option A) → List MemberOption 
 first_said say [] = None
 first_said say (option ∷ os) = say option
 
-told : {A : Type 0} (option : A → MemberOption) (say : MemberOption → Option A) → ((x : A) → say (option x) ≡ Some x) → (o : Option A) → first_said say (option_said option o) ≡ o
+told : {A : Type 0} (option : A → MemberOption) (say : MemberOption → Option A)
+    → ((x : A) → say (option x) ≡ Some x) → (o : Option A) → first_said say (option_said option o) ≡ o
 unfolding first_said
 told option say is None = refl
 told option say is (Some x) = is x
 
-same-option : {A : Type 0} (option : A → MemberOption) (say : MemberOption → Option A) → ((x : A) → say (option x) ≡ Some x) → (first second : Option A) → option_said option first ≡ option_said option second → first ≡ second
-same-option option say is first second e = sym (told option say is first) ∙ ap (first_said say) e ∙ told option say is second
+same-option : {A : Type 0} (option : A → MemberOption) (say : MemberOption → Option A)
+    → ((x : A) → say (option x) ≡ Some x) → (first second : Option A)
+    → option_said option first ≡ option_said option second → first ≡ second
+same-option option say is first second e =
+    sym (told option say is first) ∙ ap (first_said say) e ∙ told option say is second
 
-same-flag : (option : MemberOption) (first second : Bool) → flag_said option first ≡ flag_said option second → first ≡ second
+same-flag : (option : MemberOption) (first second : Bool) → flag_said option first ≡ flag_said option second
+    → first ≡ second
 same-flag option true true e = refl
 same-flag option true false e = cc
 same-flag option false true e = cc
@@ -64,19 +69,24 @@ same-said said all same = λ i. record {
   noloadbalance = same-flag options.NoLoadBalance said.noloadbalance all.noloadbalance (same names.NoLoadBalance) i;
   priority = same-option options.Priority priority_said (λ x. refl) said.priority all.priority (same names.Priority) i;
   watchdog = same-option options.Watchdog mode_said (λ x. refl) said.watchdog all.watchdog (same names.Watchdog) i;
-  device_works = same-option options.Device device_said (λ x. refl) said.device_works all.device_works (same names.Device) i;
+  device_works =
+      same-option options.Device device_said (λ x. refl) said.device_works all.device_works (same names.Device) i;
   margin = same-option options.Margin margin_said (λ x. refl) said.margin all.margin (same names.Margin) i;
 }
 
-words-again : (os : List MemberOption) (said all : SaidOptions) → SayMore said os all → with_words (Ok said) (map option_text os) ≡ Ok all
+words-again : (os : List MemberOption) (said all : SaidOptions) → SayMore said os all
+    → with_words (Ok said) (map option_text os) ≡ Ok all
 words-again [] said all more = ap Ok (same-said said all (λ name. sym (append-nil (said_by name said)) ∙ more name))
 words-again (option ∷ os) said all more =
     let first = said-first said all option os more in
-    ap (λ r. with_words (on_ok (both (Ok said) r) (λ p. with_option p.0 p.1)) (map option_text os)) (option_in-again option)
+    ap (λ r. with_words (on_ok (both (Ok said) r) (λ p. with_option p.0 p.1)) (map option_text os))
+    (option_in-again option)
     ∙ ap (λ t. with_words (cond t (Err faults.Duplicate) (Ok (saying option said))) (map option_text os)) first
     ∙ words-again os (saying option said) all (λ name. sym (moved said option os name first) ∙ more name)
 
-pub options_in-again : (rest : Option (List ℕ)) (os : List MemberOption) (said : SaidOptions) → option_words rest ≡ map option_text os → SayOnce os said → options_in rest ≡ Ok (options_or_default said)
+pub options_in-again : (rest : Option (List ℕ)) (os : List MemberOption) (said : SaidOptions)
+    → option_words rest ≡ map option_text os → SayOnce os said → options_in rest ≡ Ok (options_or_default said)
 options_in-again rest os said text once =
     ap (λ ws. on_ok (with_words (Ok nothing_said) ws) (λ s. Ok (options_or_default s))) text
-    ∙ ap (λ r. on_ok r (λ s. Ok (options_or_default s))) (words-again os nothing_said said (λ name. ap (λ xs. xs ++ options_of_name name os) (none-said name) ∙ once name))
+    ∙ ap (λ r. on_ok r (λ s. Ok (options_or_default s)))
+    (words-again os nothing_said said (λ name. ap (λ xs. xs ++ options_of_name name os) (none-said name) ∙ once name))

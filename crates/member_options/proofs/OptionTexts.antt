@@ -27,20 +27,26 @@ host-bytes (b ∷ bs) h =
     and_from (is_plain b) (list_all is_plain bs) (host-byte b both.0) (host-bytes bs both.1)
 
 host-text-IsPlain : (v : List ℕ) → is_host v ≡ true → IsPlain v 40
-host-text-IsPlain v h = record { plain = host-bytes v (is_text-bytes 40 is_host_byte v h); short = is_text-fits 40 is_host_byte v h }
+host-text-IsPlain v h =
+    record { plain = host-bytes v (is_text-bytes 40 is_host_byte v h); short = is_text-fits 40 is_host_byte v h }
 
 whole_number-IsPlain : (z : ℤ) → negsuc 999 ≤ℤ z → z ≤ℤ pos 1000 → IsPlain (signed_decimal z) 21
-whole_number-IsPlain (pos n) low high = IsPlain-most (decimal n) 20 21 (omega arith) (decimal-IsPlain n (fits-from-zero n high))
-whole_number-IsPlain (negsuc less) low high = IsPlain-append (45 ∷ []) (decimal (suc less)) 1 20 (record { plain = refl; short = omega arith }) (decimal-IsPlain (suc less) (fits-below-zero less low))
+whole_number-IsPlain (pos n) low high =
+    IsPlain-most (decimal n) 20 21 (omega arith) (decimal-IsPlain n (fits-from-zero n high))
+whole_number-IsPlain (negsuc less) low high = IsPlain-append (45 ∷ []) (decimal (suc less)) 1 20
+    (record { plain = refl; short = omega arith }) (decimal-IsPlain (suc less) (fits-below-zero less low))
 
 option-IsPlain : (o : MemberOption) → IsPlain (option_text o) 45
-option-IsPlain (options.Host host) = IsPlain-append (codes "host=") (host_bytes host) 5 40 (record { plain = refl; short = omega arith }) (host-text-IsPlain (host_bytes host) host.legal)
+option-IsPlain (options.Host host) = IsPlain-append (codes "host=") (host_bytes host) 5 40
+    (record { plain = refl; short = omega arith }) (host-text-IsPlain (host_bytes host) host.legal)
 option-IsPlain options.NoFailover = record { plain = refl; short = omega arith }
 option-IsPlain options.NoSync = record { plain = refl; short = omega arith }
 option-IsPlain options.NoLoadBalance = record { plain = refl; short = omega arith }
 option-IsPlain (options.Priority priority) =
-    IsPlain-append (codes "priority=") (signed_decimal priority.number) 9 36 (record { plain = refl; short = omega arith })
-    (IsPlain-most (signed_decimal priority.number) 21 36 (omega arith) (whole_number-IsPlain priority.number priority.lowest priority.highest))
+    IsPlain-append (codes "priority=") (signed_decimal priority.number) 9 36
+    (record { plain = refl; short = omega arith })
+    (IsPlain-most (signed_decimal priority.number) 21 36 (omega arith)
+    (whole_number-IsPlain priority.number priority.lowest priority.highest))
 option-IsPlain (options.Watchdog modes.Off) = record { plain = refl; short = omega arith }
 option-IsPlain (options.Watchdog modes.Automatic) = record { plain = refl; short = omega arith }
 option-IsPlain (options.Watchdog modes.Required) = record { plain = refl; short = omega arith }
@@ -54,5 +60,8 @@ option-IsPlain (options.Margin (margins.Seconds margin)) =
 pub options-IsPlain : (os : List MemberOption) → IsPlain (behind_blanks (map option_text os)) (length os * 46)
 options-IsPlain [] = record { plain = refl; short = omega arith }
 options-IsPlain (o ∷ os) =
-    let whole : IsPlain (option_text o ++ behind_blanks (map option_text os)) (45 + length os * 46) = IsPlain-append (option_text o) (behind_blanks (map option_text os)) 45 (length os * 46) (option-IsPlain o) (options-IsPlain os) in
-    IsPlain-most (32 ∷ (option_text o ++ behind_blanks (map option_text os))) ((45 + length os * 46) + 1) (length (o ∷ os) * 46) (omega arith) (blank-IsPlain (option_text o ++ behind_blanks (map option_text os)) (45 + length os * 46) whole)
+    let whole : IsPlain (option_text o ++ behind_blanks (map option_text os)) (45 + length os * 46) = IsPlain-append
+    (option_text o) (behind_blanks (map option_text os)) 45 (length os * 46) (option-IsPlain o) (options-IsPlain os) in
+    IsPlain-most (32 ∷ (option_text o ++ behind_blanks (map option_text os))) ((45 + length os * 46) + 1)
+    (length (o ∷ os) * 46) (omega arith)
+    (blank-IsPlain (option_text o ++ behind_blanks (map option_text os)) (45 + length os * 46) whole)

@@ -24,9 +24,14 @@ int_le-prop a b x y = let one : IsProp (a ≤ℤ b) = hlevel props in one x y
 pub same_priority : (a b : Priority) → a.number ≡ b.number → a ≡ b
 same_priority a b e =
     subst
-    (λ (z : ℤ). (lowest : negsuc 999 ≤ℤ z) (highest : z ≤ℤ pos 1000) → ◌≡◌ {A = Priority} a (record { number = z; lowest = lowest; highest = highest }))
+    (λ (z : ℤ). (lowest : negsuc 999 ≤ℤ z) (highest : z ≤ℤ pos 1000) →
+    ◌≡◌ {A = Priority} a (record { number = z; lowest = lowest; highest = highest }))
     e
-    (λ lowest highest. λ i. record { number = a.number; lowest = int_le-prop (negsuc 999) a.number a.lowest lowest i; highest = int_le-prop a.number (pos 1000) a.highest highest i })
+    (λ lowest highest. λ i. record {
+      number = a.number;
+      lowest = int_le-prop (negsuc 999) a.number a.lowest lowest i;
+      highest = int_le-prop a.number (pos 1000) a.highest highest i;
+    })
     b.lowest
     b.highest
 
@@ -36,21 +41,28 @@ few-from_zero n h = omega (arith, ints)
 few-below_zero : (less : ℕ) → negsuc 999 ≤ℤ negsuc less → suc less ≤ greatest_priority
 few-below_zero less h = omega (arith, ints)
 
-from-zero : (n : ℕ) (priority : Priority) (few : Bool) (is : nat_le n greatest_priority ≡ few) → priority.number ≡ pos n → from_zero_by n few is ≡ Some priority
+from-zero : (n : ℕ) (priority : Priority) (few : Bool) (is : nat_le n greatest_priority ≡ few)
+    → priority.number ≡ pos n → from_zero_by n few is ≡ Some priority
 unfolding from_zero_by
 from-zero n priority true is e = ap Some (same_priority _ priority (sym e))
-from-zero n priority false is e = absurd (not_within n greatest_priority is (few-from_zero n (subst (λ (z : ℤ). z ≤ℤ pos 1000) e priority.highest)))
+from-zero n priority false is e =
+    absurd (not_within n greatest_priority is (few-from_zero n (subst (λ (z : ℤ). z ≤ℤ pos 1000) e priority.highest)))
 
-pub priority_from_zero-Some : (n : ℕ) (priority : Priority) → priority.number ≡ pos n → priority_from_zero n ≡ Some priority
+pub priority_from_zero-Some : (n : ℕ) (priority : Priority) → priority.number ≡ pos n
+    → priority_from_zero n ≡ Some priority
 unfolding priority_from_zero
 priority_from_zero-Some n priority e = from-zero n priority (nat_le n greatest_priority) refl e
 
-below-zero : (less : ℕ) (priority : Priority) (few : Bool) (is : nat_le (suc less) greatest_priority ≡ few) → priority.number ≡ negsuc less → below_zero_by less few is ≡ Some priority
+below-zero : (less : ℕ) (priority : Priority) (few : Bool) (is : nat_le (suc less) greatest_priority ≡ few)
+    → priority.number ≡ negsuc less → below_zero_by less few is ≡ Some priority
 unfolding below_zero_by
 below-zero less priority true is e = ap Some (same_priority _ priority (sym e))
-below-zero less priority false is e = absurd (not_within (suc less) greatest_priority is (few-below_zero less (subst (λ (z : ℤ). negsuc 999 ≤ℤ z) e priority.lowest)))
+below-zero less priority false is e =
+    absurd (not_within (suc less) greatest_priority is
+    (few-below_zero less (subst (λ (z : ℤ). negsuc 999 ≤ℤ z) e priority.lowest)))
 
-pub priority_below_zero-Some : (less : ℕ) (priority : Priority) → priority.number ≡ negsuc less → priority_below_zero (suc less) ≡ Some priority
+pub priority_below_zero-Some : (less : ℕ) (priority : Priority) → priority.number ≡ negsuc less
+    → priority_below_zero (suc less) ≡ Some priority
 unfolding priority_below_zero
 priority_below_zero-Some less priority e = below-zero less priority (nat_le (suc less) greatest_priority) refl e
 
@@ -59,11 +71,13 @@ sized zero priority some e = absurd (omega (arith, some))
 sized (suc less) priority some e = priority_below_zero-Some less priority e
 
 -- the same, as the number is made
-pub priority_below_zero-is : (n : ℕ) (priority : Priority) → 1 ≤ n → priority.number ≡ pos 0 -ℤ pos n → priority_below_zero n ≡ Some priority
+pub priority_below_zero-is : (n : ℕ) (priority : Priority) → 1 ≤ n → priority.number ≡ pos 0 -ℤ pos n
+    → priority_below_zero n ≡ Some priority
 priority_below_zero-is n priority some e = sized n priority some (e ∙ omega (arith, ints))
 
 -- other numbers are none
-none-from-zero : (n : ℕ) (few : Bool) (is : nat_le n greatest_priority ≡ few) → (n ≤ greatest_priority → ⊥) → from_zero_by n few is ≡ None
+none-from-zero : (n : ℕ) (few : Bool) (is : nat_le n greatest_priority ≡ few) → (n ≤ greatest_priority → ⊥)
+    → from_zero_by n few is ≡ None
 unfolding from_zero_by
 none-from-zero n true is out = absurd (out (leb-true n greatest_priority is))
 none-from-zero n false is out = refl
@@ -72,7 +86,8 @@ pub priority_from_zero-None : (n : ℕ) → (n ≤ greatest_priority → ⊥) �
 unfolding priority_from_zero
 priority_from_zero-None n out = none-from-zero n (nat_le n greatest_priority) refl out
 
-none-below-zero : (less : ℕ) (few : Bool) (is : nat_le (suc less) greatest_priority ≡ few) → (suc less ≤ greatest_priority → ⊥) → below_zero_by less few is ≡ None
+none-below-zero : (less : ℕ) (few : Bool) (is : nat_le (suc less) greatest_priority ≡ few)
+    → (suc less ≤ greatest_priority → ⊥) → below_zero_by less few is ≡ None
 unfolding below_zero_by
 none-below-zero less true is out = absurd (out (leb-true (suc less) greatest_priority is))
 none-below-zero less false is out = refl
@@ -80,43 +95,55 @@ none-below-zero less false is out = refl
 pub priority_below_zero-None : (n : ℕ) → (1 ≤ n → n ≤ greatest_priority → ⊥) → priority_below_zero n ≡ None
 unfolding priority_below_zero
 priority_below_zero-None zero out = refl
-priority_below_zero-None (suc less) out = none-below-zero less (nat_le (suc less) greatest_priority) refl (out (omega arith))
+priority_below_zero-None (suc less) out =
+    none-below-zero less (nat_le (suc less) greatest_priority) refl (out (omega arith))
 
 -- what is read is spelled so
-number-from-zero : (n : ℕ) (priority : Priority) (few : Bool) (is : nat_le n greatest_priority ≡ few) → from_zero_by n few is ≡ Some priority → priority.number ≡ pos n
+number-from-zero : (n : ℕ) (priority : Priority) (few : Bool) (is : nat_le n greatest_priority ≡ few)
+    → from_zero_by n few is ≡ Some priority → priority.number ≡ pos n
 unfolding from_zero_by
 number-from-zero n priority true is e = ap (λ (p : Priority). p.number) (sym (some_is _ priority e))
 number-from-zero n priority false is e = absurd (none_is priority e)
 
-text-from-zero : (n : ℕ) (priority : Priority) → priority_from_zero n ≡ Some priority → signed_decimal priority.number ≡ decimal n
+text-from-zero : (n : ℕ) (priority : Priority) → priority_from_zero n ≡ Some priority
+    → signed_decimal priority.number ≡ decimal n
 unfolding priority_from_zero
 text-from-zero n priority e = ap signed_decimal (number-from-zero n priority (nat_le n greatest_priority) refl e)
 
-number-below-zero : (less : ℕ) (priority : Priority) (few : Bool) (is : nat_le (suc less) greatest_priority ≡ few) → below_zero_by less few is ≡ Some priority → priority.number ≡ negsuc less
+number-below-zero : (less : ℕ) (priority : Priority) (few : Bool) (is : nat_le (suc less) greatest_priority ≡ few)
+    → below_zero_by less few is ≡ Some priority → priority.number ≡ negsuc less
 unfolding below_zero_by
 number-below-zero less priority true is e = ap (λ (p : Priority). p.number) (sym (some_is _ priority e))
 number-below-zero less priority false is e = absurd (none_is priority e)
 
-text-below-zero : (n : ℕ) (priority : Priority) → priority_below_zero n ≡ Some priority → signed_decimal priority.number ≡ 45 ∷ decimal n
+text-below-zero : (n : ℕ) (priority : Priority) → priority_below_zero n ≡ Some priority
+    → signed_decimal priority.number ≡ 45 ∷ decimal n
 unfolding priority_below_zero
 text-below-zero zero priority e = absurd (none_is priority e)
-text-below-zero (suc less) priority e = ap signed_decimal (number-below-zero less priority (nat_le (suc less) greatest_priority) refl e)
+text-below-zero (suc less) priority e =
+    ap signed_decimal (number-below-zero less priority (nat_le (suc less) greatest_priority) refl e)
 
 text-found : (b : ℕ) (bs : List ℕ) (priority : Priority) (t : Bool) → (b == 45) ≡ t
-    → cond t (option_and_then priority_below_zero (number bs)) (option_and_then priority_from_zero (number (b ∷ bs))) ≡ Some priority → signed_decimal priority.number ≡ b ∷ bs
+    → cond t (option_and_then priority_below_zero (number bs)) (option_and_then priority_from_zero (number (b ∷ bs)))
+    ≡ Some priority
+    → signed_decimal priority.number ≡ b ∷ bs
 text-found b bs priority true is e =
     let p = and_then-Some priority_below_zero (number bs) priority e in
-    text-below-zero p.0 priority p.2 ∙ ap (λ t. 45 ∷ t) (sym (number-is bs p.0 p.1)) ∙ ap (λ c. c ∷ bs) (sym (eqb-true b 45 is))
+    text-below-zero p.0 priority p.2 ∙ ap (λ t. 45 ∷ t) (sym (number-is bs p.0 p.1))
+    ∙ ap (λ c. c ∷ bs) (sym (eqb-true b 45 is))
 text-found b bs priority false is e =
     let p = and_then-Some priority_from_zero (number (b ∷ bs)) priority e in
     text-from-zero p.0 priority p.2 ∙ sym (number-is (b ∷ bs) p.0 p.1)
 
-found-text : (value : List ℕ) (priority : Priority) → priority_found value ≡ Some priority → signed_decimal priority.number ≡ value
+found-text : (value : List ℕ) (priority : Priority) → priority_found value ≡ Some priority
+    → signed_decimal priority.number ≡ value
 found-text [] priority e = absurd (none_is priority e)
 found-text (b ∷ bs) priority e = text-found b bs priority (b == 45) refl e
 
-pub priority_in-Ok : (value : List ℕ) (priority : Priority) → priority_in value ≡ Ok priority → signed_decimal priority.number ≡ value
-priority_in-Ok value priority e = found-text value priority (ok_or-Ok (priority_found value) (no_number value) priority e)
+pub priority_in-Ok : (value : List ℕ) (priority : Priority) → priority_in value ≡ Ok priority
+    → signed_decimal priority.number ≡ value
+priority_in-Ok value priority e =
+    found-text value priority (ok_or-Ok (priority_found value) (no_number value) priority e)
 
 -- and is read again
 pub fits-from-zero : (n : ℕ) → pos n ≤ℤ pos 1000 → n < 2 ^ 64
@@ -125,15 +152,18 @@ fits-from-zero n h = omega (arith, few-from_zero n h)
 pub fits-below-zero : (less : ℕ) → negsuc 999 ≤ℤ negsuc less → suc less < 2 ^ 64
 fits-below-zero less h = omega (arith, few-below_zero less h)
 
-found-from-zero : (ds : List ℕ) (n : ℕ) → number ds ≡ Some n → first_at 45 ds ≡ None → priority_found ds ≡ priority_from_zero n
+found-from-zero : (ds : List ℕ) (n : ℕ) → number ds ≡ Some n → first_at 45 ds ≡ None
+    → priority_found ds ≡ priority_from_zero n
 found-from-zero [] n e none = absurd (none_is n e)
 found-from-zero (b ∷ bs) n e none =
     let p = passed (b == 45) (first_at 45 bs) none in
     rw (p.0, e) refl
 
-found-again : (priority : Priority) (z : ℤ) → priority.number ≡ z → negsuc 999 ≤ℤ z → z ≤ℤ pos 1000 → priority_found (signed_decimal z) ≡ Some priority
+found-again : (priority : Priority) (z : ℤ) → priority.number ≡ z → negsuc 999 ≤ℤ z → z ≤ℤ pos 1000
+    → priority_found (signed_decimal z) ≡ Some priority
 found-again priority (pos n) is low high =
-    found-from-zero (decimal n) n (number-decimal n (fits-from-zero n high)) (first_at-decimal 45 n (omega arith) (fits-from-zero n high))
+    found-from-zero (decimal n) n (number-decimal n (fits-from-zero n high))
+    (first_at-decimal 45 n (omega arith) (fits-from-zero n high))
     ∙ priority_from_zero-Some n priority is
 found-again priority (negsuc less) is low high =
     ap (option_and_then priority_below_zero) (number-decimal (suc less) (fits-below-zero less low))
@@ -141,11 +171,13 @@ found-again priority (negsuc less) is low high =
 
 pub priority_in-again : (priority : Priority) → priority_in (signed_decimal priority.number) ≡ Ok priority
 priority_in-again priority =
-    ap (λ o. ok_or o (no_number (signed_decimal priority.number))) (found-again priority priority.number refl priority.lowest priority.highest)
+    ap (λ o. ok_or o (no_number (signed_decimal priority.number)))
+    (found-again priority priority.number refl priority.lowest priority.highest)
 
 no-blank : (z : ℤ) → negsuc 999 ≤ℤ z → z ≤ℤ pos 1000 → first_at 32 (signed_decimal z) ≡ None
 no-blank (pos n) low high = first_at-decimal 32 n (omega arith) (fits-from-zero n high)
-no-blank (negsuc less) low high = first_at-append 32 (45 ∷ []) (decimal (suc less)) refl (first_at-decimal 32 (suc less) (omega arith) (fits-below-zero less low))
+no-blank (negsuc less) low high = first_at-append 32 (45 ∷ []) (decimal (suc less)) refl
+    (first_at-decimal 32 (suc less) (omega arith) (fits-below-zero less low))
 
 pub first_at-priority : (priority : Priority) → first_at 32 (signed_decimal priority.number) ≡ None
 first_at-priority priority = no-blank priority.number priority.lowest priority.highest

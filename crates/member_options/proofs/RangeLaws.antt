@@ -20,17 +20,21 @@ same_margin a b e =
     (λ most. ap (λ (x : a.seconds ≤ longest_margin). record { seconds = a.seconds; most = x }) (le_prop a.most most))
     b.most
 
-some-margin : (n : ℕ) (margin : Margin) (high : Bool) (most : nat_le n longest_margin ≡ high) → margin.seconds ≡ n → margin_by n high most ≡ Some margin
+some-margin : (n : ℕ) (margin : Margin) (high : Bool) (most : nat_le n longest_margin ≡ high)
+    → margin.seconds ≡ n → margin_by n high most ≡ Some margin
 unfolding margin_by
 some-margin n margin true most e = ap Some (same_margin _ margin (sym e))
-some-margin n margin false most e = absurd (not_within n longest_margin most (subst (λ (k : ℕ). k ≤ longest_margin) e margin.most))
+some-margin n margin false most e =
+    absurd (not_within n longest_margin most (subst (λ (k : ℕ). k ≤ longest_margin) e margin.most))
 
-no-margin : (n : ℕ) (high : Bool) (most : nat_le n longest_margin ≡ high) → (n ≤ longest_margin → ⊥) → margin_by n high most ≡ None
+no-margin : (n : ℕ) (high : Bool) (most : nat_le n longest_margin ≡ high) → (n ≤ longest_margin → ⊥)
+    → margin_by n high most ≡ None
 unfolding margin_by
 no-margin n true most out = absurd (out (leb-true n longest_margin most))
 no-margin n false most out = refl
 
-margin-seconds : (n : ℕ) (margin : Margin) (high : Bool) (most : nat_le n longest_margin ≡ high) → margin_by n high most ≡ Some margin → margin.seconds ≡ n
+margin-seconds : (n : ℕ) (margin : Margin) (high : Bool) (most : nat_le n longest_margin ≡ high)
+    → margin_by n high most ≡ Some margin → margin.seconds ≡ n
 unfolding margin_by
 margin-seconds n margin true most e = ap (λ (x : Margin). x.seconds) (sym (some_is _ margin e))
 margin-seconds n margin false most e = absurd (none_is margin e)

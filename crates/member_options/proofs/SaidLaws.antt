@@ -25,7 +25,9 @@ own-name : (name : OptionName) → same_option_name name name ≡ true
 own-name name = grind (arith, nat_tests)
 
 -- an option is what is said under its name then, and nothing changes under another
-said-with : (name : OptionName) (option : MemberOption) (said : SaidOptions) → said_by name (saying option said) ≡ cond (same_option_name name (name_of_option option)) (option ∷ []) (said_by name said)
+said-with : (name : OptionName) (option : MemberOption) (said : SaidOptions)
+    → said_by name (saying option said)
+    ≡ cond (same_option_name name (name_of_option option)) (option ∷ []) (said_by name said)
 said-with names.Host (options.Host host) said = refl
 said-with names.NoFailover options.NoFailover said = refl
 said-with names.NoSync options.NoSync said = refl
@@ -52,7 +54,8 @@ unsaid names.Device said e = no-option options.Device said.device_works e
 unsaid names.Margin said e = no-option options.Margin said.margin e
 
 -- one option says what is
-an-option : {A : Type 0} (option : A → MemberOption) (o : Option A) → is_some o ≡ true → length (option_said option o) ≡ 1
+an-option : {A : Type 0} (option : A → MemberOption) (o : Option A) → is_some o ≡ true
+    → length (option_said option o) ≡ 1
 an-option option None e = cc
 an-option option (Some x) e = refl
 
@@ -91,24 +94,39 @@ abbrev pub SayMore : SaidOptions → List MemberOption → SaidOptions → Type 
 SayMore said os all = (name : OptionName) → said_by name said ++ options_of_name name os ≡ said_by name all
 
 -- an option whose name says nothing yet is said, in place of the first that follows
-moved-by : (t : Bool) (option : MemberOption) (before os : List MemberOption) → (t ≡ true → before ≡ []) → before ++ cond t (option ∷ os) os ≡ cond t (option ∷ []) before ++ os
+moved-by : (t : Bool) (option : MemberOption) (before os : List MemberOption) → (t ≡ true → before ≡ [])
+    → before ++ cond t (option ∷ os) os ≡ cond t (option ∷ []) before ++ os
 moved-by true option before os none = ap (λ xs. xs ++ (option ∷ os)) (none refl)
 moved-by false option before os none = refl
 
-pub moved : (said : SaidOptions) (option : MemberOption) (os : List MemberOption) (name : OptionName) → is_said (name_of_option option) said ≡ false
-    → said_by name said ++ options_of_name name (option ∷ os) ≡ said_by name (saying option said) ++ options_of_name name os
+pub moved : (said : SaidOptions) (option : MemberOption) (os : List MemberOption) (name : OptionName)
+    → is_said (name_of_option option) said ≡ false
+    → said_by name said ++ options_of_name name (option ∷ os)
+    ≡ said_by name (saying option said) ++ options_of_name name os
 moved said option os name none =
-    moved-by (same_option_name name (name_of_option option)) option (said_by name said) (options_of_name name os) (λ same. ap (λ n. said_by n said) (same-name name (name_of_option option) same) ∙ unsaid (name_of_option option) said none)
+    moved-by (same_option_name name (name_of_option option)) option (said_by name said) (options_of_name name os)
+    (λ same. ap (λ n. said_by n said) (same-name name (name_of_option option) same)
+    ∙ unsaid (name_of_option option) said none)
     ∙ ap (λ xs. xs ++ options_of_name name os) (sym (said-with name option said))
 
 -- an option that is said behind others wasn't said before
-room : (t : Bool) (said all : SaidOptions) (option : MemberOption) (os : List MemberOption) → is_said (name_of_option option) said ≡ t → SayMore said (option ∷ os) all → t ≡ false
+room : (t : Bool) (said all : SaidOptions) (option : MemberOption) (os : List MemberOption)
+    → is_said (name_of_option option) said ≡ t → SayMore said (option ∷ os) all → t ≡ false
 room true said all option os is more =
     let name = name_of_option option in
-    let own : options_of_name name (option ∷ os) ≡ option ∷ options_of_name name os = ap (λ t. cond t (option ∷ options_of_name name os) (options_of_name name os)) (own-name name) in
-    let all_is : said_by name said ++ (option ∷ options_of_name name os) ≡ said_by name all = ap (λ xs. said_by name said ++ xs) (sym own) ∙ more name in
-    absurd (omega (arith, ap length all_is, length-append (said_by name said) (option ∷ options_of_name name os), said-one name said is, said-few name all))
+    let own : options_of_name name (option ∷ os) ≡ option ∷ options_of_name name os =
+    ap (λ t. cond t (option ∷ options_of_name name os) (options_of_name name os)) (own-name name) in
+    let all_is : said_by name said ++ (option ∷ options_of_name name os) ≡ said_by name all =
+    ap (λ xs. said_by name said ++ xs) (sym own) ∙ more name in
+    absurd (omega (
+      arith,
+      ap length all_is,
+      length-append (said_by name said) (option ∷ options_of_name name os),
+      said-one name said is,
+      said-few name all,
+    ))
 room false said all option os is more = refl
 
-pub said-first : (said all : SaidOptions) (option : MemberOption) (os : List MemberOption) → SayMore said (option ∷ os) all → is_said (name_of_option option) said ≡ false
+pub said-first : (said all : SaidOptions) (option : MemberOption) (os : List MemberOption)
+    → SayMore said (option ∷ os) all → is_said (name_of_option option) said ≡ false
 said-first said all option os more = room (is_said (name_of_option option) said) said all option os refl more

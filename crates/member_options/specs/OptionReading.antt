@@ -55,11 +55,13 @@ flag_in option value = if bytes_eq value (codes "true") then Ok option else Err 
 
 -- 'off', 'automatic' or 'required'
 abbrev pub mode_in : List ℕ → Result Mode Fault
-mode_in value = if bytes_eq value (codes "off") then Ok modes.Off else if bytes_eq value (codes "automatic") then Ok modes.Automatic else if bytes_eq value (codes "required") then Ok modes.Required else Err faults.BadOption
+mode_in value = if bytes_eq value (codes "off") then Ok modes.Off else if bytes_eq value (codes "automatic")
+    then Ok modes.Automatic else if bytes_eq value (codes "required") then Ok modes.Required else Err faults.BadOption
 
 -- 'ok' or 'broken'
 abbrev pub device_in : List ℕ → Result Bool Fault
-device_in value = if bytes_eq value (codes "ok") then Ok true else if bytes_eq value (codes "broken") then Ok false else Err faults.BadOption
+device_in value = if bytes_eq value (codes "ok") then Ok true else if bytes_eq value (codes "broken")
+    then Ok false else Err faults.BadOption
 
 -- more bytes behind a first digit '0'
 abbrev pub has_leading_zero : List ℕ → Bool
@@ -86,7 +88,8 @@ no_number value = if is_whole value then faults.BadNumber else faults.BadOption
 -- the priority that a value is, if it is one: a number, or a minus sign and one above 0
 abbrev pub priority_found : List ℕ → Option Priority
 priority_found [] = None
-priority_found (b ∷ bs) = if b == 45 then option_and_then priority_below_zero (number bs) else option_and_then priority_from_zero (number (b ∷ bs))
+priority_found (b ∷ bs) = if b == 45 then option_and_then priority_below_zero (number bs)
+    else option_and_then priority_from_zero (number (b ∷ bs))
 
 -- a number in the range of priorities
 abbrev pub priority_in : List ℕ → Result Priority Fault
@@ -103,7 +106,8 @@ seconds_in value = seconds_by_number value (number value)
 
 -- a margin: '-1' for half of the lease, or a number of seconds
 abbrev pub margin_in : List ℕ → Result SafetyMargin Fault
-margin_in value = if bytes_eq value (codes "-1") then Ok margins.HalfOfLease else on_ok (seconds_in value) (λ margin. Ok (margins.Seconds margin))
+margin_in value = if bytes_eq value (codes "-1") then Ok margins.HalfOfLease
+    else on_ok (seconds_in value) (λ margin. Ok (margins.Seconds margin))
 
 -- the option of this name and this value
 abbrev pub option_of : OptionName → List ℕ → Result MemberOption Fault

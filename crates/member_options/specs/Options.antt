@@ -83,7 +83,8 @@ name_of_option (options.Margin margin) = names.Margin
 
 -- all names of options, in order
 abbrev pub option_names : List OptionName
-option_names = names.Host ∷ names.NoFailover ∷ names.NoSync ∷ names.NoLoadBalance ∷ names.Priority ∷ names.Watchdog ∷ names.Device ∷ names.Margin ∷ []
+option_names = names.Host ∷ names.NoFailover ∷ names.NoSync ∷ names.NoLoadBalance ∷ names.Priority
+    ∷ names.Watchdog ∷ names.Device ∷ names.Margin ∷ []
 
 -- the place of a name in that order
 abbrev pub option_place : OptionName → ℕ
@@ -131,7 +132,16 @@ SayOnce words said = (name : OptionName) → options_of_name name words ≡ said
 
 -- no option says anything
 abbrev pub nothing_said : SaidOptions
-nothing_said = record { host = None; nofailover = false; nosync = false; noloadbalance = false; priority = None; watchdog = None; device_works = None; margin = None }
+nothing_said = record {
+  host = None;
+  nofailover = false;
+  nosync = false;
+  noloadbalance = false;
+  priority = None;
+  watchdog = None;
+  device_works = None;
+  margin = None;
+}
 
 -- the host that is said, or the default
 abbrev pub host_or_default : Option Host → Host
@@ -179,7 +189,13 @@ margin_or_default (Some margin) = margin
 
 -- what a line declares whose options say this
 abbrev pub options_or_default : SaidOptions → MemberOptions
-options_or_default said = record { host = host_or_default said.host; tags = tags_or_default said; watchdog = mode_or_default said.watchdog; device_works = works_or_default said.device_works; margin = margin_or_default said.margin }
+options_or_default said = record {
+  host = host_or_default said.host;
+  tags = tags_or_default said;
+  watchdog = mode_or_default said.watchdog;
+  device_works = works_or_default said.device_works;
+  margin = margin_or_default said.margin;
+}
 
 -- what a line declares without options
 abbrev pub unsaid_options : MemberOptions

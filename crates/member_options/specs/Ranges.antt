@@ -21,7 +21,11 @@ default_margin = record { seconds = unsaid_margin; most = leb-true unsaid_margin
 
 -- a priority from 0 on, by the test of its range
 unfoldable pub from_zero_by : (number : ℕ) (few : Bool) → nat_le number greatest_priority ≡ few → Option Priority
-from_zero_by number true few = Some (record { number = pos number; lowest = (from_zero-within number few).0; highest = (from_zero-within number few).1 })
+from_zero_by number true few = Some (record {
+  number = pos number;
+  lowest = (from_zero-within number few).0;
+  highest = (from_zero-within number few).1;
+})
 from_zero_by number false few = None
 
 -- the priority of this number: at most 1000
@@ -30,7 +34,8 @@ priority_from_zero number = from_zero_by number (nat_le number greatest_priority
 
 -- a priority below 0, by the test of its range
 unfoldable pub below_zero_by : (less : ℕ) (few : Bool) → nat_le (suc less) greatest_priority ≡ few → Option Priority
-below_zero_by less true few = Some (record { number = negsuc less; lowest = (below_zero-within less few).0; highest = (below_zero-within less few).1 })
+below_zero_by less true few = Some
+    (record { number = negsuc less; lowest = (below_zero-within less few).0; highest = (below_zero-within less few).1 })
 below_zero_by less false few = None
 
 -- the priority of this number with a minus sign: 1 to 1000
@@ -40,4 +45,8 @@ priority_below_zero (suc less) = below_zero_by less (nat_le (suc less) greatest_
 
 -- the priority that no option says
 unfoldable pub default_priority : Priority
-default_priority = record { number = pos unsaid_priority; lowest = (from_zero-within unsaid_priority refl).0; highest = (from_zero-within unsaid_priority refl).1 }
+default_priority = record {
+  number = pos unsaid_priority;
+  lowest = (from_zero-within unsaid_priority refl).0;
+  highest = (from_zero-within unsaid_priority refl).1;
+}

@@ -16,10 +16,13 @@ or-else true k n is fits = refl
 or-else false k n is fits = grind (arith, nat_tests)
 
 -- the first place that passes, and else that behind the last
-pub position-or-length : {A : Type 0} (p : A → Bool) (xs : List A) → unwrap_or (position p xs) (length xs) ≡ position_or_len p xs
-position-or-length p xs = or-else (nat_lt (position_or_len p xs) (length xs)) (position_or_len p xs) (length xs) refl (prefix_len-le-length _ xs)
+pub position-or-length : {A : Type 0} (p : A → Bool) (xs : List A)
+    → unwrap_or (position p xs) (length xs) ≡ position_or_len p xs
+position-or-length p xs = or-else (nat_lt (position_or_len p xs) (length xs)) (position_or_len p xs)
+    (length xs) refl (prefix_len-le-length _ xs)
 
-placed-cons : (x r : Row) (rows : List Row) (test : Bool) → is_before x r ≡ test → placed (r ∷ rows) x ≡ cond test (x ∷ r ∷ rows) (r ∷ placed rows x)
+placed-cons : (x r : Row) (rows : List Row) (test : Bool) → is_before x r ≡ test
+    → placed (r ∷ rows) x ≡ cond test (x ∷ r ∷ rows) (r ∷ placed rows x)
 placed-cons x r rows true is = rw is refl
 placed-cons x r rows false is =
     let on : 1 + position_or_len (is_before x) rows ≡ suc (position_or_len (is_before x) rows) = omega arith in
@@ -27,7 +30,8 @@ placed-cons x r rows false is =
 
 -- of two names one at most comes before the other
 not-both : (x r : Row) → is_before x r ≡ true → is_before r x ≡ false
-not-both x r is = ap is_lt (nat_list_cmp_total.antisymm (name_bytes r.name) (name_bytes x.name) ∙ ap ordering_reverse (less-from _ is))
+not-both x r is = ap is_lt
+    (nat_list_cmp_total.antisymm (name_bytes r.name) (name_bytes x.name) ∙ ap ordering_reverse (less-from _ is))
 
 -- no name comes before that of the row above
 abbrev IsAbove : Row → List Row → Type 0
@@ -38,16 +42,19 @@ abbrev AreInOrder : List Row → Type 0
 AreInOrder [] = Unit {0}
 AreInOrder (r ∷ rows) = IsAbove r rows × AreInOrder rows
 
-above-by : (r x q : Row) (rows : List Row) (test : Bool) → is_before x r ≡ false → is_before q r ≡ false → IsAbove r (cond test (x ∷ q ∷ rows) (q ∷ placed rows x))
+above-by : (r x q : Row) (rows : List Row) (test : Bool) → is_before x r ≡ false → is_before q r ≡ false
+    → IsAbove r (cond test (x ∷ q ∷ rows) (q ∷ placed rows x))
 above-by r x q rows true later above = later
 above-by r x q rows false later above = above
 
 above-placed : (r x : Row) (rows : List Row) → IsAbove r rows → is_before x r ≡ false → IsAbove r (placed rows x)
 above-placed r x [] above later = later
 above-placed r x (q ∷ rows) above later =
-    subst (IsAbove r) (sym (placed-cons x q rows (is_before x q) refl)) (above-by r x q rows (is_before x q) later above)
+    subst (IsAbove r) (sym (placed-cons x q rows (is_before x q) refl))
+    (above-by r x q rows (is_before x q) later above)
 
-order-by : (r x : Row) (rows : List Row) (test : Bool) → is_before x r ≡ test → AreInOrder (r ∷ rows) → AreInOrder (placed rows x) → AreInOrder (cond test (x ∷ r ∷ rows) (r ∷ placed rows x))
+order-by : (r x : Row) (rows : List Row) (test : Bool) → is_before x r ≡ test → AreInOrder (r ∷ rows)
+    → AreInOrder (placed rows x) → AreInOrder (cond test (x ∷ r ∷ rows) (r ∷ placed rows x))
 order-by r x rows true is order rest = (not-both x r is, order)
 order-by r x rows false is order rest = (above-placed r x rows order.0 is, rest)
 
@@ -61,7 +68,8 @@ order-fold : (before rows : List Row) → AreInOrder before → AreInOrder (fold
 order-fold before [] order = order
 order-fold before (x ∷ rows) order = order-fold (placed before x) rows (order-placed before x order)
 
-order-at : (rows : List Row) (k : ℕ) (d : Row) → suc k < length rows → AreInOrder rows → is_before (get_or rows (suc k) d) (get_or rows k d) ≡ false
+order-at : (rows : List Row) (k : ℕ) (d : Row) → suc k < length rows → AreInOrder rows
+    → is_before (get_or rows (suc k) d) (get_or rows k d) ≡ false
 order-at [] k d below order = absurd (omega arith)
 order-at (r ∷ []) k d below order = absurd (omega arith)
 order-at (r ∷ q ∷ rows) zero d below order = order.0
@@ -75,11 +83,16 @@ sorted-by-name rows k d low below =
     ∙ order-at (fold placed [] rows) k d (omega arith) (order-fold [] rows tt)
 
 -- placing loses and doubles none
-pub count-fold : (p : Row → Bool) (rows before : List Row) → count_by p (fold placed before rows) ≡ count_by p before + count_by p rows
+pub count-fold : (p : Row → Bool) (rows before : List Row)
+    → count_by p (fold placed before rows) ≡ count_by p before + count_by p rows
 count-fold p [] before = omega arith
 count-fold p (x ∷ rows) before =
     count-fold p rows (placed before x)
-    ∙ omega (arith, sum_by-insert (λ y. cond (p y) 1 0) before (position_or_len (is_before x) before) x, sum_by-cons (λ y. cond (p y) 1 0) x rows)
+    ∙ omega (
+      arith,
+      sum_by-insert (λ y. cond (p y) 1 0) before (position_or_len (is_before x) before) x,
+      sum_by-cons (λ y. cond (p y) 1 0) x rows,
+    )
 
 -- what holds of each row holds of each that was placed
 pub all-fold : (P : Row → Type 0) (before rows : List Row) → All P before → All P rows → All P (fold placed before rows)
@@ -90,4 +103,5 @@ all-fold P before (x ∷ rows) here there = all-fold P (placed before x) rows he
     n = position_or_len (is_before x) before
 
     here-placed : All P (placed before x)
-    here-placed = All-append P (take n before) (x ∷ drop n before) (All-take P n before here) (All-cons P x (drop n before) (there 0 x (omega arith)) (All-drop P n before here))
+    here-placed = All-append P (take n before) (x ∷ drop n before) (All-take P n before here)
+        (All-cons P x (drop n before) (there 0 x (omega arith)) (All-drop P n before here))

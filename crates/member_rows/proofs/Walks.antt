@@ -11,13 +11,15 @@ range-more : (a n j : ℕ) → a + n ≡ j → range_with_len a (suc n) ≡ rang
 range-more a zero j e = let same : a ≡ j = omega arith in ap (λ k. k ∷ []) same
 range-more a (suc n) j e = ap (λ ks. a ∷ ks) (range-more (a + 1) n j (omega arith))
 
-fold-found : {A B : Type 0} (add : B → A → B) (before : B) (found : Option A) (f : ℕ → Option A) (n : ℕ) → f n ≡ found → fold add before (filter_map f (n ∷ [])) ≡ with_found add before found
+fold-found : {A B : Type 0} (add : B → A → B) (before : B) (found : Option A) (f : ℕ → Option A) (n : ℕ)
+    → f n ≡ found → fold add before (filter_map f (n ∷ [])) ≡ with_found add before found
 fold-found add before None f n is = rw is refl
 fold-found add before (Some a) f n is = rw is refl
 
 -- a walk over one more number finds what is at that number, if something is
 pub walk-more : {A B : Type 0} (add : B → A → B) (start : B) (f : ℕ → Option A) (n : ℕ)
-    → fold add start (filter_map f (range_with_len 0 (n + 1))) ≡ with_found add (fold add start (filter_map f (range_with_len 0 n))) (f n)
+    → fold add start (filter_map f (range_with_len 0 (n + 1)))
+    ≡ with_found add (fold add start (filter_map f (range_with_len 0 n))) (f n)
 walk-more add start f n =
     let on : n + 1 ≡ suc n = omega arith in
     ap (λ k. fold add start (filter_map f (range_with_len 0 k))) on
@@ -26,7 +28,8 @@ walk-more add start f n =
     ∙ fold-append add start (filter_map f (range_with_len 0 n)) (filter_map f (n ∷ []))
     ∙ fold-found add (fold add start (filter_map f (range_with_len 0 n))) (f n) f n refl
 
-found-listed : {A B : Type 0} (f : A → Option B) (x : A) (found : Option B) → f x ≡ found → filter_map f (x ∷ []) ≡ option_to_list found
+found-listed : {A B : Type 0} (f : A → Option B) (x : A) (found : Option B) → f x ≡ found
+    → filter_map f (x ∷ []) ≡ option_to_list found
 found-listed f x None is = rw is refl
 found-listed f x (Some b) is = rw is refl
 

@@ -58,20 +58,27 @@ record StandsAt (place : ℕ) (text : List ℕ) (members : List (Name × Host)) 
   is : slice_get members place ≡ Some known
   called : name_bytes known.0 ≡ text
 
-stands-at : (members : List (Name × Host)) (text : List ℕ) (place : ℕ) → position (has_name text) members ≡ Some place → StandsAt place text members
+stands-at : (members : List (Name × Host)) (text : List ℕ) (place : ℕ)
+    → position (has_name text) members ≡ Some place → StandsAt place text members
 stands-at [] text place e = absurd (nobody-is place e)
 stands-at (d ∷ members) text place e =
     let whole = d ∷ members in
     let found = position-Some (has_name text) whole place d e in
     let x = get_or whole place d in
-    record { known = x; is = slice_get-get_or whole place d found.0; called = (bytes_eq-Decides (name_bytes x.0) text).0 found.1 }
+    record {
+      known = x;
+      is = slice_get-get_or whole place d found.0;
+      called = (bytes_eq-Decides (name_bytes x.0) text).0 found.1;
+    }
 
 at-place : (o : Option ℕ) (member : MemberId) → option_and_then member_of o ≡ Some member → o ≡ Some member.number
 at-place None member e = absurd (nobody-is member e)
 at-place (Some place) member e = ap Some (sym (number-member_of place member e))
 
-named-at : (members : List (Name × Host)) (text : List ℕ) (member : MemberId) → member_named members text ≡ Some member → StandsAt member.number text members
-named-at members text member e = stands-at members text member.number (at-place (position (has_name text) members) member e)
+named-at : (members : List (Name × Host)) (text : List ℕ) (member : MemberId)
+    → member_named members text ≡ Some member → StandsAt member.number text members
+named-at members text member e =
+    stands-at members text member.number (at-place (position (has_name text) members) member e)
 
 -- a member that is named is so by a text, which is its name
 record IsNamedBy (o : Option (List ℕ)) (member : MemberId) (members : List (Name × Host)) : Type 0 where
@@ -79,9 +86,14 @@ record IsNamedBy (o : Option (List ℕ)) (member : MemberId) (members : List (Na
   is : o ≡ Some text
   stands : StandsAt member.number text members
 
-named-by : (members : List (Name × Host)) (o : Option (List ℕ)) (member : MemberId) → named_by members o ≡ named.Member member → IsNamedBy o member members
+named-by : (members : List (Name × Host)) (o : Option (List ℕ)) (member : MemberId)
+    → named_by members o ≡ named.Member member → IsNamedBy o member members
 named-by members None member e = absurd (nobody-member member e)
-named-by members (Some text) member e = record { text = text; is = refl; stands = named-at members text member (some-member (member_named members text) member e) }
+named-by members (Some text) member e = record {
+  text = text;
+  is = refl;
+  stands = named-at members text member (some-member (member_named members text) member e);
+}
 
 member_if-some : (who : Named) (member : MemberId) → member_if who ≡ Some member → who ≡ named.Member member
 member_if-some named.Nobody member e = absurd (nobody-is member e)
@@ -89,7 +101,8 @@ member_if-some named.Unknown member e = absurd (nobody-is member e)
 member_if-some (named.Member other) member e = ap named.Member (same-some other member e)
 
 -- ---- one place has one name
-one-name : (place : ℕ) (a b : List ℕ) (members : List (Name × Host)) → StandsAt place a members → StandsAt place b members → a ≡ b
+one-name : (place : ℕ) (a b : List ℕ) (members : List (Name × Host)) → StandsAt place a members
+    → StandsAt place b members → a ≡ b
 one-name place a b members x y =
     let same : x.known ≡ y.known = same-some x.known y.known (sym x.is ∙ y.is) in
     sym x.called ∙ ap (λ (k : Name × Host). name_bytes k.0) same ∙ y.called
@@ -101,42 +114,57 @@ is-false false h = refl
 same-texts : (a b : List ℕ) → a ≡ b → bytes_eq a b ≡ true
 same-texts a b e = (bytes_eq-Decides a b).1 e
 
-leads-same : (a b : MemberId) (leader : Option LeaderEntry) → leads a leader ≡ true → leads b leader ≡ true → a.number ≡ b.number
+leads-same : (a b : MemberId) (leader : Option LeaderEntry) → leads a leader ≡ true → leads b leader ≡ true
+    → a.number ≡ b.number
 leads-same a b None x y = absurd (no (sym x))
-leads-same a b (Some leader) x y = sym (eqb-true leader.holder.number a.number x) ∙ eqb-true leader.holder.number b.number y
+leads-same a b (Some leader) x y =
+    sym (eqb-true leader.holder.number a.number x) ∙ eqb-true leader.holder.number b.number y
 
-leader-is : (who : Named) (leader : Option LeaderEntry) → names_leader who leader ≡ true → (member : MemberId) × (who ≡ named.Member member) × (leads member leader ≡ true)
+leader-is : (who : Named) (leader : Option LeaderEntry) → names_leader who leader ≡ true
+    → (member : MemberId) × (who ≡ named.Member member) × (leads member leader ≡ true)
 leader-is named.Nobody leader e = absurd (no (sym e))
 leader-is named.Unknown leader e = absurd (no (sym e))
 leader-is (named.Member member) leader e = (member, refl, e)
 
 -- who has two names that differ isn't one member
-two-names : (members : List (Name × Host)) (one other : Option (List ℕ)) (a b : MemberId) → IsNamedBy one a members → IsNamedBy other b members → a.number ≡ b.number → is_same_text one other ≡ true
+two-names : (members : List (Name × Host)) (one other : Option (List ℕ)) (a b : MemberId)
+    → IsNamedBy one a members → IsNamedBy other b members → a.number ≡ b.number → is_same_text one other ≡ true
 two-names members one other a b x y e =
     let there : StandsAt b.number x.text members = subst (λ (n : ℕ). StandsAt n x.text members) e x.stands in
     let same : x.text ≡ y.text = one-name b.number x.text y.text members there y.stands in
     rw (x.is, y.is) (same-texts x.text y.text same)
 
-other-one : (body : Data) (members : List (Name × Host)) (leader : Option LeaderEntry) (candidate : MemberId) → (asked_by body members).is_same ≡ false → names_leader (asked_by body members).leader leader ≡ true → (asked_by body members).candidate ≡ named.Member candidate → leads candidate leader ≡ false
+other-one : (body : Data) (members : List (Name × Host)) (leader : Option LeaderEntry) (candidate : MemberId)
+    → (asked_by body members).is_same ≡ false → names_leader (asked_by body members).leader leader ≡ true
+    → (asked_by body members).candidate ≡ named.Member candidate → leads candidate leader ≡ false
 other-one body members leader candidate different names is =
     is-false (leads candidate leader) (λ leading.
     let first = leader-is (asked_by body members).leader leader names in
     let one = named-by members (text_at (codes "leader") body) first.0 first.1 in
     let two = named-by members (text_at (codes "candidate") body) candidate is in
     let number = leads-same first.0 candidate leader first.2 leading in
-    no (sym (two-names members (text_at (codes "leader") body) (text_at (codes "candidate") body) first.0 candidate one two number) ∙ different))
+    no (sym (two-names members (text_at (codes "leader") body)
+    (text_at (codes "candidate") body) first.0 candidate one two number)
+    ∙ different))
 
 -- ---- what a candidate tells
-told-of : (o : Option MemberInfo) → is_none o ≡ false → candidate_may_not_fail_over o ≡ None → (info : MemberInfo) × (o ≡ Some info) × (may_fail_over info.tags ≡ true)
+told-of : (o : Option MemberInfo) → is_none o ≡ false → candidate_may_not_fail_over o ≡ None
+    → (info : MemberInfo) × (o ≡ Some info) × (may_fail_over info.tags ≡ true)
 told-of None known may = absurd (no known)
-told-of (Some info) known may = (info, refl, not-false (may_fail_over info.tags) (refused_where-none (not (may_fail_over info.tags)) precondition_failed texts.CandidateMayNotFailOver may))
+told-of (Some info) known may = (
+  info,
+  refl,
+  not-false (may_fail_over info.tags)
+      (refused_where-none (not (may_fail_over info.tags)) precondition_failed texts.CandidateMayNotFailOver may),
+)
 
 -- what the rules on a candidate leave, where one is named
 record IsFit (who : Named) (seen : SnapshotFacts) : Type 0 where
   known : not (is_nobody who) && is_none (info_of who seen) ≡ false
   may : candidate_may_not_fail_over (info_of who seen) ≡ None
 
-follows : (who : Named) (seen : SnapshotFacts) (candidate : MemberId) → IsFit who seen → who ≡ named.Member candidate → leads candidate (leader_in seen) ≡ false → MayFollow candidate seen
+follows : (who : Named) (seen : SnapshotFacts) (candidate : MemberId) → IsFit who seen
+    → who ≡ named.Member candidate → leads candidate (leader_in seen) ≡ false → MayFollow candidate seen
 follows named.Nobody seen candidate fit is other = absurd (nobody-member candidate is)
 follows named.Unknown seen candidate fit is other = absurd (unknown-member candidate is)
 follows (named.Member member) seen candidate fit is other =
@@ -179,9 +207,15 @@ free asked seen e =
     record {
       different = refused_where-none asked.is_same bad_request texts.TargetIsSource second.0;
       running = third.0;
-      leader = not-false (names_leader asked.leader (leader_in seen)) (refused_where-none (not (names_leader asked.leader (leader_in seen))) precondition_failed texts.OtherLeader fifth.0);
+      leader = not-false (names_leader asked.leader (leader_in seen))
+          (refused_where-none (not (names_leader asked.leader (leader_in seen))) precondition_failed
+          texts.OtherLeader fifth.0);
       alone = none-there (failover_in seen) sixth.0;
-      fit = record { known = refused_where-none (not (is_nobody asked.candidate) && is_none (info_of asked.candidate seen)) precondition_failed texts.NoSuchCandidate seventh.0; may = ninth.0 };
+      fit = record {
+        known = refused_where-none (not (is_nobody asked.candidate) && is_none (info_of asked.candidate seen))
+            precondition_failed texts.NoSuchCandidate seventh.0;
+        may = ninth.0;
+      };
       standby = eighth.0;
       anyone = tenth.0;
     }
@@ -203,127 +237,185 @@ free-failover asked seen e =
     let sixth = first_refusal-none (candidate_may_not_fail_over (info_of asked.candidate seen)) _ fifth.1 in
     record {
       named = refused_where-none (is_nobody asked.candidate) bad_request texts.CandidateNotNamed first.0;
-      other = refused_where-none (names_leader asked.candidate (leader_in seen)) precondition_failed texts.CandidateLeads third.0;
+      other = refused_where-none (names_leader asked.candidate (leader_in seen)) precondition_failed
+          texts.CandidateLeads third.0;
       alone = none-there (failover_in seen) fourth.0;
-      fit = record { known = refused_where-none (not (is_nobody asked.candidate) && is_none (info_of asked.candidate seen)) precondition_failed texts.NoSuchCandidate fifth.0; may = sixth.0 };
+      fit = record {
+        known = refused_where-none (not (is_nobody asked.candidate) && is_none (info_of asked.candidate seen))
+            precondition_failed texts.NoSuchCandidate fifth.0;
+        may = sixth.0;
+      };
     }
 
 -- ---- the laws of switchovers
-switchover : (view : AgentView) (bytes : List ℕ) (seen : SnapshotFacts) (key : FailoverKey) → switchover_of view bytes ≡ Ok key → option_copied view.seen ≡ Some seen → Passed switchover_refusal switchover_key view bytes seen key
+switchover : (view : AgentView) (bytes : List ℕ) (seen : SnapshotFacts) (key : FailoverKey)
+    → switchover_of view bytes ≡ Ok key → option_copied view.seen ≡ Some seen
+    → Passed switchover_refusal switchover_key view bytes seen key
 switchover view bytes seen key e is = passed switchover_refusal switchover_key view bytes seen key e is
 
-candidate-of : (asked : Asked) (key : FailoverKey) (candidate : MemberId) → switchover_key asked ≡ key → key.candidate ≡ Some candidate → asked.candidate ≡ named.Member candidate
-candidate-of asked key candidate gives is = member_if-some asked.candidate candidate (ap (λ (k : FailoverKey). k.candidate) gives ∙ is)
+candidate-of : (asked : Asked) (key : FailoverKey) (candidate : MemberId) → switchover_key asked ≡ key
+    → key.candidate ≡ Some candidate → asked.candidate ≡ named.Member candidate
+candidate-of asked key candidate gives is =
+    member_if-some asked.candidate candidate (ap (λ (k : FailoverKey). k.candidate) gives ∙ is)
 
-leader-named : (who : Named) (leader : Option LeaderEntry) → names_leader who leader ≡ true → IsSomeAnd (member_if who) (λ member. leads member leader ≡ true)
+leader-named : (who : Named) (leader : Option LeaderEntry) → names_leader who leader ≡ true
+    → IsSomeAnd (member_if who) (λ member. leads member leader ≡ true)
 leader-named named.Nobody leader e = absurd (no (sym e))
 leader-named named.Unknown leader e = absurd (no (sym e))
 leader-named (named.Member member) leader e = e
 
-pub switchover-leader : (view : AgentView) (bytes : List ℕ) (key : FailoverKey) (seen : SnapshotFacts) → switchover_of view bytes ≡ Ok key → option_copied view.seen ≡ Some seen → IsSomeAnd key.leader (λ leader. leads leader (leader_in seen) ≡ true)
+pub switchover-leader : (view : AgentView) (bytes : List ℕ) (key : FailoverKey) (seen : SnapshotFacts)
+    → switchover_of view bytes ≡ Ok key → option_copied view.seen ≡ Some seen
+    → IsSomeAnd key.leader (λ leader. leads leader (leader_in seen) ≡ true)
 switchover-leader view bytes key seen e is =
     let p = switchover view bytes seen key e is in
     let asked = asked_by p.body seen.members in
-    subst (λ (k : FailoverKey). IsSomeAnd k.leader (λ leader. leads leader (leader_in seen) ≡ true)) p.gives (leader-named asked.leader (leader_in seen) (free asked seen p.free).leader)
+    subst (λ (k : FailoverKey). IsSomeAnd k.leader (λ leader. leads leader (leader_in seen) ≡ true)) p.gives
+    (leader-named asked.leader (leader_in seen) (free asked seen p.free).leader)
 
-pub switchover-candidate : (view : AgentView) (bytes : List ℕ) (key : FailoverKey) (seen : SnapshotFacts) (candidate : MemberId) → switchover_of view bytes ≡ Ok key → option_copied view.seen ≡ Some seen → key.candidate ≡ Some candidate → MayFollow candidate seen
+pub switchover-candidate : (view : AgentView) (bytes : List ℕ) (key : FailoverKey) (seen : SnapshotFacts)
+    (candidate : MemberId) → switchover_of view bytes ≡ Ok key → option_copied view.seen ≡ Some seen
+    → key.candidate ≡ Some candidate → MayFollow candidate seen
 switchover-candidate view bytes key seen candidate e is named_so =
     let p = switchover view bytes seen key e is in
     let asked = asked_by p.body seen.members in
     let f = free asked seen p.free in
     let who = candidate-of asked key candidate p.gives named_so in
-    follows asked.candidate seen candidate f.fit who (other-one p.body seen.members (leader_in seen) candidate f.different f.leader who)
+    follows asked.candidate seen candidate f.fit who
+    (other-one p.body seen.members (leader_in seen) candidate f.different f.leader who)
 
-standby-of : (who : Named) (sync : Option SyncKey) (candidate : MemberId) (key : SyncKey) → candidate_not_standby who sync ≡ None → who ≡ named.Member candidate → sync ≡ Some key → is_standby candidate key ≡ true
+standby-of : (who : Named) (sync : Option SyncKey) (candidate : MemberId) (key : SyncKey)
+    → candidate_not_standby who sync ≡ None → who ≡ named.Member candidate → sync ≡ Some key
+    → is_standby candidate key ≡ true
 standby-of who None candidate key e is there = absurd (nobody-is key there)
 standby-of named.Nobody (Some other) candidate key e is there = absurd (nobody-member candidate is)
 standby-of named.Unknown (Some other) candidate key e is there = absurd (unknown-member candidate is)
 standby-of (named.Member member) (Some other) candidate key e is there =
-    let so : is_standby member other ≡ true = not-false (is_standby member other) (refused_where-none (not (is_standby member other)) precondition_failed texts.CandidateNotStandby e) in
-    ap (λ (m : MemberId). is_standby m key) (sym (same-member member candidate is)) ∙ ap (is_standby member) (sym (same-some other key there)) ∙ so
+    let so : is_standby member other ≡ true = not-false (is_standby member other)
+    (refused_where-none (not (is_standby member other)) precondition_failed texts.CandidateNotStandby e) in
+    ap (λ (m : MemberId). is_standby m key) (sym (same-member member candidate is))
+    ∙ ap (is_standby member) (sym (same-some other key there)) ∙ so
 
-pub switchover-standby : (view : AgentView) (bytes : List ℕ) (key : FailoverKey) (seen : SnapshotFacts) (candidate : MemberId) (sync : SyncKey) → switchover_of view bytes ≡ Ok key → option_copied view.seen ≡ Some seen → key.candidate ≡ Some candidate → active_sync_in seen ≡ Some sync → is_standby candidate sync ≡ true
+pub switchover-standby : (view : AgentView) (bytes : List ℕ) (key : FailoverKey) (seen : SnapshotFacts)
+    (candidate : MemberId) (sync : SyncKey) → switchover_of view bytes ≡ Ok key → option_copied view.seen ≡ Some seen
+    → key.candidate ≡ Some candidate → active_sync_in seen ≡ Some sync → is_standby candidate sync ≡ true
 switchover-standby view bytes key seen candidate sync e is named_so active =
     let p = switchover view bytes seen key e is in
     let asked = asked_by p.body seen.members in
-    standby-of asked.candidate (active_sync_in seen) candidate sync (free asked seen p.free).standby (candidate-of asked key candidate p.gives named_so) active
+    standby-of asked.candidate (active_sync_in seen) candidate sync (free asked seen p.free).standby
+    (candidate-of asked key candidate p.gives named_so) active
 
-nobody-of : (asked : Asked) (key : FailoverKey) (seen : SnapshotFacts) → IsFit asked.candidate seen → switchover_key asked ≡ key → key.candidate ≡ None → asked.candidate ≡ named.Nobody
-nobody-of asked key seen fit gives is = nobody-left asked.candidate seen fit (ap (λ (k : FailoverKey). k.candidate) gives ∙ is)
+nobody-of : (asked : Asked) (key : FailoverKey) (seen : SnapshotFacts) → IsFit asked.candidate seen
+    → switchover_key asked ≡ key → key.candidate ≡ None → asked.candidate ≡ named.Nobody
+nobody-of asked key seen fit gives is =
+    nobody-left asked.candidate seen fit (ap (λ (k : FailoverKey). k.candidate) gives ∙ is)
 
 anyone-of : (who : Named) (anyone : Bool) → no_good_candidates who anyone ≡ None → who ≡ named.Nobody → anyone ≡ true
 anyone-of who true e is = refl
 anyone-of who false e is = absurd (no-bar _ (ap (λ w. no_good_candidates w false) (sym is) ∙ e))
 
-pub switchover-anyone : (view : AgentView) (bytes : List ℕ) (key : FailoverKey) (seen : SnapshotFacts) → switchover_of view bytes ≡ Ok key → option_copied view.seen ≡ Some seen → key.candidate ≡ None → anyone_may_take_over seen ≡ true
+pub switchover-anyone : (view : AgentView) (bytes : List ℕ) (key : FailoverKey) (seen : SnapshotFacts)
+    → switchover_of view bytes ≡ Ok key → option_copied view.seen ≡ Some seen → key.candidate ≡ None
+    → anyone_may_take_over seen ≡ true
 switchover-anyone view bytes key seen e is nobody =
     let p = switchover view bytes seen key e is in
     let asked = asked_by p.body seen.members in
     let f = free asked seen p.free in
     anyone-of asked.candidate (anyone_may_take_over seen) f.anyone (nobody-of asked key seen f.fit p.gives nobody)
 
-running-of : (who : Named) (pause : Bool) → paused_without_candidate pause who ≡ None → who ≡ named.Nobody → pause ≡ false
+running-of : (who : Named) (pause : Bool) → paused_without_candidate pause who ≡ None → who ≡ named.Nobody
+    → pause ≡ false
 running-of who false e is = refl
 running-of who true e is = absurd (no-bar _ (ap (paused_without_candidate true) (sym is) ∙ e))
 
-pub switchover-running : (view : AgentView) (bytes : List ℕ) (key : FailoverKey) (seen : SnapshotFacts) → switchover_of view bytes ≡ Ok key → option_copied view.seen ≡ Some seen → key.candidate ≡ None → (config_in seen).pause ≡ false
+pub switchover-running : (view : AgentView) (bytes : List ℕ) (key : FailoverKey) (seen : SnapshotFacts)
+    → switchover_of view bytes ≡ Ok key → option_copied view.seen ≡ Some seen → key.candidate ≡ None
+    → (config_in seen).pause ≡ false
 switchover-running view bytes key seen e is nobody =
     let p = switchover view bytes seen key e is in
     let asked = asked_by p.body seen.members in
     let f = free asked seen p.free in
     running-of asked.candidate (config_in seen).pause f.running (nobody-of asked key seen f.fit p.gives nobody)
 
-pub switchover-alone : (view : AgentView) (bytes : List ℕ) (key : FailoverKey) (seen : SnapshotFacts) → switchover_of view bytes ≡ Ok key → option_copied view.seen ≡ Some seen → (failover_in seen ≡ None) × (view.waits ≡ false)
+pub switchover-alone : (view : AgentView) (bytes : List ℕ) (key : FailoverKey) (seen : SnapshotFacts)
+    → switchover_of view bytes ≡ Ok key → option_copied view.seen ≡ Some seen
+    → (failover_in seen ≡ None) × (view.waits ≡ false)
 switchover-alone view bytes key seen e is =
     let p = switchover view bytes seen key e is in
     ((free (asked_by p.body seen.members) seen p.free).alone, p.alone)
 
 -- ---- the laws of failovers
-failover : (view : AgentView) (bytes : List ℕ) (seen : SnapshotFacts) (key : FailoverKey) → failover_of view bytes ≡ Ok key → option_copied view.seen ≡ Some seen → Passed failover_refusal failover_key view bytes seen key
+failover : (view : AgentView) (bytes : List ℕ) (seen : SnapshotFacts) (key : FailoverKey)
+    → failover_of view bytes ≡ Ok key → option_copied view.seen ≡ Some seen
+    → Passed failover_refusal failover_key view bytes seen key
 failover view bytes seen key e is = passed failover_refusal failover_key view bytes seen key e is
 
-pub failover-leader : (view : AgentView) (bytes : List ℕ) (key : FailoverKey) → failover_of view bytes ≡ Ok key → key.leader ≡ None
+pub failover-leader : (view : AgentView) (bytes : List ℕ) (key : FailoverKey)
+    → failover_of view bytes ≡ Ok key → key.leader ≡ None
 failover-leader view bytes key e =
     let p = passed-key failover_refusal failover_key view bytes key e in
     ap (λ (k : FailoverKey). k.leader) (sym p.1)
 
-candidate-fit : (who : Named) (seen : SnapshotFacts) → is_nobody who ≡ false → names_leader who (leader_in seen) ≡ false → IsFit who seen → IsSomeAnd (member_if who) (λ candidate. MayFollow candidate seen)
+candidate-fit : (who : Named) (seen : SnapshotFacts) → is_nobody who ≡ false → names_leader who (leader_in seen) ≡ false
+    → IsFit who seen → IsSomeAnd (member_if who) (λ candidate. MayFollow candidate seen)
 candidate-fit named.Nobody seen some other fit = absurd (no some)
 candidate-fit named.Unknown seen some other fit = absurd (no fit.known)
 candidate-fit (named.Member member) seen some other fit = follows (named.Member member) seen member fit refl other
 
-pub failover-candidate : (view : AgentView) (bytes : List ℕ) (key : FailoverKey) (seen : SnapshotFacts) → failover_of view bytes ≡ Ok key → option_copied view.seen ≡ Some seen → IsSomeAnd key.candidate (λ candidate. MayFollow candidate seen)
+pub failover-candidate : (view : AgentView) (bytes : List ℕ) (key : FailoverKey) (seen : SnapshotFacts)
+    → failover_of view bytes ≡ Ok key → option_copied view.seen ≡ Some seen
+    → IsSomeAnd key.candidate (λ candidate. MayFollow candidate seen)
 failover-candidate view bytes key seen e is =
     let p = failover view bytes seen key e is in
     let asked = asked_by p.body seen.members in
     let f = free-failover asked seen p.free in
-    subst (λ (k : FailoverKey). IsSomeAnd k.candidate (λ candidate. MayFollow candidate seen)) p.gives (candidate-fit asked.candidate seen f.named f.other f.fit)
+    subst (λ (k : FailoverKey). IsSomeAnd k.candidate (λ candidate. MayFollow candidate seen)) p.gives
+    (candidate-fit asked.candidate seen f.named f.other f.fit)
 
-pub failover-alone : (view : AgentView) (bytes : List ℕ) (key : FailoverKey) (seen : SnapshotFacts) → failover_of view bytes ≡ Ok key → option_copied view.seen ≡ Some seen → (failover_in seen ≡ None) × (view.waits ≡ false)
+pub failover-alone : (view : AgentView) (bytes : List ℕ) (key : FailoverKey) (seen : SnapshotFacts)
+    → failover_of view bytes ≡ Ok key → option_copied view.seen ≡ Some seen
+    → (failover_in seen ≡ None) × (view.waits ≡ false)
 failover-alone view bytes key seen e is =
     let p = failover view bytes seen key e is in
     ((free-failover (asked_by p.body seen.members) seen p.free).alone, p.alone)
 
 -- ---- whom a key names has the name that the body gives
-called : (name : List ℕ) (asked body : Data) (seen : SnapshotFacts) (member : MemberId) → body ≡ asked → named_by seen.members (text_at name asked) ≡ named.Member member → (text : List ℕ) × (text_at name body ≡ Some text) × IsCalled member text seen
+called : (name : List ℕ) (asked body : Data) (seen : SnapshotFacts) (member : MemberId) → body ≡ asked
+    → named_by seen.members (text_at name asked) ≡ named.Member member
+    → (text : List ℕ) × (text_at name body ≡ Some text) × IsCalled member text seen
 called name asked body seen member same is =
-    let by = named-by seen.members (text_at name asked) member is in
-    (by.text, ap (text_at name) same ∙ by.is, record { known = by.stands.known; is = by.stands.is; called = by.stands.called })
+    let by = named-by seen.members (text_at name asked) member is in (
+      by.text,
+      ap (text_at name) same ∙ by.is,
+      record { known = by.stands.known; is = by.stands.is; called = by.stands.called },
+    )
 
-pub leader-called : (view : AgentView) (bytes : List ℕ) (body : Data) (key : FailoverKey) (seen : SnapshotFacts) (leader : MemberId) → switchover_of view bytes ≡ Ok key → json_of bytes ≡ Some body → option_copied view.seen ≡ Some seen → key.leader ≡ Some leader → (text : List ℕ) × (text_at (codes "leader") body ≡ Some text) × IsCalled leader text seen
+pub leader-called : (view : AgentView) (bytes : List ℕ) (body : Data) (key : FailoverKey)
+    (seen : SnapshotFacts) (leader : MemberId) → switchover_of view bytes ≡ Ok key → json_of bytes ≡ Some body
+    → option_copied view.seen ≡ Some seen → key.leader ≡ Some leader
+    → (text : List ℕ) × (text_at (codes "leader") body ≡ Some text) × IsCalled leader text seen
 leader-called view bytes body key seen leader e json is named_so =
     let p = switchover view bytes seen key e is in
     let asked = asked_by p.body seen.members in
-    called (codes "leader") p.body body seen leader (body_of-json bytes body p.body p.is json) (member_if-some asked.leader leader (ap (λ (k : FailoverKey). k.leader) p.gives ∙ named_so))
+    called (codes "leader") p.body body seen leader (body_of-json bytes body p.body p.is json)
+    (member_if-some asked.leader leader (ap (λ (k : FailoverKey). k.leader) p.gives ∙ named_so))
 
-pub candidate-called : (view : AgentView) (bytes : List ℕ) (body : Data) (key : FailoverKey) (seen : SnapshotFacts) (candidate : MemberId) → switchover_of view bytes ≡ Ok key → json_of bytes ≡ Some body → option_copied view.seen ≡ Some seen → key.candidate ≡ Some candidate → (text : List ℕ) × (text_at (codes "candidate") body ≡ Some text) × IsCalled candidate text seen
+pub candidate-called : (view : AgentView) (bytes : List ℕ) (body : Data) (key : FailoverKey)
+    (seen : SnapshotFacts) (candidate : MemberId) → switchover_of view bytes ≡ Ok key
+    → json_of bytes ≡ Some body → option_copied view.seen ≡ Some seen → key.candidate ≡ Some candidate
+    → (text : List ℕ) × (text_at (codes "candidate") body ≡ Some text) × IsCalled candidate text seen
 candidate-called view bytes body key seen candidate e json is named_so =
     let p = switchover view bytes seen key e is in
     let asked = asked_by p.body seen.members in
-    called (codes "candidate") p.body body seen candidate (body_of-json bytes body p.body p.is json) (candidate-of asked key candidate p.gives named_so)
+    called (codes "candidate") p.body body seen candidate (body_of-json bytes body p.body p.is json)
+    (candidate-of asked key candidate p.gives named_so)
 
-pub failover-called : (view : AgentView) (bytes : List ℕ) (body : Data) (key : FailoverKey) (seen : SnapshotFacts) (candidate : MemberId) → failover_of view bytes ≡ Ok key → json_of bytes ≡ Some body → option_copied view.seen ≡ Some seen → key.candidate ≡ Some candidate → (text : List ℕ) × (text_at (codes "candidate") body ≡ Some text) × IsCalled candidate text seen
+pub failover-called : (view : AgentView) (bytes : List ℕ) (body : Data) (key : FailoverKey)
+    (seen : SnapshotFacts) (candidate : MemberId) → failover_of view bytes ≡ Ok key
+    → json_of bytes ≡ Some body → option_copied view.seen ≡ Some seen → key.candidate ≡ Some candidate
+    → (text : List ℕ) × (text_at (codes "candidate") body ≡ Some text) × IsCalled candidate text seen
 failover-called view bytes body key seen candidate e json is named_so =
     let p = failover view bytes seen key e is in
     let asked = asked_by p.body seen.members in
-    called (codes "candidate") p.body body seen candidate (body_of-json bytes body p.body p.is json) (member_if-some asked.candidate candidate (ap (λ (k : FailoverKey). k.candidate) p.gives ∙ named_so))
+    called (codes "candidate") p.body body seen candidate (body_of-json bytes body p.body p.is json)
+    (member_if-some asked.candidate candidate (ap (λ (k : FailoverKey). k.candidate) p.gives ∙ named_so))

@@ -27,8 +27,8 @@ is_same_text None other = false
 is_same_text (Some text) None = false
 is_same_text (Some text) (Some other) = bytes_eq text other
 
--- what a body asks: whom it names as leader and as candidate, whether these are one name, and whether it names a moment. Whatever stands at
--- `scheduled_at` counts
+-- what a body asks: whom it names as leader and as candidate, whether these are one
+-- name, and whether it names a moment. Whatever stands at `scheduled_at` counts
 abbrev pub asked_by : Data → List (Name × Host) → Asked
 asked_by body members = record {
   leader = named_by members (text_at (codes "leader") body);

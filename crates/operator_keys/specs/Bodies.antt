@@ -18,7 +18,8 @@ is_text_or_absent (Some value) = is_some (as_str value)
 
 -- a value is an object that names its leader and its candidate by texts, where it names them; null is no text
 abbrev pub is_request : Data → Bool
-is_request body = is_some (as_object body) && is_text_or_absent (get (codes "leader") body) && is_text_or_absent (get (codes "candidate") body)
+is_request body = is_some (as_object body) && is_text_or_absent (get (codes "leader") body)
+    && is_text_or_absent (get (codes "candidate") body)
 
 -- what a body is refused with that is no request
 abbrev pub bad_body : Refused

@@ -52,8 +52,8 @@ switchover_by body seen = switchover_asked (asked_by body seen.members) seen
 abbrev pub failover_by : Data → SnapshotFacts → Result FailoverKey Refused
 failover_by body seen = failover_asked (asked_by body seen.members) seen
 
--- the key by which a switchover is asked for by this snapshot, or the first of these that refuses it: its body, the want of a snapshot, a
--- request that waits, and the rules of switchovers
+-- the key by which a switchover is asked for by this snapshot, or the first of these that refuses
+-- it: its body, the want of a snapshot, a request that waits, and the rules of switchovers
 abbrev pub switchover_on : Option SnapshotFacts → Bool → List ℕ → Result FailoverKey Refused
 switchover_on seen waits bytes = on_ok (body_of bytes) (λ body. on_ok (seen_if seen waits) (switchover_by body))
 

@@ -1,5 +1,5 @@
--- The checks of changes of the configuration: the configuration that a request gives, or what refuses it (Patroni's documentation of the REST
--- API, "Config endpoint").
+-- The checks of changes of the configuration: the configuration that a request gives,
+-- or what refuses it (Patroni's documentation of the REST API, "Config endpoint").
 use Rattle.std.specs.Prelude.{ℕ, Bool, List, Option, Some, None, Result, Ok, Err}
 use Rattle.std.specs.Option.{option_copied}
 use Rattle.store_keys.specs.declared.key.Key.TheVariants as keys
@@ -44,15 +44,17 @@ abbrev pub unless_faulty : Result Settings ConfigFault → Result Settings Refus
 unless_faulty (Ok next) = Ok next
 unless_faulty (Err fault) = Err (record { status = bad_request; text = texts.BadConfiguration fault })
 
--- the configuration that a change gives of the present one, or of one that sets nothing where a snapshot has none (no snapshot is without one)
+-- the configuration that a change gives of the present one, or of one that
+-- sets nothing where a snapshot has none (no snapshot is without one)
 abbrev pub configuration_from : ConfigChange → Option Settings → List ℕ → Result Settings Refused
 configuration_from change None bytes = unless_faulty (changed change default_settings bytes)
 configuration_from change (Some present) bytes = unless_faulty (changed change present bytes)
 
--- the configuration that a change gives by this snapshot, or the first of these that refuses it: the want of a snapshot, a request that waits,
--- and what is at fault in the configuration
+-- the configuration that a change gives by this snapshot, or the first of these that refuses
+-- it: the want of a snapshot, a request that waits, and what is at fault in the configuration
 abbrev pub configuration_on : Option SnapshotFacts → Bool → ConfigChange → List ℕ → Result Settings Refused
-configuration_on seen waits change bytes = on_ok (seen_if seen waits) (λ snapshot. configuration_from change (configuration_in snapshot) bytes)
+configuration_on seen waits change bytes =
+    on_ok (seen_if seen waits) (λ snapshot. configuration_from change (configuration_in snapshot) bytes)
 
 -- the same by what an agent shows
 abbrev pub configuration_of : AgentView → ConfigChange → List ℕ → Result Settings Refused

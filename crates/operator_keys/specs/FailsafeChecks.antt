@@ -1,5 +1,5 @@
--- The check of a request by which another member asks this one to let it stay primary: a hold that is asked for, or what refuses it (Patroni
--- documentation, "DCS Failsafe Mode").
+-- The check of a request by which another member asks this one to let it stay primary: a
+-- hold that is asked for, or what refuses it (Patroni documentation, "DCS Failsafe Mode").
 use Rattle.std.specs.Prelude.{ℕ, ◌*◌, ◌==◌, ◌&&◌, nat_le, if◌then◌else◌, codes, Bool, true, false, List, Option, Some, None, option_and_then, Result, Ok, Err}
 use Rattle.std.specs.Option.{option_copied}
 use Rattle.pat_base.specs.declared.host.Host.{Host}
@@ -58,7 +58,8 @@ hold_for (Some from) (Some seconds) = hold_within from seconds
 
 -- the hold that a body asks of this member: it is an object with another member's name and the span of a lease
 abbrev pub hold_in_body : MemberId → List (Name × Host) → Data → Option OperatorRequest
-hold_in_body me members body = hold_for (option_and_then (other_named me members) (text_at (codes "name") body)) (number_at (codes "ttl") body)
+hold_in_body me members body =
+    hold_for (option_and_then (other_named me members) (text_at (codes "name") body)) (number_at (codes "ttl") body)
 
 -- what failsafe mode is asked for while it is off
 abbrev pub failsafe_off : Refused
@@ -74,9 +75,11 @@ abbrev pub asked_where_on : Bool → Option OperatorRequest → Result OperatorR
 asked_where_on mode None = Err bad_body
 asked_where_on mode (Some hold) = where_on mode hold
 
--- the hold that a body asks of this member by this snapshot, or the first of these that refuses it: the body, and failsafe mode that is off
+-- the hold that a body asks of this member by this snapshot, or the first
+-- of these that refuses it: the body, and failsafe mode that is off
 abbrev pub hold_asked : MemberId → List ℕ → SnapshotFacts → Result OperatorRequest Refused
-hold_asked me bytes seen = asked_where_on (config_in seen).failsafe_mode (option_and_then (hold_in_body me seen.members) (json_of bytes))
+hold_asked me bytes seen =
+    asked_where_on (config_in seen).failsafe_mode (option_and_then (hold_in_body me seen.members) (json_of bytes))
 
 -- the same, where there is a snapshot. A request of an operator that waits doesn't stand in the way
 abbrev pub failsafe_on : MemberId → Option SnapshotFacts → List ℕ → Result OperatorRequest Refused

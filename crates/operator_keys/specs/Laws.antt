@@ -27,7 +27,8 @@ pub record IsCalled (member : MemberId) (text : List ℕ) (seen : SnapshotFacts)
   pub is : slice_get seen.members member.number ≡ Some known
   pub called : name_bytes known.0 ≡ text
 
--- by this snapshot failsafe mode is on, and what is asked of this member is a hold: by another member, for so many seconds as a lease may last
+-- by this snapshot failsafe mode is on, and what is asked of this member
+-- is a hold: by another member, for so many seconds as a lease may last
 pub record AsksForHold (me : MemberId) (seen : SnapshotFacts) (request : OperatorRequest) : Type 0 where
   pub on : (config_in seen).failsafe_mode ≡ true
   pub from : MemberId

@@ -1,4 +1,5 @@
--- By which rules switchovers and failovers are refused (Patroni's documentation of the REST API, "Switchover and failover endpoints").
+-- By which rules switchovers and failovers are refused (Patroni's
+-- documentation of the REST API, "Switchover and failover endpoints").
 use Rattle.std.specs.Prelude.{◌&&◌, not, is_some, is_none, Bool, true, false, [], ◌∷◌, Option, Some, None}
 use Rattle.store_keys.specs.declared.value.FailoverKey.{FailoverKey}
 use Rattle.store_keys.specs.declared.value.MemberInfo.{MemberInfo}
@@ -32,7 +33,8 @@ target_is_source is_same = refused_where is_same bad_request texts.TargetIsSourc
 
 -- the cluster is paused, and the body names no candidate
 abbrev pub paused_without_candidate : Bool → Named → Option Refused
-paused_without_candidate pause candidate = refused_where (pause && is_nobody candidate) bad_request texts.PausedWithoutCandidate
+paused_without_candidate pause candidate =
+    refused_where (pause && is_nobody candidate) bad_request texts.PausedWithoutCandidate
 
 -- it is to be done later
 abbrev pub scheduled : Bool → Option Refused
@@ -44,7 +46,8 @@ other_leader who leader = refused_where (not (names_leader who leader)) precondi
 
 -- the candidate leads
 abbrev pub candidate_leads : Named → Option LeaderEntry → Option Refused
-candidate_leads candidate leader = refused_where (names_leader candidate leader) precondition_failed texts.CandidateLeads
+candidate_leads candidate leader =
+    refused_where (names_leader candidate leader) precondition_failed texts.CandidateLeads
 
 -- a failover or a switchover is asked for already
 abbrev pub another_under_way : Option FailoverKey → Option Refused
@@ -52,7 +55,8 @@ another_under_way failover = refused_where (is_some failover) service_unavailabl
 
 -- the candidate, if one is named, has no member key, of which this is what it tells
 abbrev pub no_such_candidate : Named → Option MemberInfo → Option Refused
-no_such_candidate candidate info = refused_where (not (is_nobody candidate) && is_none info) precondition_failed texts.NoSuchCandidate
+no_such_candidate candidate info =
+    refused_where (not (is_nobody candidate) && is_none info) precondition_failed texts.NoSuchCandidate
 
 -- the sync key names the candidate as standby, if one is named
 abbrev pub is_standby_or_nobody : Named → SyncKey → Bool
@@ -63,16 +67,19 @@ is_standby_or_nobody (named.Member member) sync = is_standby member sync
 -- the synchronous mode is active, and the sync key doesn't name the candidate as standby
 abbrev pub candidate_not_standby : Named → Option SyncKey → Option Refused
 candidate_not_standby candidate None = None
-candidate_not_standby candidate (Some sync) = refused_where (not (is_standby_or_nobody candidate sync)) precondition_failed texts.CandidateNotStandby
+candidate_not_standby candidate (Some sync) =
+    refused_where (not (is_standby_or_nobody candidate sync)) precondition_failed texts.CandidateNotStandby
 
 -- by what it tells, the candidate may not fail over
 abbrev pub candidate_may_not_fail_over : Option MemberInfo → Option Refused
 candidate_may_not_fail_over None = None
-candidate_may_not_fail_over (Some info) = refused_where (not (may_fail_over info.tags)) precondition_failed texts.CandidateMayNotFailOver
+candidate_may_not_fail_over (Some info) =
+    refused_where (not (may_fail_over info.tags)) precondition_failed texts.CandidateMayNotFailOver
 
 -- the body names no candidate, and there is nobody who may take over
 abbrev pub no_good_candidates : Named → Bool → Option Refused
-no_good_candidates candidate anyone = refused_where (is_nobody candidate && not anyone) precondition_failed texts.NoGoodCandidates
+no_good_candidates candidate anyone =
+    refused_where (is_nobody candidate && not anyone) precondition_failed texts.NoGoodCandidates
 
 -- what refuses a switchover that asks this, by the first rule that applies; nothing where none does
 abbrev pub switchover_refusal : Asked → SnapshotFacts → Option Refused

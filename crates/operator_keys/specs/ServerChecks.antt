@@ -30,7 +30,7 @@ has_key roles.Unleased = false
 abbrev pub restart_refusal : AgentView → Option Refused
 restart_refusal view = refused_where (not (is_running view.state)) service_unavailable texts.NotRunning
 
--- what refuses a reinitialization; nothing where the agent doesn't have the leader key, and its server doesn't accept writes, and won't when
--- its start is complete
+-- what refuses a reinitialization; nothing where the agent doesn't have the leader
+-- key, and its server doesn't accept writes, and won't when its start is complete
 abbrev pub reinit_refusal : AgentView → Option Refused
 reinit_refusal view = refused_where (has_key view.role || live view.state) service_unavailable texts.IsLeader

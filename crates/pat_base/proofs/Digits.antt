@@ -31,31 +31,46 @@ digits_value_after-le : (n : ℕ) (digits : List ℕ) → n ≤ digits_value_aft
 digits_value_after-le n [] = omega arith
 digits_value_after-le n (c ∷ cs) = omega (arith, digits_value_after-le (n * 10 + digit_value c) cs)
 
-over : (most number : ℕ) (some : Bool) → most < number → option_and_then (at_most most) (cond some (Some number) None) ≡ None
+over : (most number : ℕ) (some : Bool) → most < number
+    → option_and_then (at_most most) (cond some (Some number) None) ≡ None
 over most number true great = grind (arith, nat_tests)
 over most number false great = refl
 
 -- the number read so far is too great, so the whole is
-pub too_great : (digits : List ℕ) (at value most : ℕ) → HasReadDecimal digits at value → at < length digits → most < value * 10 + digit_value (get_or digits at 0) → option_and_then (at_most most) (size_number_of digits) ≡ None
+pub too_great : (digits : List ℕ) (at value most : ℕ) → HasReadDecimal digits at value → at < length digits
+    → most < value * 10 + digit_value (get_or digits at 0)
+    → option_and_then (at_most most) (size_number_of digits) ≡ None
 too_great digits at value most had within great =
-    let is : digits_value_after 10 (value * 10 + digit_value (get_or digits at 0)) (drop (at + 1) digits) ≡ digits_value 10 digits = rw (drop_more digits at 0 within) at had.value_is in
-    over most (digits_value 10 digits) (nat_lt 0 (length digits)) (omega (arith, great, is, digits_value_after-le (value * 10 + digit_value (get_or digits at 0)) (drop (at + 1) digits)))
+    let is : digits_value_after 10 (value * 10 + digit_value (get_or digits at 0)) (drop (at + 1) digits)
+    ≡ digits_value 10 digits = rw (drop_more digits at 0 within) at had.value_is in
+    over most (digits_value 10 digits) (nat_lt 0 (length digits))
+    (omega
+    (arith, great, is, digits_value_after-le (value * 10 + digit_value (get_or digits at 0)) (drop (at + 1) digits)))
 
-past : (b : Bool) (place length : ℕ) → nat_lt place length ≡ b → ◌≡◌ {A = Option ℕ} None (cond b (Some place) None) → length ≤ place
+past : (b : Bool) (place length : ℕ) → nat_lt place length ≡ b
+    → ◌≡◌ {A = Option ℕ} None (cond b (Some place) None) → length ≤ place
 past true place length is e = absurd (clash e)
   where
     clash : ◌≡◌ {A = Option ℕ} None (Some place) → ⊥
     clash e = cc
 past false place length is e = grind (arith, nat_tests)
 
-pub digit_count-None : (bytes : List ℕ) → ◌≡◌ {A = Option ℕ} None (position is_no_digit bytes) → length bytes ≡ position_or_len is_no_digit bytes
+pub digit_count-None : (bytes : List ℕ) → ◌≡◌ {A = Option ℕ} None (position is_no_digit bytes)
+    → length bytes ≡ position_or_len is_no_digit bytes
 digit_count-None bytes e =
-    omega (arith, past (nat_lt (position_or_len is_no_digit bytes) (length bytes)) (position_or_len is_no_digit bytes) (length bytes) refl e, prefix_len-le-length (λ x. not (is_no_digit x)) bytes)
+    omega (
+      arith,
+      past (nat_lt (position_or_len is_no_digit bytes) (length bytes)) (position_or_len is_no_digit bytes)
+          (length bytes) refl e,
+      prefix_len-le-length (λ x. not (is_no_digit x)) bytes,
+    )
 
-with_first : (c : ℕ) (digits : List ℕ) (b : Bool) → is_ascii_digit c ≡ b → IsTrue (list_all is_ascii_digit digits) → IsTrue (list_all is_ascii_digit (cond (not (not b)) (c ∷ digits) []))
+with_first : (c : ℕ) (digits : List ℕ) (b : Bool) → is_ascii_digit c ≡ b → IsTrue (list_all is_ascii_digit digits)
+    → IsTrue (list_all is_ascii_digit (cond (not (not b)) (c ∷ digits) []))
 with_first c digits true is all = rw is all
 with_first c digits false is all = refl
 
 pub digits_of-digits : (bytes : List ℕ) → IsTrue (list_all is_ascii_digit (digits_of bytes))
 digits_of-digits [] = refl
-digits_of-digits (c ∷ cs) = rw (take_while-cons (λ x. not (is_no_digit x)) c cs) (with_first c (digits_of cs) (is_ascii_digit c) refl (digits_of-digits cs))
+digits_of-digits (c ∷ cs) = rw (take_while-cons (λ x. not (is_no_digit x)) c cs)
+    (with_first c (digits_of cs) (is_ascii_digit c) refl (digits_of-digits cs))

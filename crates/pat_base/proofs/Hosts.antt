@@ -12,9 +12,11 @@ use Rattle.pat_base.proofs.Texts.{text_bytes-injective}
 same-text : (a b : Host) → a.text ≡ b.text → a ≡ b
 same-text a b e =
     subst
-    (λ (text : ShortText 40). (legal : IsTrue (is_host (text_bytes text))) → ◌≡◌ {A = Host} a (record { text = text; legal = legal }))
+    (λ (text : ShortText 40). (legal : IsTrue (is_host (text_bytes text))) →
+    ◌≡◌ {A = Host} a (record { text = text; legal = legal }))
     e
-    (λ legal. ap (λ (x : IsTrue (is_host (text_bytes a.text))). record { text = a.text; legal = x }) (let one : IsProp (IsTrue (is_host (text_bytes a.text))) = hlevel props in one a.legal legal))
+    (λ legal. ap (λ (x : IsTrue (is_host (text_bytes a.text))). record { text = a.text; legal = x })
+    (let one : IsProp (IsTrue (is_host (text_bytes a.text))) = hlevel props in one a.legal legal))
     b.legal
 
 -- hosts of the same bytes are one

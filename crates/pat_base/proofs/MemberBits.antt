@@ -7,12 +7,14 @@ use Rattle.std.proofs.lemmas.Nat.Bits.{bit_at_and, bit_at_clear_other, bit_at_ab
 use Rattle.pat_base.specs.declared.member_id.MemberId.{MemberId}
 
 -- taking one member out leaves the others
-pub clear_other : (n k : ℕ) → n < 2 ^ 16 → k < 16 → (i : ℕ) → i ≢ k → bit_at (bit_and n (bit_not w16 (1 * 2 ^ k % 2 ^ 16))) i ≡ bit_at n i
+pub clear_other : (n k : ℕ) → n < 2 ^ 16 → k < 16 → (i : ℕ) → i ≢ k
+    → bit_at (bit_and n (bit_not w16 (1 * 2 ^ k % 2 ^ 16))) i ≡ bit_at n i
 clear_other n k small within i other =
     let mask : ℕ = bit_not w16 (1 * 2 ^ k % 2 ^ 16) in
     elim (cases_lt i 16) [
       | inl lt ↦ bit_at_clear_other w16 n k within i lt other
-      | inr ge ↦ bit_at_above (bit_and n mask) 16 i (omega (arith, and_le_l n mask)) ge ∙ sym (bit_at_above n 16 i small ge)
+      | inr ge ↦
+          bit_at_above (bit_and n mask) 16 i (omega (arith, and_le_l n mask)) ge ∙ sym (bit_at_above n 16 i small ge)
     ]
 
 -- a set without one of its members is less as a number
@@ -37,10 +39,12 @@ both_within a b h = same_from_bits (bit_and a b) a (λ k. bit_at_and a b k ∙ s
     smaller : (x y : ℕ) → x ≤ y → min x y ≡ x
     smaller x y h = omega arith
 
-pub first-inside : (r : Option MemberId) (n z : ℕ) → IfSome r (λ m. m.number ≡ z) → bit_at n z ≡ 1 → IfSome r (λ m. bit_at n m.number ≡ 1)
+pub first-inside : (r : Option MemberId) (n z : ℕ) → IfSome r (λ m. m.number ≡ z) → bit_at n z ≡ 1
+    → IfSome r (λ m. bit_at n m.number ≡ 1)
 first-inside None n z h is = tt
 first-inside (Some m) n z h is = ap (bit_at n) h ∙ is
 
-pub first-before : (r : Option MemberId) (n z : ℕ) → IfSome r (λ m. m.number ≡ z) → ((k : ℕ) → k < z → bit_at n k ≡ 0) → IfSome r (λ m. (k : ℕ) → k < m.number → bit_at n k ≡ 0)
+pub first-before : (r : Option MemberId) (n z : ℕ) → IfSome r (λ m. m.number ≡ z)
+    → ((k : ℕ) → k < z → bit_at n k ≡ 0) → IfSome r (λ m. (k : ℕ) → k < m.number → bit_at n k ≡ 0)
 first-before None n z h is = tt
 first-before (Some m) n z h is = λ k lt. is k (omega (arith, h))

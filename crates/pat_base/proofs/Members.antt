@@ -26,7 +26,8 @@ member_of-number m = found m (nat_lt m.number MOST_MEMBERS) refl
 some-is : (a b : MemberId) → ◌≡◌ {A = Option MemberId} (Some a) (Some b) → a ≡ b
 some-is a b e = cc
 
-numbered : (n : ℕ) (test : Bool) (is : nat_lt n MOST_MEMBERS ≡ test) (m : MemberId) → member_by n test is ≡ Some m → m.number ≡ n
+numbered : (n : ℕ) (test : Bool) (is : nat_lt n MOST_MEMBERS ≡ test) (m : MemberId)
+    → member_by n test is ≡ Some m → m.number ≡ n
 numbered n true is m e = ap (λ (x : MemberId). x.number) (sym (some-is _ m e))
 numbered n false is m e = cc
 

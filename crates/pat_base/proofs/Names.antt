@@ -15,9 +15,11 @@ use Rattle.pat_base.proofs.Texts.{text_bytes-injective, same_text-Decides}
 same-text : (a b : Name) → a.text ≡ b.text → a ≡ b
 same-text a b e =
     subst
-    (λ (text : ShortText 32). (legal : IsTrue (is_name (text_bytes text))) → ◌≡◌ {A = Name} a (record { text = text; legal = legal }))
+    (λ (text : ShortText 32). (legal : IsTrue (is_name (text_bytes text))) →
+    ◌≡◌ {A = Name} a (record { text = text; legal = legal }))
     e
-    (λ legal. ap (λ (x : IsTrue (is_name (text_bytes a.text))). record { text = a.text; legal = x }) (let one : IsProp (IsTrue (is_name (text_bytes a.text))) = hlevel props in one a.legal legal))
+    (λ legal. ap (λ (x : IsTrue (is_name (text_bytes a.text))). record { text = a.text; legal = x })
+    (let one : IsProp (IsTrue (is_name (text_bytes a.text))) = hlevel props in one a.legal legal))
     b.legal
 
 -- names of the same bytes are one
@@ -27,10 +29,12 @@ name_bytes-injective a b e = same-text a b (text_bytes-injective 32 a.text b.tex
 some-is : (a b : Name) → ◌≡◌ {A = Option Name} (Some a) (Some b) → a ≡ b
 some-is a b e = cc
 
-named : (bytes : List ℕ) (test : Bool) (is : is_name bytes ≡ test) (name : Name) → name_bytes name ≡ bytes → name_by bytes test is ≡ Some name
+named : (bytes : List ℕ) (test : Bool) (is : is_name bytes ≡ test) (name : Name) → name_bytes name ≡ bytes
+    → name_by bytes test is ≡ Some name
 unfolding name_by
 named bytes true is name e = ap Some (name_bytes-injective (name_from bytes is) name (take-padded 32 bytes ∙ sym e))
-named bytes false is name e = let text : is_name bytes ≡ true = subst (λ (t : List ℕ). is_name t ≡ true) e name.legal in cc
+named bytes false is name e =
+    let text : is_name bytes ≡ true = subst (λ (t : List ℕ). is_name t ≡ true) e name.legal in cc
 
 -- bytes that are the text of a name are that name
 pub name_of-is : (bytes : List ℕ) (name : Name) → name_bytes name ≡ bytes → name_of bytes ≡ Some name
@@ -50,7 +54,8 @@ pub name_of-none : (bytes : List ℕ) → is_name bytes ≡ false → name_of by
 unfolding name_of
 name_of-none bytes e = unnamed bytes (is_name bytes) refl e
 
-texted : (bytes : List ℕ) (test : Bool) (is : is_name bytes ≡ test) (name : Name) → name_by bytes test is ≡ Some name → name_bytes name ≡ bytes
+texted : (bytes : List ℕ) (test : Bool) (is : is_name bytes ≡ test) (name : Name)
+    → name_by bytes test is ≡ Some name → name_bytes name ≡ bytes
 unfolding name_by
 texted bytes true is name e = ap name_bytes (sym (some-is (name_from bytes is) name e)) ∙ take-padded 32 bytes
 texted bytes false is name e = cc
@@ -61,7 +66,8 @@ unfolding name_of
 name_of-text bytes name e = texted bytes (is_name bytes) refl name e
 
 -- the derived `==` says whether two names are one
-pub same_fields-Decides : (a b : Name) → Decides (bytes_eq a.text.bytes b.text.bytes && (a.text.len == b.text.len)) (a ≡ b)
+pub same_fields-Decides : (a b : Name)
+    → Decides (bytes_eq a.text.bytes b.text.bytes && (a.text.len == b.text.len)) (a ≡ b)
 same_fields-Decides a b = (
   (λ e. same-text a b ((same_text-Decides 32 a.text b.text).0 e)),
   (λ e. (same_text-Decides 32 a.text b.text).1 (ap (λ (n : Name). n.text) e)),

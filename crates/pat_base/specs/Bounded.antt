@@ -20,12 +20,14 @@ pub is_text-fits : (most : ℕ) (test : ℕ → Bool) (v : List ℕ) → IsTrue 
 is_text-fits most test v h = grind (arith, nat_tests)
 
 -- bytes that are ASCII one by one are so together
-pub list_all-ascii : (test : ℕ → Bool) → ((b : ℕ) → IsTrue (test b) → b < 128) → (v : List ℕ) → IsTrue (list_all test v) → IsAscii v
+pub list_all-ascii : (test : ℕ → Bool) → ((b : ℕ) → IsTrue (test b) → b < 128) → (v : List ℕ)
+    → IsTrue (list_all test v) → IsAscii v
 list_all-ascii test low [] h i = IsAscii-nil i
 list_all-ascii test low (b ∷ bs) h zero = low b (and_parts (test b) (list_all test bs) h).0
 list_all-ascii test low (b ∷ bs) h (suc i) = list_all-ascii test low bs (and_parts (test b) (list_all test bs) h).1 i
 
-pub is_text-ascii : (most : ℕ) (test : ℕ → Bool) → ((b : ℕ) → IsTrue (test b) → b < 128) → (v : List ℕ) → IsTrue (is_text most test v) → IsAscii v
+pub is_text-ascii : (most : ℕ) (test : ℕ → Bool) → ((b : ℕ) → IsTrue (test b) → b < 128) → (v : List ℕ)
+    → IsTrue (is_text most test v) → IsAscii v
 is_text-ascii most test low v h = list_all-ascii test low v (is_text-bytes most test v h)
 
 -- the bytes of a text, and zeros up to its room
@@ -33,7 +35,8 @@ abbrev pub padded : ℕ → List ℕ → List ℕ
 padded room bytes = bytes ++ replicate (room - length bytes) 0
 
 pub length-padded : (room : ℕ) (v : List ℕ) → length v ≤ room → length (padded room v) ≡ room
-length-padded room v h = length-append v (replicate (room - length v) 0) ∙ omega (arith, length-replicate {A = ℕ} (room - length v) 0)
+length-padded room v h =
+    length-append v (replicate (room - length v) 0) ∙ omega (arith, length-replicate {A = ℕ} (room - length v) 0)
 
 pub take-padded : (room : ℕ) (v : List ℕ) → take (length v) (padded room v) ≡ v
 take-padded room v = take-append_seam v (replicate (room - length v) 0)

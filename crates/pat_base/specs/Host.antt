@@ -12,7 +12,8 @@ host_bytes host = text_bytes host.text
 -- the host of bytes that are one
 abbrev pub host_from : (bytes : List ℕ) → IsTrue (is_host bytes) → Host
 host_from bytes is = record {
-  text = short_text 40 bytes (is_text-fits 40 is_host_byte bytes is) (is_text-ascii 40 is_host_byte is_host_byte-ascii bytes is);
+  text = short_text 40 bytes (is_text-fits 40 is_host_byte bytes is)
+      (is_text-ascii 40 is_host_byte is_host_byte-ascii bytes is);
   legal = rw (take-padded 40 bytes) is;
 }
 

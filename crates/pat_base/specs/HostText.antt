@@ -6,7 +6,8 @@ use Rattle.pat_base.specs.Bounded.{is_text}
 
 -- a to z, A to Z, 0 to 9, ., : and -
 abbrev pub is_host_byte : ℕ → Bool
-is_host_byte b = (nat_le 97 b && nat_le b 122) || (nat_le 65 b && nat_le b 90) || (nat_le 48 b && nat_le b 57) || (b == 46) || (b == 58) || (b == 45)
+is_host_byte b = (nat_le 97 b && nat_le b 122) || (nat_le 65 b && nat_le b 90) || (nat_le 48 b && nat_le b 57)
+    || (b == 46) || (b == 58) || (b == 45)
 
 -- 1 to 40 such bytes
 abbrev pub is_host : List ℕ → Bool

@@ -12,7 +12,8 @@ name_bytes name = text_bytes name.text
 -- the name of bytes that are one
 abbrev pub name_from : (bytes : List ℕ) → IsTrue (is_name bytes) → Name
 name_from bytes is = record {
-  text = short_text 32 bytes (is_text-fits 32 is_name_byte bytes is) (is_text-ascii 32 is_name_byte is_name_byte-ascii bytes is);
+  text = short_text 32 bytes (is_text-fits 32 is_name_byte bytes is)
+      (is_text-ascii 32 is_name_byte is_name_byte-ascii bytes is);
   legal = rw (take-padded 32 bytes) is;
 }
 

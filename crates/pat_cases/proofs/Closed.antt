@@ -13,7 +13,8 @@ matches-where-all facts row all =
     rw (eqb-true row.mask 0 parts.0, eqb-true row.wanted 0 parts.1, and_zero_r facts) refl
 
 -- where a later row answers, some row does
-some-answer : (here : Bool) (row : Case) (later : Option Case) → IsSome (option_map (λ (r : Case). r.answer) later) → IsSome (option_map (λ (r : Case). r.answer) (cond here (Some row) later))
+some-answer : (here : Bool) (row : Case) (later : Option Case) → IsSome (option_map (λ (r : Case). r.answer) later)
+    → IsSome (option_map (λ (r : Case). r.answer) (cond here (Some row) later))
 some-answer true row later some = refl
 some-answer false row later some = some
 

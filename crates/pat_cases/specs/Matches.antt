@@ -5,7 +5,8 @@ use Rattle.pat_cases.specs.Cases.{matches}
 
 -- no row before this place matches these facts
 abbrev pub NoneMatchesBefore : ℕ → List Case → ℕ → Type 0
-NoneMatchesBefore facts rows place = (k : ℕ) (row : Case) → k < place → slice_get rows k ≡ Some row → matches facts row ≡ false
+NoneMatchesBefore facts rows place =
+    (k : ℕ) (row : Case) → k < place → slice_get rows k ≡ Some row → matches facts row ≡ false
 
 -- a row at some place matches these facts and answers this, and no row before it matches
 pub record AnswersFirst (facts : ℕ) (rows : List Case) (answer : ℕ) : Type 0 where

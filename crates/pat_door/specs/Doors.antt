@@ -1,7 +1,8 @@
 -- What is said of doors.
 use Rattle.std.specs.Prelude.{ℕ, List, [], ◌∷◌, ◌++◌, ◌≡◌, drop, Option, Some, None, option_map}
 
--- the connections still to be accepted, with their bytes; the bytes still to come on the present one, and none where none is accepted; and what was answered on each that was accepted, the present one last
+-- the connections still to be accepted, with their bytes; the bytes still to come on the present one,
+-- and none where none is accepted; and what was answered on each that was accepted, the present one last
 pub record DoorFacts : Type 0 where
   pub coming : List (List ℕ)
   pub here : Option (List ℕ)

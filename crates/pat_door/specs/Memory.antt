@@ -2,7 +2,8 @@
 use Rattle.std.specs.Prelude.{ℕ, ◌-◌, ◌≤◌, List, [], ◌∷◌, take, drop}
 use Rattle.pat_door.specs.Doors.{DoorFacts}
 
--- the connections and the answers, the room left for answers, the numbers of the calls that are to fail, and how many calls and faults there were
+-- the connections and the answers, the room left for answers, the numbers
+-- of the calls that are to fail, and how many calls and faults there were
 pub record DoorState : Type 0 where
   pub facts : DoorFacts
   pub room : ℕ

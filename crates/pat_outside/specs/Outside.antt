@@ -15,7 +15,8 @@ pub record Grew (before after : Option (List ℕ)) (bytes : List ℕ) : Type 0 w
 
 -- the content grew by a front of these bytes
 pub record GrewByPrefix (before after : Option (List ℕ)) (bytes : List ℕ) : Type 0 where
-  pub part : (had : List ℕ) → before ≡ Some had → (front : List ℕ) × (rest : List ℕ) × (front ++ rest ≡ bytes) × (after ≡ Some (had ++ front))
+  pub part : (had : List ℕ) → before ≡ Some had
+      → (front : List ℕ) × (rest : List ℕ) × (front ++ rest ≡ bytes) × (after ≡ Some (had ++ front))
 
 -- at most so many of the bytes to come were taken
 pub record Consumed (before after : Option (List ℕ)) (most : ℕ) : Type 0 where

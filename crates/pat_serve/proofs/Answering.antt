@@ -46,22 +46,34 @@ grow_last-nothing [] = refl
 grow_last-nothing (first ∷ more) = nothing-more first more
 
 -- the bytes of what was replied are those that are due
-pub due-is : (cluster : Cluster) (id : MemberId) (asks : Result Request Refusal) (visit : Visit) (text : ReplyText) (head : Bool) → visit ≡ first_visit asks → text ≡ replied cluster id (replied_steps cluster id visit) → head ≡ asks_for_a_head asks
+pub due-is : (cluster : Cluster) (id : MemberId) (asks : Result Request Refusal) (visit : Visit)
+    (text : ReplyText) (head : Bool) → visit ≡ first_visit asks
+    → text ≡ replied cluster id (replied_steps cluster id visit) → head ≡ asks_for_a_head asks
     → reply_bytes text head ≡ bytes_due cluster id (record { asks = asks; course = Whole })
 due-is cluster id asks visit text head first is heads =
-    ap (λ (t : ReplyText). reply_bytes t head) (is ∙ ap (λ (v : Visit). replied cluster id (replied_steps cluster id v)) first)
+    ap (λ (t : ReplyText). reply_bytes t head)
+    (is ∙ ap (λ (v : Visit). replied cluster id (replied_steps cluster id v)) first)
     ∙ ap (reply_bytes (reply_to cluster id (record { asks = asks; course = Whole }))) heads
 
 -- a reply was not written whole
-pub not-written : {D : Type 0} (takes : D → ℕ → Type 0) (was : D) (size : ℕ) (result : Result Bool AllocError) (whole : Bool) → result ≡ Ok whole → whole ≡ false → ((n : ℕ) → takes was n → size ≤ n → (result ≡ Ok false → ⊥)) → (n : ℕ) → takes was n → size ≤ n → ⊥
+pub not-written : {D : Type 0} (takes : D → ℕ → Type 0) (was : D) (size : ℕ) (result : Result Bool AllocError)
+    (whole : Bool) → result ≡ Ok whole → whole ≡ false
+    → ((n : ℕ) → takes was n → size ≤ n → (result ≡ Ok false → ⊥)) → (n : ℕ) → takes was n → size ≤ n → ⊥
 not-written takes was size result whole is not room = λ n can fits. room n can fits (is ∙ ap Ok not)
 
 -- what was sent, by whether that was all
-pub sent-so : (told after : Option DoorFacts) (bytes : List ℕ) {whole all : Bool} → whole ≡ all → Tells told (λ facts. (sent : List ℕ) × IsSent (course_of whole) bytes sent × (after ≡ Some (after_write sent facts)))
-    → Tells told (λ facts. (sent : List ℕ) × IsSent (course_of all) bytes sent × (after ≡ Some (after_write sent facts)))
-sent-so told after bytes is sent = subst (λ (w : Bool). Tells told (λ facts. (sent : List ℕ) × IsSent (course_of w) bytes sent × (after ≡ Some (after_write sent facts)))) is sent
+pub sent-so : (told after : Option DoorFacts) (bytes : List ℕ) {whole all : Bool} → whole ≡ all
+    → Tells told
+    (λ facts. (sent : List ℕ) × IsSent (course_of whole) bytes sent × (after ≡ Some (after_write sent facts)))
+    → Tells told
+    (λ facts. (sent : List ℕ) × IsSent (course_of all) bytes sent × (after ≡ Some (after_write sent facts)))
+sent-so told after bytes is sent =
+    subst (λ (w : Bool).
+    Tells told (λ facts. (sent : List ℕ) × IsSent (course_of w) bytes sent × (after ≡ Some (after_write sent facts))))
+    is sent
 
-module _ {D : Type 0} (door : Ghosts D) (was now : D) (world then : WorldFacts) (had has : List Listed) (id : MemberId) (asks : Result Request Refusal) where
+module _ {D : Type 0} (door : Ghosts D) (was now : D) (world then : WorldFacts) (had has : List Listed)
+    (id : MemberId) (asks : Result Request Refusal) where
   -- a connection that asks this
   abbrev asking : Course → Connection
   asking course = record { asks = asks; course = course }
@@ -72,10 +84,13 @@ module _ {D : Type 0} (door : Ghosts D) (was now : D) (world then : WorldFacts) 
 
   -- what was written of them, by whether that was all
   abbrev WasSent : Bool → List ℕ → Type 0
-  WasSent whole bytes = Tells (door.told was) (λ facts. (sent : List ℕ) × IsSent (course_of whole) bytes sent × (door.told now ≡ Some (after_write sent facts)))
+  WasSent whole bytes = Tells (door.told was)
+      (λ facts. (sent : List ℕ) × IsSent (course_of whole) bytes sent × (door.told now ≡ Some (after_write sent facts)))
 
   -- the whole reply was written
-  pub answers-whole : (bytes : List ℕ) → IsDue bytes → Brings world then had has (read_steps world.cluster id (asking Whole)) → WasSent true bytes → Answers door was now world then had has id asks true
+  pub answers-whole : (bytes : List ℕ) → IsDue bytes
+      → Brings world then had has (read_steps world.cluster id (asking Whole)) → WasSent true bytes
+      → Answers door was now world then had has id asks true
   answers-whole bytes due brings sent = record {
     brings = brings;
     sends = λ facts there. let s = sent facts there in (s.0, s.1 ∙ due, s.2);
@@ -84,19 +99,28 @@ module _ {D : Type 0} (door : Ghosts D) (was now : D) (world then : WorldFacts) 
   }
 
   -- a front of it was
-  pub answers-front : (bytes : List ℕ) (mid : WorldFacts) (between : List Listed) → IsDue bytes → Brings world mid had between (read_steps world.cluster id (asking Whole)) → Brings mid then between has (failure_steps id) → WasSent false bytes
-      → Rose (door.connection_faults was) (door.connection_faults now) → ((n : ℕ) → door.takes was n → length bytes ≤ n → ⊥) → Answers door was now world then had has id asks false
+  pub answers-front : (bytes : List ℕ) (mid : WorldFacts) (between : List Listed) → IsDue bytes
+      → Brings world mid had between (read_steps world.cluster id (asking Whole))
+      → Brings mid then between has (failure_steps id) → WasSent false bytes
+      → Rose (door.connection_faults was) (door.connection_faults now)
+      → ((n : ℕ) → door.takes was n → length bytes ≤ n → ⊥) → Answers door was now world then had has id asks false
   answers-front bytes mid between due first last sent rose room = record {
-    brings = Brings-then world mid then had between has (read_steps world.cluster id (asking Whole)) (failure_steps id) first last;
+    brings = Brings-then world mid then had between has (read_steps world.cluster id (asking Whole))
+        (failure_steps id) first last;
     sends = λ facts there. let s = sent facts there in (s.0, (s.1.0, s.1.1 ∙ due), s.2);
     fails = λ e. rose;
     writes = λ n takes fits. absurd (room n takes (subst (λ (l : List ℕ). length l ≤ n) (sym due) fits));
   }
 
 -- what was read of a connection was answered
-pub serves-answered : {D : Type 0} (door : Ghosts D) (was mid now : D) (world then : WorldFacts) (had has : List Listed) (id : MemberId) (asks : Result Request Refusal) (whole : Bool)
-    → Known (bytes_here (door.told was)) (λ all. IsRead all asks) → Tells (door.told was) (λ facts. (count : ℕ) × (door.told mid ≡ Some (after_read count facts))) → door.connection_faults was ≤ door.connection_faults mid → ((n : ℕ) → door.takes was n → door.takes mid n)
-    → Answers door mid now world then had has id asks whole → Serves door was now (option_map after_hang_up (door.told now)) world.cluster id (record { asks = asks; course = course_of whole })
+pub serves-answered : {D : Type 0} (door : Ghosts D) (was mid now : D) (world then : WorldFacts)
+    (had has : List Listed) (id : MemberId) (asks : Result Request Refusal) (whole : Bool)
+    → Known (bytes_here (door.told was)) (λ all. IsRead all asks)
+    → Tells (door.told was) (λ facts. (count : ℕ) × (door.told mid ≡ Some (after_read count facts)))
+    → door.connection_faults was ≤ door.connection_faults mid → ((n : ℕ) → door.takes was n → door.takes mid n)
+    → Answers door mid now world then had has id asks whole
+    → Serves door was now (option_map after_hang_up (door.told now)) world.cluster id
+    (record { asks = asks; course = course_of whole })
 serves-answered door was mid now world then had has id asks whole read left grows takes a = record {
   asks = λ not. read;
   sends = λ facts there.
@@ -113,19 +137,27 @@ abbrev pub unread : Connection
 unread = record { asks = Err refusals.BadHead; course = Unread }
 
 pub serves-unread : {D : Type 0} (door : Ghosts D) (was now : D) (cluster : Cluster) (id : MemberId)
-    → Tells (door.told was) (λ facts. (count : ℕ) × (door.told now ≡ Some (after_read count facts))) → Rose (door.connection_faults was) (door.connection_faults now) → ((n : ℕ) → door.takes was n → ⊥)
+    → Tells (door.told was) (λ facts. (count : ℕ) × (door.told now ≡ Some (after_read count facts)))
+    → Rose (door.connection_faults was) (door.connection_faults now) → ((n : ℕ) → door.takes was n → ⊥)
     → Serves door was now (option_map after_hang_up (door.told now)) cluster id unread
 serves-unread door was now cluster id left rose none = record {
   asks = λ not. absurd (not refl);
   sends = λ facts there.
-      let l = left facts there in
-      ([], refl, ap (option_map after_hang_up) l.1 ∙ ap (λ (answered : List (List ℕ)). Some (record { coming = facts.coming; here = None; answered = answered })) (sym (grow_last-nothing facts.answered)));
+      let l = left facts there in (
+        [],
+        refl,
+        ap (option_map after_hang_up) l.1
+            ∙ ap (λ (answered : List (List ℕ)).
+            Some (record { coming = facts.coming; here = None; answered = answered }))
+            (sym (grow_last-nothing facts.answered)),
+      );
   fails = λ other. rose;
   reads = λ n can e. none n can;
   writes = λ n can fits. absurd (none n can);
 }
 
-hung-up : (first second : Option DoorFacts) (facts : DoorFacts) → Tells first (λ f. second ≡ Some (after_hang_up f)) → option_map after_hang_up first ≡ Some (after_hang_up facts) → second ≡ Some (after_hang_up facts)
+hung-up : (first second : Option DoorFacts) (facts : DoorFacts) → Tells first (λ f. second ≡ Some (after_hang_up f))
+    → option_map after_hang_up first ≡ Some (after_hang_up facts) → second ≡ Some (after_hang_up facts)
 hung-up None second facts after is = absurd (none-is-some is)
   where
     none-is-some : ◌≡◌ {A = Option DoorFacts} None (Some (after_hang_up facts)) → ⊥
@@ -133,12 +165,16 @@ hung-up None second facts after is = absurd (none-is-some is)
 hung-up (Some f) second facts after is = after f refl ∙ is
 
 -- a connection that was served is ended
-pub serves-ended : {D : Type 0} (door : Ghosts D) (was mid now : D) (cluster : Cluster) (id : MemberId) (connection : Connection)
-    → Serves door was mid (option_map after_hang_up (door.told mid)) cluster id connection → Tells (door.told mid) (λ facts. door.told now ≡ Some (after_hang_up facts)) → door.connection_faults now ≡ door.connection_faults mid
+pub serves-ended : {D : Type 0} (door : Ghosts D) (was mid now : D) (cluster : Cluster) (id : MemberId)
+    (connection : Connection)
+    → Serves door was mid (option_map after_hang_up (door.told mid)) cluster id connection
+    → Tells (door.told mid) (λ facts. door.told now ≡ Some (after_hang_up facts))
+    → door.connection_faults now ≡ door.connection_faults mid
     → Serves door was now (door.told now) cluster id connection
 serves-ended door was mid now cluster id connection s after same = record {
   asks = s.asks;
-  sends = λ facts there. let e = s.sends facts there in (e.0, e.1, hung-up (door.told mid) (door.told now) (after_write e.0 facts) after e.2);
+  sends = λ facts there. let e = s.sends facts there in
+      (e.0, e.1, hung-up (door.told mid) (door.told now) (after_write e.0 facts) after e.2);
   fails = λ other. subst (Rose (door.connection_faults was)) (sym same) (s.fails other);
   reads = s.reads;
   writes = s.writes;

@@ -14,10 +14,12 @@ use Rattle.pat_serve.specs.Serving.{IsFaultOf, IsRead}
 
 -- what is told of bytes is what they ask
 abbrev pub Told : Result Request AskError → Option (List ℕ) → Type 0
-Told result here = Known here (λ all. (answer : Result RequestText RequestFault) → seen result ≡ Some answer → IsRequested all answer)
+Told result here =
+    Known here (λ all. (answer : Result RequestText RequestFault) → seen result ≡ Some answer → IsRequested all answer)
 
 -- a request was read
-pub read-whole : (result : Result Request AskError) (request : Request) (here : Option (List ℕ)) → Told result here → result ≡ Ok request → Known here (λ all. IsRead all (Ok request))
+pub read-whole : (result : Result Request AskError) (request : Request) (here : Option (List ℕ))
+    → Told result here → result ≡ Ok request → Known here (λ all. IsRead all (Ok request))
 read-whole result request here told is = λ all there. told all there (Ok (request_text request)) (ap seen is)
 
 fault-seen : (refusal : Refusal) (fault : RequestFault) → IsFaultOf refusal fault → fault_seen fault ≡ Some (Err fault)
@@ -28,10 +30,14 @@ fault-seen refusals.NoAgent fault is = absurd is
 fault-seen refusals.NoResult fault is = absurd is
 
 -- what was read is refused
-pub read-refused : (result : Result Request AskError) (fault : RequestFault) (refusal : Refusal) (here : Option (List ℕ)) → Told result here → result ≡ Err (Bytes fault) → IsFaultOf refusal fault → Known here (λ all. IsRead all (Err refusal))
+pub read-refused : (result : Result Request AskError) (fault : RequestFault) (refusal : Refusal)
+    (here : Option (List ℕ)) → Told result here → result ≡ Err (Bytes fault) → IsFaultOf refusal fault
+    → Known here (λ all. IsRead all (Err refusal))
 read-refused result fault refusal here told is of =
     λ all there. (fault, of, told all there (Err fault) (ap seen is ∙ fault-seen refusal fault of))
 
 -- some bytes were read
-pub some-read : (most : ℕ) (before after : Option DoorFacts) (told : Option (Result RequestText RequestFault)) → Tells before (λ facts. LeavesRest most facts after told) → Tells before (λ facts. (count : ℕ) × (after ≡ Some (after_read count facts)))
+pub some-read : (most : ℕ) (before after : Option DoorFacts) (told : Option (Result RequestText RequestFault))
+    → Tells before (λ facts. LeavesRest most facts after told)
+    → Tells before (λ facts. (count : ℕ) × (after ≡ Some (after_read count facts)))
 some-read most before after told left = λ facts there. let l = left facts there in (l.0, l.2)

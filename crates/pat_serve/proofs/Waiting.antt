@@ -28,16 +28,22 @@ pub record Waiting (start now : WorldFacts) (had has : List Listed) (id : Member
   pub silent : reply_in id (run_events start.cluster done) ≡ None
   pub count : length done + left ≡ most_waiting
 
-pub Waiting-start : (start : WorldFacts) (had : List Listed) (id : MemberId) → Waiting start start had had id most_waiting
-Waiting-start start had id = record { done = []; parts = refl; brings = Brings-none start had; silent = refl; count = refl }
+pub Waiting-start : (start : WorldFacts) (had : List Listed) (id : MemberId)
+    → Waiting start start had had id most_waiting
+Waiting-start start had id =
+    record { done = []; parts = refl; brings = Brings-none start had; silent = refl; count = refl }
 
 -- one more tick without a reply
-pub Waiting-more : (start now then : WorldFacts) (had mid has : List Listed) (id : MemberId) (left : ℕ) → Waiting start now had mid id (suc left) → Brings now then mid has (steps.Scheduled ∷ []) → reply_in id (next_events now.cluster steps.Scheduled) ≡ None
+pub Waiting-more : (start now then : WorldFacts) (had mid has : List Listed) (id : MemberId) (left : ℕ)
+    → Waiting start now had mid id (suc left) → Brings now then mid has (steps.Scheduled ∷ [])
+    → reply_in id (next_events now.cluster steps.Scheduled) ≡ None
     → Waiting start then had has id left
 Waiting-more start now then had mid has id left w b none =
     let next = cluster_over now.cluster (next_events now.cluster steps.Scheduled) in
-    let comes : then.cluster ≡ next = b.cluster ∙ ap (cluster_over now.cluster) (append-nil (next_events now.cluster steps.Scheduled)) in
-    let goes : waiting_steps now.cluster id (suc left) ≡ steps.Scheduled ∷ waiting_steps next id left = ap (λ (r : Option ReplyText). steps.Scheduled ∷ unless_replied r (waiting_steps next id left)) none in
+    let comes : then.cluster ≡ next = b.cluster
+    ∙ ap (cluster_over now.cluster) (append-nil (next_events now.cluster steps.Scheduled)) in
+    let goes : waiting_steps now.cluster id (suc left) ≡ steps.Scheduled ∷ waiting_steps next id left =
+    ap (λ (r : Option ReplyText). steps.Scheduled ∷ unless_replied r (waiting_steps next id left)) none in
     record {
       done = w.done ++ steps.Scheduled ∷ [];
       parts = append_assoc w.done (steps.Scheduled ∷ []) (waiting_steps then.cluster id left)
@@ -49,24 +55,34 @@ Waiting-more start now then had mid has id left w b none =
     }
 
 -- the last of these steps: all were taken
-pub Waiting-brings : (start now then : WorldFacts) (had mid has : List Listed) (id : MemberId) (left : ℕ) (step : Step) → Waiting start now had mid id left → waiting_steps now.cluster id left ≡ step ∷ [] → Brings now then mid has (step ∷ [])
+pub Waiting-brings : (start now then : WorldFacts) (had mid has : List Listed) (id : MemberId) (left : ℕ) (step : Step)
+    → Waiting start now had mid id left → waiting_steps now.cluster id left ≡ step ∷ []
+    → Brings now then mid has (step ∷ [])
     → Brings start then had has (waiting_steps start.cluster id most_waiting)
 Waiting-brings start now then had mid has id left step w last b =
-    subst (Brings start then had has) (ap (λ l. w.done ++ l) (sym last) ∙ w.parts) (Brings-then start now then had mid has w.done (step ∷ []) w.brings b)
+    subst (Brings start then had has) (ap (λ l. w.done ++ l) (sym last) ∙ w.parts)
+    (Brings-then start now then had mid has w.done (step ∷ []) w.brings b)
 
 -- and what is replied in all of them is what is replied in it
-pub Waiting-reply : (start now : WorldFacts) (had mid : List Listed) (id : MemberId) (left : ℕ) (step : Step) → Waiting start now had mid id left → waiting_steps now.cluster id left ≡ step ∷ []
-    → reply_in id (run_events start.cluster (waiting_steps start.cluster id most_waiting)) ≡ reply_in id (next_events now.cluster step)
+pub Waiting-reply : (start now : WorldFacts) (had mid : List Listed) (id : MemberId) (left : ℕ) (step : Step)
+    → Waiting start now had mid id left → waiting_steps now.cluster id left ≡ step ∷ []
+    → reply_in id (run_events start.cluster (waiting_steps start.cluster id most_waiting))
+    ≡ reply_in id (next_events now.cluster step)
 Waiting-reply start now had mid id left step w last =
     ap (λ l. reply_in id (run_events start.cluster l)) (sym (ap (λ l. w.done ++ l) (sym last) ∙ w.parts))
     ∙ reply-behind id start.cluster now.cluster w.done step w.brings.cluster w.silent
 
 -- a reply in a tick is the last of them
-pub last-tick : (cluster : Cluster) (id : MemberId) (left : ℕ) (reply : ReplyText) → reply_in id (next_events cluster steps.Scheduled) ≡ Some reply → waiting_steps cluster id (suc left) ≡ steps.Scheduled ∷ []
+pub last-tick : (cluster : Cluster) (id : MemberId) (left : ℕ) (reply : ReplyText)
+    → reply_in id (next_events cluster steps.Scheduled) ≡ Some reply
+    → waiting_steps cluster id (suc left) ≡ steps.Scheduled ∷ []
 last-tick cluster id left reply is =
-    ap (λ (r : Option ReplyText). steps.Scheduled ∷ unless_replied r (waiting_steps (cluster_over cluster (next_events cluster steps.Scheduled)) id left)) is
+    ap (λ (r : Option ReplyText). steps.Scheduled
+    ∷ unless_replied r (waiting_steps (cluster_over cluster (next_events cluster steps.Scheduled)) id left))
+    is
 
-unless-few : (reply : Option ReplyText) (more : List Step) (most : ℕ) → length more ≤ most → length (unless_replied reply more) ≤ most
+unless-few : (reply : Option ReplyText) (more : List Step) (most : ℕ) → length more ≤ most
+    → length (unless_replied reply more) ≤ most
 unless-few None more most few = few
 unless-few (Some reply) more most few = omega arith
 
@@ -75,29 +91,46 @@ waiting-few : (cluster : Cluster) (id : MemberId) (left : ℕ) → length (waiti
 waiting-few cluster id zero = omega arith
 waiting-few cluster id (suc left) =
     let events = next_events cluster steps.Scheduled in
-    omega (arith, unless-few (reply_in id events) (waiting_steps (cluster_over cluster events) id left) (left + 1) (waiting-few (cluster_over cluster events) id left))
+    omega (
+      arith,
+      unless-few (reply_in id events) (waiting_steps (cluster_over cluster events) id left) (left + 1)
+          (waiting-few (cluster_over cluster events) id left),
+    )
 
 -- so many at most bring a reply
-pub read-few : (cluster : Cluster) (id : MemberId) (connection : Connection) → length (read_steps cluster id connection) ≤ most_waiting + 2
+pub read-few : (cluster : Cluster) (id : MemberId) (connection : Connection)
+    → length (read_steps cluster id connection) ≤ most_waiting + 2
 read-few cluster id connection =
     let events = next_events cluster (steps.Connection id (first_visit connection.asks)) in
-    omega (arith, unless-few (reply_in id events) (waiting_steps (cluster_over cluster events) id most_waiting) (most_waiting + 1) (waiting-few (cluster_over cluster events) id most_waiting))
+    omega (
+      arith,
+      unless-few (reply_in id events) (waiting_steps (cluster_over cluster events) id most_waiting)
+          (most_waiting + 1) (waiting-few (cluster_over cluster events) id most_waiting),
+    )
 
-few-by : (course : Course) (cluster : Cluster) (id : MemberId) (connection : Connection) → length (steps_by course cluster id connection) ≤ connection_cost
+few-by : (course : Course) (cluster : Cluster) (id : MemberId) (connection : Connection)
+    → length (steps_by course cluster id connection) ≤ connection_cost
 few-by Whole cluster id connection = omega (arith, read-few cluster id connection)
 few-by Unread cluster id connection = omega arith
-few-by Unwritten cluster id connection = omega (arith, read-few cluster id connection, length-append (read_steps cluster id connection) (failure_steps id))
+few-by Unwritten cluster id connection =
+    omega (arith, read-few cluster id connection, length-append (read_steps cluster id connection) (failure_steps id))
 
 -- a connection brings few steps
-pub connection-few : (cluster : Cluster) (id : MemberId) (connection : Connection) → length (steps_of_connection cluster id connection) ≤ connection_cost
+pub connection-few : (cluster : Cluster) (id : MemberId) (connection : Connection)
+    → length (steps_of_connection cluster id connection) ≤ connection_cost
 connection-few cluster id connection = few-by connection.course cluster id connection
 
 -- as many steps are left as ticks, and one
-pub Waiting-room : (start now : WorldFacts) (had has : List Listed) (id : MemberId) (left more : ℕ) → Waiting start now had has id left → more ≤ left + 1 → HasStepsLeft start (most_waiting + 1) → HasStepsLeft now more
-Waiting-room start now had has id left more w fits room = room-behind start now had has w.done (most_waiting + 1) more w.brings (omega (arith, fits, w.count)) room
+pub Waiting-room : (start now : WorldFacts) (had has : List Listed) (id : MemberId) (left more : ℕ)
+    → Waiting start now had has id left → more ≤ left + 1 → HasStepsLeft start (most_waiting + 1)
+    → HasStepsLeft now more
+Waiting-room start now had has id left more w fits room =
+    room-behind start now had has w.done (most_waiting + 1) more w.brings (omega (arith, fits, w.count)) room
 
 -- the members stay meanwhile
-pub Waiting-declared : (start now : WorldFacts) (had has : List Listed) (id : MemberId) (left : ℕ) → Waiting start now had has id left → IsMember (names_in start.cluster.facts.members) id → IsMember (names_in now.cluster.facts.members) id
+pub Waiting-declared : (start now : WorldFacts) (had has : List Listed) (id : MemberId) (left : ℕ)
+    → Waiting start now had has id left → IsMember (names_in start.cluster.facts.members) id
+    → IsMember (names_in now.cluster.facts.members) id
 Waiting-declared start now had has id left w is = brings-declared start now had has w.done id w.brings is
 
 -- a number above zero is one more than the number below it
@@ -109,30 +142,45 @@ one-less (suc n) above = ap suc (sub-one n)
     sub-one n = omega arith
 
 -- a tick with a reply: it is the last
-pub ticked-brings : (start now then : WorldFacts) (had mid has : List Listed) (id : MemberId) (left : ℕ) (reply : ReplyText) → 0 < left → Waiting start now had mid id left → reply_in id (next_events now.cluster steps.Scheduled) ≡ Some reply
-    → Brings now then mid has (steps.Scheduled ∷ []) → Brings start then had has (waiting_steps start.cluster id most_waiting)
+pub ticked-brings : (start now then : WorldFacts) (had mid has : List Listed) (id : MemberId) (left : ℕ)
+    (reply : ReplyText) → 0 < left → Waiting start now had mid id left
+    → reply_in id (next_events now.cluster steps.Scheduled) ≡ Some reply
+    → Brings now then mid has (steps.Scheduled ∷ [])
+    → Brings start then had has (waiting_steps start.cluster id most_waiting)
 ticked-brings start now then had mid has id left reply some w is b =
-    Waiting-brings start now then had mid has id left steps.Scheduled w (ap (waiting_steps now.cluster id) (one-less left some) ∙ last-tick now.cluster id (left - 1) reply is) b
+    Waiting-brings start now then had mid has id left steps.Scheduled w
+    (ap (waiting_steps now.cluster id) (one-less left some) ∙ last-tick now.cluster id (left - 1) reply is) b
 
-pub ticked-reply : (start now : WorldFacts) (had mid : List Listed) (id : MemberId) (left : ℕ) (reply : ReplyText) → 0 < left → Waiting start now had mid id left → reply_in id (next_events now.cluster steps.Scheduled) ≡ Some reply
+pub ticked-reply : (start now : WorldFacts) (had mid : List Listed) (id : MemberId) (left : ℕ) (reply : ReplyText)
+    → 0 < left → Waiting start now had mid id left → reply_in id (next_events now.cluster steps.Scheduled) ≡ Some reply
     → replied start.cluster id (waiting_steps start.cluster id most_waiting) ≡ reply
 ticked-reply start now had mid id left reply some w is =
     ap (λ (r : Option ReplyText). unwrap_or r (refusal_reply refusals.NoResult))
-    (Waiting-reply start now had mid id left steps.Scheduled w (ap (waiting_steps now.cluster id) (one-less left some) ∙ last-tick now.cluster id (left - 1) reply is) ∙ is)
+    (Waiting-reply start now had mid id left steps.Scheduled w
+    (ap (waiting_steps now.cluster id) (one-less left some) ∙ last-tick now.cluster id (left - 1) reply is) ∙ is)
 
 -- a tick without one
-pub ticked-none : (start now then : WorldFacts) (had mid has : List Listed) (id : MemberId) (left : ℕ) → 0 < left → Waiting start now had mid id left → Brings now then mid has (steps.Scheduled ∷ []) → reply_in id (next_events now.cluster steps.Scheduled) ≡ None
+pub ticked-none : (start now then : WorldFacts) (had mid has : List Listed) (id : MemberId) (left : ℕ)
+    → 0 < left → Waiting start now had mid id left → Brings now then mid has (steps.Scheduled ∷ [])
+    → reply_in id (next_events now.cluster steps.Scheduled) ≡ None
     → Waiting start then had has id (left - 1)
-ticked-none start now then had mid has id left some w b none = Waiting-more start now then had mid has id (left - 1) (subst (Waiting start now had mid id) (one-less left some) w) b none
+ticked-none start now then had mid has id left some w b none = Waiting-more start now then had mid has id
+    (left - 1) (subst (Waiting start now had mid id) (one-less left some) w) b none
 
 -- no tick is left: that there was no result in time is the last step
 abbrev pub late : MemberId → Step
 late id = steps.Connection id (visits.Refusal refusals.NoResult)
 
-pub late-brings : (start now then : WorldFacts) (had mid has : List Listed) (id : MemberId) (left : ℕ) → left ≡ 0 → Waiting start now had mid id left → Brings now then mid has (late id ∷ []) → Brings start then had has (waiting_steps start.cluster id most_waiting)
-late-brings start now then had mid has id left none w b = Waiting-brings start now then had mid has id left (late id) w (ap (waiting_steps now.cluster id) none) b
+pub late-brings : (start now then : WorldFacts) (had mid has : List Listed) (id : MemberId) (left : ℕ)
+    → left ≡ 0 → Waiting start now had mid id left → Brings now then mid has (late id ∷ [])
+    → Brings start then had has (waiting_steps start.cluster id most_waiting)
+late-brings start now then had mid has id left none w b =
+    Waiting-brings start now then had mid has id left (late id) w (ap (waiting_steps now.cluster id) none) b
 
-pub late-reply : (start now : WorldFacts) (had mid : List Listed) (id : MemberId) (left : ℕ) (told : Option ReplyText) → left ≡ 0 → Waiting start now had mid id left → reply_in id (next_events now.cluster (late id)) ≡ told
-    → replied start.cluster id (waiting_steps start.cluster id most_waiting) ≡ unwrap_or told (refusal_reply refusals.NoResult)
+pub late-reply : (start now : WorldFacts) (had mid : List Listed) (id : MemberId) (left : ℕ) (told : Option ReplyText)
+    → left ≡ 0 → Waiting start now had mid id left → reply_in id (next_events now.cluster (late id)) ≡ told
+    → replied start.cluster id (waiting_steps start.cluster id most_waiting)
+    ≡ unwrap_or told (refusal_reply refusals.NoResult)
 late-reply start now had mid id left told none w is =
-    ap (λ (r : Option ReplyText). unwrap_or r (refusal_reply refusals.NoResult)) (Waiting-reply start now had mid id left (late id) w (ap (waiting_steps now.cluster id) none) ∙ is)
+    ap (λ (r : Option ReplyText). unwrap_or r (refusal_reply refusals.NoResult))
+    (Waiting-reply start now had mid id left (late id) w (ap (waiting_steps now.cluster id) none) ∙ is)

@@ -43,19 +43,28 @@ abbrev pub course_of : Bool → Course
 course_of true = Whole
 course_of false = Unwritten
 
--- a connection to the agent of the member of this number was served, in this cluster: it asks what its bytes say, and what was due was
--- sent. This is what its door tells where it is ended. A read or a write of it fails only where the door counts a fault, and none on a door
--- that takes what is due
-pub record Serves {D : Type 0} (door : Ghosts D) (before after : D) (told : Option DoorFacts) (cluster : Cluster) (id : MemberId) (connection : Connection) : Type 0 where
+-- a connection to the agent of the member of this number was served, in this cluster: it asks what
+-- its bytes say, and what was due was sent. This is what its door tells where it is ended. A read or
+-- a write of it fails only where the door counts a fault, and none on a door that takes what is due
+pub record Serves {D : Type 0} (door : Ghosts D) (before after : D) (told : Option DoorFacts)
+    (cluster : Cluster) (id : MemberId) (connection : Connection) : Type 0 where
   pub asks : connection.course ≢ Unread → Known (bytes_here (door.told before)) (λ all. IsRead all connection.asks)
-  pub sends : Tells (door.told before) (λ facts. (sent : List ℕ) × IsSent connection.course (bytes_due cluster id connection) sent × (told ≡ Some (after_hang_up (after_write sent facts))))
+  pub sends : Tells (door.told before)
+      (λ facts. (sent : List ℕ) × IsSent connection.course (bytes_due cluster id connection) sent ×
+      (told ≡ Some (after_hang_up (after_write sent facts))))
   pub fails : connection.course ≢ Whole → Rose (door.connection_faults before) (door.connection_faults after)
   pub reads : (n : ℕ) → door.takes before n → connection.course ≢ Unread
   pub writes : (n : ℕ) → door.takes before n → length (bytes_due cluster id connection) ≤ n → connection.course ≡ Whole
 
 -- a connection that asks this was answered, whole or in part: the world took what it brings, and what was due was sent
-pub record Answers {D : Type 0} (door : Ghosts D) (before after : D) (world then : WorldFacts) (had has : List Listed) (id : MemberId) (asks : Result Request Refusal) (whole : Bool) : Type 0 where
-  pub brings : Brings world then had has (steps_of_connection world.cluster id (record { asks = asks; course = course_of whole }))
-  pub sends : Tells (door.told before) (λ facts. (sent : List ℕ) × IsSent (course_of whole) (bytes_due world.cluster id (record { asks = asks; course = course_of whole })) sent × (door.told after ≡ Some (after_write sent facts)))
+pub record Answers {D : Type 0} (door : Ghosts D) (before after : D) (world then : WorldFacts)
+    (had has : List Listed) (id : MemberId) (asks : Result Request Refusal) (whole : Bool) : Type 0 where
+  pub brings : Brings world then had has
+      (steps_of_connection world.cluster id (record { asks = asks; course = course_of whole }))
+  pub sends : Tells (door.told before)
+      (λ facts. (sent : List ℕ) ×
+      IsSent (course_of whole) (bytes_due world.cluster id (record { asks = asks; course = course_of whole })) sent ×
+      (door.told after ≡ Some (after_write sent facts)))
   pub fails : whole ≡ false → Rose (door.connection_faults before) (door.connection_faults after)
-  pub writes : (n : ℕ) → door.takes before n → length (bytes_due world.cluster id (record { asks = asks; course = course_of whole })) ≤ n → whole ≡ true
+  pub writes : (n : ℕ) → door.takes before n
+      → length (bytes_due world.cluster id (record { asks = asks; course = course_of whole })) ≤ n → whole ≡ true

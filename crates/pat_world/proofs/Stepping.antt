@@ -16,28 +16,43 @@ use Rattle.world_model.proofs.Starting.{steps-room}
 use Rattle.pat_world.proofs.IdleTicks.{room-passed}
 
 -- before the first step a world may take all of them
-pub steps-left-first : (head : HeadText) (cluster : Cluster) → cluster ≡ cluster_of head → HasStepsLeft (record { cluster = cluster; steps = 0 }) most_steps
-steps-left-first head cluster is = record { room = subst (λ (c : Cluster). HasRoomFor c most_steps) (sym is) (steps-room head); steps = omega arith }
+pub steps-left-first : (head : HeadText) (cluster : Cluster) → cluster ≡ cluster_of head
+    → HasStepsLeft (record { cluster = cluster; steps = 0 }) most_steps
+steps-left-first head cluster is =
+    record { room = subst (λ (c : Cluster). HasRoomFor c most_steps) (sym is) (steps-room head); steps = omega arith }
 
 -- and nothing is counted farther
-pub is-counted-first : (head : HeadText) (cluster : Cluster) → cluster ≡ cluster_of head → AreCounted cluster (counted_by 0)
+pub is-counted-first : (head : HeadText) (cluster : Cluster) → cluster ≡ cluster_of head
+    → AreCounted cluster (counted_by 0)
 is-counted-first head cluster is = subst (λ (c : Cluster). AreCounted c (counted_by 0)) (sym is) (counted-first head)
 
 -- a step was taken
-pub TookSteps-step : (before after : WorldFacts) (had has : Listed) (events : List Event) → HasStepsLeft before 1 → after.steps ≡ before.steps + 1 → Emits before.cluster after.cluster had has events step_cost → TookSteps before after 1
+pub TookSteps-step : (before after : WorldFacts) (had has : Listed) (events : List Event)
+    → HasStepsLeft before 1 → after.steps ≡ before.steps + 1
+    → Emits before.cluster after.cluster had has events step_cost → TookSteps before after 1
 TookSteps-step before after had has events left one took = record {
   steps = one;
-  room = λ more has. record { room = took.room (step_cost * more) (HasRoom-fewer before.cluster (step_cost * (1 + more)) (step_cost + step_cost * more) (omega arith) has.room) };
-  counted = λ counted. subst (λ (n : ℕ). AreCounted after.cluster (counted_by n)) (sym one) (counted-step before.cluster after.cluster before.steps left.steps took.room counted);
+  room = λ more has. record {
+    room = took.room (step_cost * more)
+        (HasRoom-fewer before.cluster (step_cost * (1 + more)) (step_cost + step_cost * more) (omega arith) has.room);
+  };
+  counted = λ counted. subst (λ (n : ℕ). AreCounted after.cluster (counted_by n)) (sym one)
+      (counted-step before.cluster after.cluster before.steps left.steps took.room counted);
 }
 
-idle-counted : (world : WorldFacts) (later : Cluster) (steps count : ℕ) → later ≡ at_moment world.cluster (world.cluster.facts.clock + count) → steps ≡ world.steps + count → IsCounted world → AreCounted later (counted_by steps)
+idle-counted : (world : WorldFacts) (later : Cluster) (steps count : ℕ)
+    → later ≡ at_moment world.cluster (world.cluster.facts.clock + count) → steps ≡ world.steps + count
+    → IsCounted world → AreCounted later (counted_by steps)
 idle-counted world later steps count is took counted =
-    let passed = counted-passed world.cluster (counted_by world.steps) (counted_by (world.steps + count)) (world.cluster.facts.clock + count) (omega arith) (omega (arith, counted.clock)) counted in
-    subst (λ (n : ℕ). AreCounted later (counted_by n)) (sym took) (subst (λ (c : Cluster). AreCounted c (counted_by (world.steps + count))) (sym is) passed)
+    let passed = counted-passed world.cluster (counted_by world.steps) (counted_by (world.steps + count))
+    (world.cluster.facts.clock + count) (omega arith) (omega (arith, counted.clock)) counted in
+    subst (λ (n : ℕ). AreCounted later (counted_by n)) (sym took)
+    (subst (λ (c : Cluster). AreCounted c (counted_by (world.steps + count))) (sym is) passed)
 
 -- so many were taken at once, in which nothing but time passed
-pub TookSteps-idle : (world : WorldFacts) (later : Cluster) (steps count : ℕ) → later ≡ at_moment world.cluster (world.cluster.facts.clock + count) → steps ≡ world.steps + count → TookSteps world (record { cluster = later; steps = steps }) count
+pub TookSteps-idle : (world : WorldFacts) (later : Cluster) (steps count : ℕ)
+    → later ≡ at_moment world.cluster (world.cluster.facts.clock + count) → steps ≡ world.steps + count
+    → TookSteps world (record { cluster = later; steps = steps }) count
 TookSteps-idle world later steps count is took = record {
   steps = took;
   room = λ more has. subst (λ (c : Cluster). HasRoomFor c more) (sym is) (room-passed world.cluster count more has);

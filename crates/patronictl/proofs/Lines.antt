@@ -18,15 +18,18 @@ pub line-of-member : (seen : SnapshotFacts) (place : ℕ) (row : Row) → slice_
     → slice_get (table_lines (member_table seen)) (3 + place) ≡ Some (member_line seen row)
 line-of-member seen place row is =
     line-of-row (member_table seen) place (member_cells (keys_in seen) row)
-    (slice_get-map (member_cells (keys_in seen)) (rows_of seen) place ∙ ap (option_map (member_cells (keys_in seen))) is)
+    (slice_get-map (member_cells (keys_in seen)) (rows_of seen) place
+    ∙ ap (option_map (member_cells (keys_in seen))) is)
 
 pub members-count : (seen : SnapshotFacts) → length (table_lines (member_table seen)) ≡ length (rows_of seen) + 4
-members-count seen = omega (arith, lines-count (member_table seen), length-map (rows_of seen) (member_cells (keys_in seen)))
+members-count seen =
+    omega (arith, lines-count (member_table seen), length-map (rows_of seen) (member_cells (keys_in seen)))
 
 pub line-of-ending : (seen : SnapshotFacts) (place : ℕ) (row : HistoryRow) → slice_get (endings seen) place ≡ Some row
     → slice_get (table_lines (history_table seen)) (3 + place) ≡ Some (history_line seen row)
 line-of-ending seen place row is =
-    line-of-row (history_table seen) place (history_cells seen row) (slice_get-map (history_cells seen) (endings seen) place ∙ ap (option_map (history_cells seen)) is)
+    line-of-row (history_table seen) place (history_cells seen row)
+    (slice_get-map (history_cells seen) (endings seen) place ∙ ap (option_map (history_cells seen)) is)
 
 pub endings-count : (seen : SnapshotFacts) → length (table_lines (history_table seen)) ≡ length (endings seen) + 4
 endings-count seen = omega (arith, lines-count (history_table seen), length-map (endings seen) (history_cells seen))

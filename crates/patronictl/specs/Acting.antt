@@ -41,11 +41,13 @@ setting_of seen setting = leader_asked (leader_in seen) (config_change (setting_
 -- what comes of `switchover`
 abbrev pub switchover_of : SnapshotFacts → MemberId → Option MemberId → ActedText
 switchover_of seen leader candidate =
-    leader_asked (leader_in seen) (posted (codes "/switchover") (switchover_body (name_in seen leader) (option_map (name_in seen) candidate)))
+    leader_asked (leader_in seen)
+    (posted (codes "/switchover") (switchover_body (name_in seen leader) (option_map (name_in seen) candidate)))
 
 -- what comes of `failover`
 abbrev pub failover_of : SnapshotFacts → MemberId → ActedText
-failover_of seen candidate = leader_asked (leader_in seen) (posted (codes "/failover") (failover_body (name_in seen candidate)))
+failover_of seen candidate =
+    leader_asked (leader_in seen) (posted (codes "/failover") (failover_body (name_in seen candidate)))
 
 -- what comes of a command
 abbrev pub act_of : SnapshotFacts → CommandText → ActedText

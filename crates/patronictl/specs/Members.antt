@@ -39,7 +39,8 @@ lag_cell keys row = if leads row.member keys.leader then [] else lag_cell_of (la
 -- what the table tells of a member
 abbrev pub member_cells : ClusterKeys → Row → List (List ℕ)
 member_cells keys row =
-    name_bytes row.name ∷ host_bytes row.info.host ∷ role_word (leads row.member keys.leader) (names_standby keys.sync row.member)
+    name_bytes row.name ∷ host_bytes row.info.host
+    ∷ role_word (leads row.member keys.leader) (names_standby keys.sync row.member)
     ∷ word_text row.info.state ∷ timeline_cell row.info.timeline ∷ lag_cell keys row ∷ []
 
 -- the title of the table of a cluster of this name

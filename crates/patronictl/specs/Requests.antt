@@ -27,7 +27,8 @@ resume_body = codes "{\"pause\":null}"
 -- from whom, and where a candidate is named to whom the cluster is switched over
 abbrev pub switchover_body : List ℕ → Option (List ℕ) → List ℕ
 switchover_body leader None = codes "{\"leader\":\"" ++ (leader ++ codes "\"}")
-switchover_body leader (Some candidate) = codes "{\"leader\":\"" ++ (leader ++ (codes "\",\"candidate\":\"" ++ (candidate ++ codes "\"}")))
+switchover_body leader (Some candidate) =
+    codes "{\"leader\":\"" ++ (leader ++ (codes "\",\"candidate\":\"" ++ (candidate ++ codes "\"}")))
 
 -- to whom the cluster is failed over
 abbrev pub failover_body : List ℕ → List ℕ

@@ -18,4 +18,5 @@ fact_word leads standby = bit_or (bit_if leads LEADS) (bit_if standby STANDBY)
 
 -- the word of an answer of the table
 abbrev pub word_of : ℕ → List ℕ
-word_of answer = if answer == LEADER then codes "Leader" else (if answer == SYNC_STANDBY then codes "Sync Standby" else codes "Replica")
+word_of answer = if answer == LEADER then codes "Leader"
+    else (if answer == SYNC_STANDBY then codes "Sync Standby" else codes "Replica")

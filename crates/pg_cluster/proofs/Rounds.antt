@@ -15,7 +15,9 @@ use Rattle.pg_model.proofs.Lists.{got-set_same, got-set_other}
 use Rattle.pg_cluster.proofs.Sights.{without_spare-ticked_unless_live, log_position-ticked_unless_live}
 
 -- one more of them is changed
-pub changed-more : {X : Type 0} (f : X → X) (xs ys : List X) (place : ℕ) (x : X) → ys ≡ map f (take place xs) ++ drop place xs → place < length xs → x ≡ get_or ys place x → set ys place (f x) ≡ map f (take (place + 1) xs) ++ drop (place + 1) xs
+pub changed-more : {X : Type 0} (f : X → X) (xs ys : List X) (place : ℕ) (x : X)
+    → ys ≡ map f (take place xs) ++ drop place xs → place < length xs → x ≡ get_or ys place x
+    → set ys place (f x) ≡ map f (take (place + 1) xs) ++ drop (place + 1) xs
 changed-more f xs ys place x so_far within read =
     let y = get_or xs place x in
     let front = map f (take place xs) in
@@ -30,19 +32,28 @@ changed-more f xs ys place x so_far within read =
     ∙ ap (λ t. t ++ rest) (sym (map_more f xs place x within))
 
 -- all of them are
-pub changed-all : {X : Type 0} (f : X → X) (xs ys : List X) (place : ℕ) → ys ≡ map f (take place xs) ++ drop place xs → place ≡ length xs → ys ≡ map f xs
+pub changed-all : {X : Type 0} (f : X → X) (xs ys : List X) (place : ℕ)
+    → ys ≡ map f (take place xs) ++ drop place xs → place ≡ length xs → ys ≡ map f xs
 changed-all f xs ys place so_far end =
-    so_far ∙ ap (λ t. map f t ++ drop place xs) (take_all place xs (omega arith)) ∙ ap (λ t. map f xs ++ t) (drop_all place xs (omega arith)) ∙ append-nil (map f xs)
+    so_far ∙ ap (λ t. map f t ++ drop place xs) (take_all place xs (omega arith))
+    ∙ ap (λ t. map f xs ++ t) (drop_all place xs (omega arith)) ∙ append-nil (map f xs)
 
-pub without_spare-ticked : (now : Ticks) (xs : List ServerFacts) → map without_spare (map (ticked_unless_live now) xs) ≡ map (ticked_unless_live now) (map without_spare xs)
+pub without_spare-ticked : (now : Ticks) (xs : List ServerFacts)
+    → map without_spare (map (ticked_unless_live now) xs) ≡ map (ticked_unless_live now) (map without_spare xs)
 without_spare-ticked now [] = refl
-without_spare-ticked now (x ∷ xs) = ap (λ t. t ∷ map without_spare (map (ticked_unless_live now) xs)) (without_spare-ticked_unless_live now x) ∙ ap (λ t. ticked_unless_live now (without_spare x) ∷ t) (without_spare-ticked now xs)
+without_spare-ticked now (x ∷ xs) =
+    ap (λ t. t ∷ map without_spare (map (ticked_unless_live now) xs)) (without_spare-ticked_unless_live now x)
+    ∙ ap (λ t. ticked_unless_live now (without_spare x) ∷ t) (without_spare-ticked now xs)
 
-pub log_position-ticked : (now : Ticks) (xs : List ServerFacts) → map log_position_of (map (ticked_unless_live now) xs) ≡ map log_position_of xs
+pub log_position-ticked : (now : Ticks) (xs : List ServerFacts)
+    → map log_position_of (map (ticked_unless_live now) xs) ≡ map log_position_of xs
 log_position-ticked now [] = refl
-log_position-ticked now (x ∷ xs) = ap (λ t. t ∷ map log_position_of (map (ticked_unless_live now) xs)) (log_position-ticked_unless_live now x) ∙ ap (λ t. log_position_of x ∷ t) (log_position-ticked now xs)
+log_position-ticked now (x ∷ xs) =
+    ap (λ t. t ∷ map log_position_of (map (ticked_unless_live now) xs)) (log_position-ticked_unless_live now x)
+    ∙ ap (λ t. log_position_of x ∷ t) (log_position-ticked now xs)
 
-pub without_spare-fresh : (count base : ℕ) → map without_spare (replicate count (fresh base)) ≡ replicate count (fresh base)
+pub without_spare-fresh : (count base : ℕ)
+    → map without_spare (replicate count (fresh base)) ≡ replicate count (fresh base)
 without_spare-fresh zero base = refl
 without_spare-fresh (suc count) base = ap (λ t. fresh base ∷ t) (without_spare-fresh count base)
 
@@ -51,9 +62,11 @@ pub record ForgetsBelow (old new : List Bool) (servers : List LogPosition) (plac
   pub one_each : length new ≡ length old
   pub kept : (k : ℕ) → slice_get new k ≡ Some true → slice_get old k ≡ Some true
   pub own : place < end → slice_get new place ≡ Some true → ⊥
-  pub followers : (k : ℕ) (s : LogPosition) → k < end → slice_get new k ≡ Some true → slice_get servers k ≡ Some s → is_place place s.upstream ≡ false
+  pub followers : (k : ℕ) (s : LogPosition) → k < end → slice_get new k ≡ Some true
+      → slice_get servers k ≡ Some s → is_place place s.upstream ≡ false
 
-pub forgets-start : (marks : List Bool) (servers : List LogPosition) (place : ℕ) → ForgetsBelow marks marks servers place 0
+pub forgets-start : (marks : List Bool) (servers : List LogPosition) (place : ℕ)
+    → ForgetsBelow marks marks servers place 0
 forgets-start marks servers place = record {
   one_each = refl;
   kept = λ k h. h;
@@ -64,7 +77,10 @@ forgets-start marks servers place = record {
 not-own : (place : ℕ) → (place == place) ≡ false → ⊥
 not-own place h = grind (arith, nat_tests)
 
-pub forgets-more : (old new : List Bool) (servers : List LogPosition) (place end : ℕ) (b concerned : Bool) (s : LogPosition) → ForgetsBelow old new servers place end → slice_get new end ≡ Some b → slice_get servers end ≡ Some s → concerned ≡ ((end == place) || is_place place s.upstream) → ForgetsBelow old (slice_set new end (b && not concerned)) servers place (end + 1)
+pub forgets-more : (old new : List Bool) (servers : List LogPosition) (place end : ℕ) (b concerned : Bool)
+    (s : LogPosition) → ForgetsBelow old new servers place end → slice_get new end ≡ Some b
+    → slice_get servers end ≡ Some s → concerned ≡ ((end == place) || is_place place s.upstream)
+    → ForgetsBelow old (slice_set new end (b && not concerned)) servers place (end + 1)
 forgets-more old new servers place end b concerned s below mark there is = record {
   one_each = length-set new end (b && not concerned) ∙ below.one_each;
   kept = λ k h. kept k h (cases_eq k end);
@@ -78,32 +94,44 @@ forgets-more old new servers place end b concerned s below mark there is = recor
     marked : slice_get (slice_set new end (b && not concerned)) end ≡ Some true → (b && not concerned) ≡ true
     marked h = same_Some (b && not concerned) true (sym set_here ∙ h)
 
-    apart : slice_get (slice_set new end (b && not concerned)) end ≡ Some true → ((end == place) || is_place place s.upstream) ≡ false
+    apart : slice_get (slice_set new end (b && not concerned)) end ≡ Some true
+        → ((end == place) || is_place place s.upstream) ≡ false
     apart h = sym is ∙ not-true concerned (and_parts b (not concerned) (marked h)).1
 
-    kept : (k : ℕ) → slice_get (slice_set new end (b && not concerned)) k ≡ Some true → (k ≡ end) ⊎ (k ≡ end → ⊥) → slice_get old k ≡ Some true
+    kept : (k : ℕ) → slice_get (slice_set new end (b && not concerned)) k ≡ Some true
+        → (k ≡ end) ⊎ (k ≡ end → ⊥) → slice_get old k ≡ Some true
     kept k h (inl e) =
-        let here : slice_get (slice_set new end (b && not concerned)) end ≡ Some true = ap (slice_get (slice_set new end (b && not concerned))) (sym e) ∙ h in
+        let here : slice_get (slice_set new end (b && not concerned)) end ≡ Some true =
+        ap (slice_get (slice_set new end (b && not concerned))) (sym e) ∙ h in
         below.kept k (ap (slice_get new) e ∙ mark ∙ ap (λ t. Some t) (and_parts b (not concerned) (marked here)).0)
     kept k h (inr ne) = below.kept k (sym (got-set_other new end k (b && not concerned) ne) ∙ h)
 
-    own : place < end + 1 → slice_get (slice_set new end (b && not concerned)) place ≡ Some true → (place ≡ end) ⊎ (place ≡ end → ⊥) → ⊥
+    own : place < end + 1 → slice_get (slice_set new end (b && not concerned)) place ≡ Some true
+        → (place ≡ end) ⊎ (place ≡ end → ⊥) → ⊥
     own lt h (inl e) =
-        let here : slice_get (slice_set new end (b && not concerned)) end ≡ Some true = ap (slice_get (slice_set new end (b && not concerned))) (sym e) ∙ h in
+        let here : slice_get (slice_set new end (b && not concerned)) end ≡ Some true =
+        ap (slice_get (slice_set new end (b && not concerned))) (sym e) ∙ h in
         not-own place (ap (λ t. t == place) e ∙ (or_parts (end == place) (is_place place s.upstream) (apart here)).0)
     own lt h (inr ne) = below.own (omega arith) (sym (got-set_other new end place (b && not concerned) ne) ∙ h)
 
-    followers : (k : ℕ) (t : LogPosition) → k < end + 1 → slice_get (slice_set new end (b && not concerned)) k ≡ Some true → slice_get servers k ≡ Some t → (k ≡ end) ⊎ (k ≡ end → ⊥) → is_place place t.upstream ≡ false
+    followers : (k : ℕ) (t : LogPosition) → k < end + 1
+        → slice_get (slice_set new end (b && not concerned)) k ≡ Some true → slice_get servers k ≡ Some t
+        → (k ≡ end) ⊎ (k ≡ end → ⊥) → is_place place t.upstream ≡ false
     followers k t lt h at (inl e) =
-        let here : slice_get (slice_set new end (b && not concerned)) end ≡ Some true = ap (slice_get (slice_set new end (b && not concerned))) (sym e) ∙ h in
+        let here : slice_get (slice_set new end (b && not concerned)) end ≡ Some true =
+        ap (slice_get (slice_set new end (b && not concerned))) (sym e) ∙ h in
         let same : t ≡ s = same_Some t s (sym at ∙ ap (slice_get servers) e ∙ there) in
-        ap (λ (u : LogPosition). is_place place u.upstream) same ∙ (or_parts (end == place) (is_place place s.upstream) (apart here)).1
-    followers k t lt h at (inr ne) = below.followers k t (omega arith) (sym (got-set_other new end k (b && not concerned) ne) ∙ h) at
+        ap (λ (u : LogPosition). is_place place u.upstream) same
+        ∙ (or_parts (end == place) (is_place place s.upstream) (apart here)).1
+    followers k t lt h at (inr ne) =
+        below.followers k t (omega arith) (sym (got-set_other new end k (b && not concerned) ne) ∙ h) at
 
-pub forgets-all : (old new : List Bool) (servers : List LogPosition) (place end : ℕ) → ForgetsBelow old new servers place end → end ≡ length old → Forgets old new servers place
+pub forgets-all : (old new : List Bool) (servers : List LogPosition) (place end : ℕ)
+    → ForgetsBelow old new servers place end → end ≡ length old → Forgets old new servers place
 forgets-all old new servers place end below whole = record {
   one_each = below.one_each;
   kept = below.kept;
   own = λ h. below.own (omega (arith, slice_get_within new place true h, below.one_each, whole)) h;
-  followers = λ k s h at. below.followers k s (omega (arith, slice_get_within new k true h, below.one_each, whole)) h at;
+  followers =
+      λ k s h at. below.followers k s (omega (arith, slice_get_within new k true h, below.one_each, whole)) h at;
 }

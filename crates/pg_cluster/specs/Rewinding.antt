@@ -9,7 +9,8 @@ use Rattle.pg_model.specs.Rewinding.{common_log, rewound, cloned, may_rewind, ma
 
 -- the rewind of a server to a source, where it may be rewound: how many entries it keeps, and where they end
 abbrev pub rewind_of : ServerFacts → ServerFacts → Option Rewound
-rewind_of s source = if may_rewind s source then Some (record { kept = length (common_log s source); at = lsn_at (end_of (common_log s source)) }) else None
+rewind_of s source = if may_rewind s source
+    then Some (record { kept = length (common_log s source); at = lsn_at (end_of (common_log s source)) }) else None
 
 -- the rewind of the first of these servers to the second, if both are there
 abbrev pub rewind_between : Option ServerFacts → Option ServerFacts → Option Rewound
@@ -36,14 +37,17 @@ abbrev pub may_clone_at : List ServerFacts → ℕ → ℕ → Bool
 may_clone_at servers place from = holds_between may_clone (slice_get servers place) (slice_get servers from)
 
 -- the servers after the one at a place is changed by a source; without a source all are as before
-abbrev pub changed_from : List ServerFacts → ℕ → (ServerFacts → ServerFacts → ServerFacts) → Option ServerFacts → List ServerFacts
+abbrev pub changed_from : List ServerFacts → ℕ → (ServerFacts → ServerFacts → ServerFacts)
+    → Option ServerFacts → List ServerFacts
 changed_from servers place change None = servers
 changed_from servers place change (Some source) = with_changed servers place (λ s. change s source)
 
 -- the servers after the one at a place was rewound to the one at another place, where it may be
 abbrev pub rewound_at : List ServerFacts → ℕ → ℕ → List ServerFacts
-rewound_at servers place from = if may_rewind_at servers place from then changed_from servers place rewound (slice_get servers from) else servers
+rewound_at servers place from =
+    if may_rewind_at servers place from then changed_from servers place rewound (slice_get servers from) else servers
 
 -- the servers after the one at a place was cloned from the one at another place, where it may be
 abbrev pub cloned_at : List ServerFacts → ℕ → ℕ → List ServerFacts
-cloned_at servers place from = if may_clone_at servers place from then changed_from servers place cloned (slice_get servers from) else servers
+cloned_at servers place from =
+    if may_clone_at servers place from then changed_from servers place cloned (slice_get servers from) else servers

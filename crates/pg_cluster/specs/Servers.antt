@@ -15,7 +15,8 @@ without_spare s = record s { spare = 0 }
 -- the entry of a commit at this server, if there is one
 abbrev pub entry_at : Option ServerFacts → ℕ → ℕ → Option Entry
 entry_at None serial bytes = None
-entry_at (Some s) serial bytes = if writes s.state && nat_le (end_of (entries_of s.log) + bytes) (2 ^ 63) then Some (entry_of s serial bytes) else None
+entry_at (Some s) serial bytes = if writes s.state && nat_le (end_of (entries_of s.log) + bytes) (2 ^ 63)
+    then Some (entry_of s serial bytes) else None
 
 -- the entry of a commit, where the server at the place accepts writes and its log doesn't pass 2^63 bytes
 abbrev pub entry_for : List ServerFacts → ℕ → ℕ → ℕ → Option Entry
@@ -44,7 +45,8 @@ news_at servers place from most = news_between (slice_get servers place) (slice_
 -- the servers after such news from an upstream, if it is there
 abbrev pub after_streamed_from : List ServerFacts → ℕ → Streamed → Option ServerFacts → List ServerFacts
 after_streamed_from servers place news None = servers
-after_streamed_from servers place news (Some upstream) = with_changed servers place (λ s. after_streamed news s upstream)
+after_streamed_from servers place news (Some upstream) =
+    with_changed servers place (λ s. after_streamed news s upstream)
 
 -- the servers after such news, if there are any
 abbrev pub after_news_at : List ServerFacts → ℕ → ℕ → Option Streamed → List ServerFacts

@@ -26,7 +26,12 @@ upstream_number_of upstream = option_map (λ server. server.number) upstream
 
 -- where a server stands
 abbrev pub log_position_of : ServerFacts → LogPosition
-log_position_of s = record { log = entries_of s.log; timeline = s.timeline; history = s.history; upstream = upstream_number_of s.upstream }
+log_position_of s = record {
+  log = entries_of s.log;
+  timeline = s.timeline;
+  history = s.history;
+  upstream = upstream_number_of s.upstream;
+}
 
 -- the upstream's log begins with the replica's, and they are on one timeline with one history
 pub record IsBehind (s upstream : LogPosition) : Type 0 where
@@ -45,9 +50,10 @@ abbrev pub has_received : Met → Bool
 has_received (mets.Received count) = true
 has_received _ = false
 
--- a replica is this one after it heard of its upstream, with these news; where it is told to have received, it is behind
--- the upstream, and else it stands as before
-pub record CatchesUp (s upstream : ServerFacts) (most : ℕ) (after : ServerFacts) (news : Option Streamed) (received : Bool) : Type 0 where
+-- a replica is this one after it heard of its upstream, with these news; where it
+-- is told to have received, it is behind the upstream, and else it stands as before
+pub record CatchesUp (s upstream : ServerFacts) (most : ℕ) (after : ServerFacts) (news : Option Streamed)
+    (received : Bool) : Type 0 where
   pub news_are : news ≡ news_of s upstream most
   pub after_is : after ≡ after_news news s upstream
   pub behind : received ≡ true → IsBehind (log_position_of after) (log_position_of upstream)

@@ -39,7 +39,8 @@ committed serial bytes s = appended (entry_of s serial bytes) s
 -- what a replica gets, by whether the upstream writes, and by the two logs
 abbrev pub stream_by : Bool → List Entry → List Entry → ℕ → Streamed
 stream_by false mine theirs most = streams.NotConnected
-stream_by true mine theirs most = if is_prefix mine theirs then streams.Received (min most (length theirs - length mine)) else streams.Diverged (lsn_at (fork_of mine theirs))
+stream_by true mine theirs most = if is_prefix mine theirs
+    then streams.Received (min most (length theirs - length mine)) else streams.Diverged (lsn_at (fork_of mine theirs))
 
 -- what a replica gets from its upstream: nothing where that one doesn't write, no entry where its own log is no prefix
 -- of the upstream's, and else the next entries, at most so many
@@ -73,7 +74,8 @@ is_current s upstream = (s.timeline == upstream.timeline) && same_points s.histo
 abbrev pub news_where : Streamed → Bool → Bool → Option Streamed
 news_where streams.NotConnected diverged current = None
 news_where (streams.Diverged at) diverged current = if diverged then None else Some (streams.Diverged at)
-news_where (streams.Received count) diverged current = if (count == 0) && current then None else Some (streams.Received count)
+news_where (streams.Received count) diverged current =
+    if (count == 0) && current then None else Some (streams.Received count)
 
 -- what of an answer changes anything at a replica
 abbrev pub news_by : Streamed → ServerFacts → ServerFacts → Option Streamed
@@ -109,7 +111,8 @@ is_free members number end confirmed = not (bit_at members.bits number == 1) || 
 -- each member of the set, of those from this number on, has confirmed the end of a commit
 abbrev pub all_reach : ℕ → MemberSet → Lsn → List (Option Lsn) → Bool
 all_reach number members end [] = true
-all_reach number members end (confirmed ∷ more) = is_free members number end confirmed && all_reach (number + 1) members end more
+all_reach number members end (confirmed ∷ more) =
+    is_free members number end confirmed && all_reach (number + 1) members end more
 
 -- the end of a commit is confirmed by whom it waits for
 abbrev pub is_met : Required → Lsn → List (Option Lsn) → Bool
@@ -147,4 +150,5 @@ Reaches end confirmed = IsSomeAnd confirmed (λ position. end.position ≤ posit
 abbrev pub MeetsRequired : Required → Lsn → List (Option Lsn) → Type 0
 MeetsRequired required.Nobody end confirmed = ⊤
 MeetsRequired required.AnyOne end confirmed = Any (Reaches end) confirmed
-MeetsRequired (required.All members) end confirmed = (member : ℕ) → member < length confirmed → bit_at members.bits member ≡ 1 → Reaches end (slice_index_or confirmed member None)
+MeetsRequired (required.All members) end confirmed = (member : ℕ) → member < length confirmed
+    → bit_at members.bits member ≡ 1 → Reaches end (slice_index_or confirmed member None)

@@ -29,14 +29,16 @@ promoted s = record s {
   confirmed = none_confirmed;
 }
 
--- its start is complete: it runs as a replica, or accepts writes, and then what was confirmed to it before counts no more
+-- its start is complete: it runs as a replica, or accepts writes, and
+-- then what was confirmed to it before counts no more
 abbrev pub started : Bool → ServerFacts → ServerFacts
 started false s = record s { state = states.Replica }
 started true s = record s { state = states.Primary; was_primary = true; confirmed = none_confirmed }
 
 -- it starts: at once where starts take no time, and else it is ready after the delay
 abbrev pub starting : Bool → Ticks → ServerFacts → ServerFacts
-starting as_primary now s = if s.start_delay.0 == 0 then started as_primary s else record s { state = states.Starting as_primary (moment_after now s.start_delay) }
+starting as_primary now s = if s.start_delay.0 == 0 then started as_primary s
+    else record s { state = states.Starting as_primary (moment_after now s.start_delay) }
 
 -- it starts as a replica of this server, or of none
 abbrev pub replica_started : Ticks → Option ServerId → ServerFacts → ServerFacts
@@ -55,9 +57,11 @@ abbrev pub is_primary : State → Bool
 is_primary states.Primary = true
 is_primary _ = false
 
--- it shuts down: at once where stops take no time, and else it has ended after the delay; a primary accepts writes until then
+-- it shuts down: at once where stops take no time, and else it has
+-- ended after the delay; a primary accepts writes until then
 abbrev pub stopping : Ticks → ServerFacts → ServerFacts
-stopping now s = if s.stop_delay.0 == 0 then stopped s else record s { state = states.Stopping (is_primary s.state) (moment_after now s.stop_delay) }
+stopping now s = if s.stop_delay.0 == 0 then stopped s
+    else record s { state = states.Stopping (is_primary s.state) (moment_after now s.stop_delay) }
 
 -- the state after a crash: also a stopped server is crashed then
 abbrev pub crashed_state : State → State
@@ -72,7 +76,8 @@ crashed s = record s { state = crashed_state s.state; diverged = false; waiting 
 abbrev pub wiped : ServerFacts → ServerFacts
 wiped s = record s { state = states.Creating; log = None; diverged = false; waiting = [] }
 
--- it ends, which takes no time, and starts again in its role: as a primary on its timeline, or as a replica of whom it follows
+-- it ends, which takes no time, and starts again in its role: as a
+-- primary on its timeline, or as a replica of whom it follows
 abbrev pub restarted_in : State → Ticks → ServerFacts → ServerFacts
 restarted_in states.Primary now s = primary_started now (stopped s)
 restarted_in _ now s = replica_started now s.upstream s

@@ -34,7 +34,8 @@ status_of s = record {
 
 -- a replica that is promoted accepts writes on the next timeline; another server stays as it is
 abbrev pub status_promoted : ServerStatus → ServerStatus
-status_promoted s = if is_replica s.state then record s { state = states.Primary; timeline = s.timeline + 1; was_primary = true } else s
+status_promoted s =
+    if is_replica s.state then record s { state = states.Primary; timeline = s.timeline + 1; was_primary = true } else s
 
 -- its start is complete: it accepts writes as a primary, or is a replica
 abbrev pub status_started : Bool → ServerStatus → ServerStatus
@@ -43,11 +44,13 @@ status_started true s = record s { state = states.Primary; was_primary = true }
 
 -- it starts: at once where starts take no time, and else it is ready after the delay
 abbrev pub status_starting : Bool → Ticks → ServerStatus → ServerStatus
-status_starting as_primary now s = if s.start_delay.0 == 0 then status_started as_primary s else record s { state = states.Starting as_primary (moment_after now s.start_delay) }
+status_starting as_primary now s = if s.start_delay.0 == 0 then status_started as_primary s
+    else record s { state = states.Starting as_primary (moment_after now s.start_delay) }
 
 -- one that is down starts as a replica of this server, or of none; another stays as it is
 abbrev pub status_replica_started : Ticks → Option ServerId → ServerStatus → ServerStatus
-status_replica_started now upstream s = if is_down s.state then status_starting false now (record s { upstream = upstream; was_primary = false }) else s
+status_replica_started now upstream s =
+    if is_down s.state then status_starting false now (record s { upstream = upstream; was_primary = false }) else s
 
 -- one that is down and was a primary starts as a primary again; another stays as it is
 abbrev pub status_primary_started : Ticks → ServerStatus → ServerStatus
@@ -55,13 +58,16 @@ status_primary_started now s = if is_down s.state && s.was_primary then status_s
 
 -- its shutdown begins: it has ended at once where stops take no time, and else after the delay
 abbrev pub status_ending : Ticks → ServerStatus → ServerStatus
-status_ending now s = if s.stop_delay.0 == 0 then record s { state = states.Stopped } else record s { state = states.Stopping (is_primary s.state) (moment_after now s.stop_delay) }
+status_ending now s = if s.stop_delay.0 == 0 then record s { state = states.Stopped }
+    else record s { state = states.Stopping (is_primary s.state) (moment_after now s.stop_delay) }
 
--- one that runs or starts shuts down: at once where stops take no time, and else it has ended after the delay; another stays as it is
+-- one that runs or starts shuts down: at once where stops take no
+-- time, and else it has ended after the delay; another stays as it is
 abbrev pub status_stopping : Ticks → ServerStatus → ServerStatus
 status_stopping now s = if is_up s.state then status_ending now s else s
 
--- its data is removed, and it waits for a copy; one that accepts writes, or will when its start is complete, stays as it is
+-- its data is removed, and it waits for a copy; one that accepts
+-- writes, or will when its start is complete, stays as it is
 abbrev pub status_wiped : ServerStatus → ServerStatus
 status_wiped s = if live s.state then s else record s { state = states.Creating; end = None; diverged = false }
 

@@ -9,7 +9,8 @@ use Rattle.svg.specs.declared.paint.Paint.TheVariants.{Alarm}
 use Rattle.picture.specs.Frames.{offset_at, x_at}
 use Rattle.picture.specs.declared.lanes.TheConstants.{TOP}
 
--- the moment that an answer tells, where that ends a promise: the premises broke, two writers began, or a commit was lost
+-- the moment that an answer tells, where that ends a promise: the
+-- premises broke, two writers began, or a commit was lost
 abbrev pub alarm_told : Answer → Option ℕ → Option ℕ
 alarm_told Premises moment = moment
 alarm_told TwoWriters moment = moment
@@ -32,4 +33,5 @@ alarm_if end height sights answer (Some moment) = alarm_tree (x_at end (offset_a
 -- one for each such answer
 abbrev pub alarms_tree : ℕ → ℕ → List SightText → List AnswerText → Forest
 alarms_tree end height sights [] = nothing
-alarms_tree end height sights (answer ∷ answers) = beside (alarm_if end height sights answer (alarm_of answer)) (alarms_tree end height sights answers)
+alarms_tree end height sights (answer ∷ answers) =
+    beside (alarm_if end height sights answer (alarm_of answer)) (alarms_tree end height sights answers)

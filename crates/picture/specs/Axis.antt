@@ -29,7 +29,8 @@ room_after free x = if nat_lt x free then free else x + MOMENT
 abbrev pub times_tree : ℕ → ℕ → ℕ → List SightText → Forest
 times_tree end y free [] = nothing
 times_tree end y free (sight ∷ sights) =
-    beside (time_if free (x_at end sight.offset) y sight.tick) (times_tree end y (room_after free (x_at end sight.offset)) sights)
+    beside (time_if free (x_at end sight.offset) y sight.tick)
+    (times_tree end y (room_after free (x_at end sight.offset)) sights)
 
 -- what the axis counts
 unfoldable pub axis_heading : ℕ → Forest

@@ -11,7 +11,12 @@ use Rattle.picture.specs.declared.bars.Row.{Row}
 -- the bar from a line on to what is so far behind the start
 unfoldable pub bar_tree : ℕ → Row → SightText → ℕ → Paint → Forest
 bar_tree end row sight until paint =
-    rect_tree (record { x = x_at end sight.offset; y = row.y; width = x_at end until - x_at end sight.offset; height = row.height }) paint sight.line
+    rect_tree (record {
+      x = x_at end sight.offset;
+      y = row.y;
+      width = x_at end until - x_at end sight.offset;
+      height = row.height;
+    }) paint sight.line
 
 -- where a bar ends that these lines follow: at the first that says what the band is from there on, or at the end
 abbrev pub until_if : Option Paint → SightText → ℕ → ℕ
@@ -27,7 +32,9 @@ abbrev pub bar_if : ℕ → Row → SightText → ℕ → Option Paint → Fores
 bar_if end row sight until None = nothing
 bar_if end row sight until (Some paint) = bar_tree end row sight until paint
 
--- a bar for each line that says what the band is from there on, up to the next such line or the end; the last stands first
+-- a bar for each line that says what the band is from there on, up to
+-- the next such line or the end; the last stands first
 abbrev pub bars_tree : ℕ → Row → List SightText → Forest
 bars_tree end row [] = nothing
-bars_tree end row (sight ∷ sights) = beside (bars_tree end row sights) (bar_if end row sight (until_in end row sights) (paint_in row.band row.lane sight))
+bars_tree end row (sight ∷ sights) = beside (bars_tree end row sights)
+    (bar_if end row sight (until_in end row sights) (paint_in row.band row.lane sight))

@@ -33,10 +33,12 @@ point_tick tick last sight = if nat_le sight.tick tick then sight.tick else last
 abbrev pub point_offset : ℕ → ℕ → SightText → ℕ
 point_offset tick offset sight = if nat_le sight.tick tick then sight.offset else offset
 
--- how far behind the start a moment is drawn that comes behind the one that is drawn so far behind it, with these lines between
+-- how far behind the start a moment is drawn that comes behind the one
+-- that is drawn so far behind it, with these lines between
 abbrev pub offset_from : ℕ → ℕ → List SightText → ℕ → ℕ
 offset_from last offset [] tick = offset_after offset (tick - last)
-offset_from last offset (sight ∷ sights) tick = offset_from (point_tick tick last sight) (point_offset tick offset sight) sights tick
+offset_from last offset (sight ∷ sights) tick =
+    offset_from (point_tick tick last sight) (point_offset tick offset sight) sights tick
 
 -- how far behind the start a moment is drawn
 abbrev pub offset_at : List SightText → ℕ → ℕ

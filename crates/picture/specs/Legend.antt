@@ -44,7 +44,8 @@ answer_tree y answer = label_tree (record { x = 8; y = y }) (answer_paint answer
 -- these lines of the summary, from this place on
 abbrev pub answers_from : ℕ → ℕ → List AnswerText → Forest
 answers_from place y [] = nothing
-answers_from place y (answer ∷ answers) = beside (answer_tree (y + place * LINE) answer) (answers_from (place + 1) y answers)
+answers_from place y (answer ∷ answers) =
+    beside (answer_tree (y + place * LINE) answer) (answers_from (place + 1) y answers)
 
 -- the lines of the summary
 unfoldable pub answers_tree : ℕ → List AnswerText → Forest
@@ -59,4 +60,5 @@ left_tree y count = label_tree (record { x = 8; y = y }) Label (left_text count)
 
 -- the legend
 unfoldable pub legend_tree : ℕ → List AnswerText → ℕ → Forest
-legend_tree y answers left_out = beside (beside (keys_tree y) (left_tree (y + 2 * LINE) left_out)) (answers_tree (y + 3 * LINE) answers)
+legend_tree y answers left_out =
+    beside (beside (keys_tree y) (left_tree (y + 2 * LINE) left_out)) (answers_tree (y + 3 * LINE) answers)

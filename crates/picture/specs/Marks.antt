@@ -53,7 +53,8 @@ mark_paint (Some lane) = paints.Mark
 
 -- the stroke of a line at this place
 unfoldable pub stroke_tree : ℕ → ℕ → ℕ → SightText → Forest
-stroke_tree x y height sight = rect_tree (record { x = x; y = y + 16; width = 2; height = height }) (mark_paint sight.lane) sight.line
+stroke_tree x y height sight =
+    rect_tree (record { x = x; y = y + 16; width = 2; height = height }) (mark_paint sight.lane) sight.line
 
 -- a text in this row
 unfoldable pub label_in : ℕ → ℕ → ℕ → List ℕ → Forest
@@ -70,7 +71,8 @@ row_at free x = position (λ from. nat_le from x) free
 
 -- a mark at its place, with its text in the first row that is free there
 unfoldable pub mark_tree : ℕ → ℕ → List ℕ → SightText → Forest
-mark_tree end y free sight = mark_in (x_at end sight.offset) y (row_at free (x_at end sight.offset)) sight (label_of sight)
+mark_tree end y free sight =
+    mark_in (x_at end sight.offset) y (row_at free (x_at end sight.offset)) sight (label_of sight)
 
 -- from where on rows are free behind a text of so many bytes in this row
 abbrev pub rows_with : List ℕ → Option ℕ → ℕ → ℕ → List ℕ
@@ -79,7 +81,8 @@ rows_with free (Some row) x bytes = slice_set free row (x + (bytes + 2) * LETTER
 
 -- the same behind the text of a line
 unfoldable pub rows_after : ℕ → List ℕ → SightText → List ℕ
-rows_after end free sight = rows_with free (row_at free (x_at end sight.offset)) (x_at end sight.offset) (length (label_of sight))
+rows_after end free sight =
+    rows_with free (row_at free (x_at end sight.offset)) (x_at end sight.offset) (length (label_of sight))
 
 -- the mark of a line that has one
 abbrev pub mark_if : ℕ → ℕ → List ℕ → SightText → Bool → Forest
@@ -98,4 +101,5 @@ no_labels = 0 ∷ 0 ∷ 0 ∷ 0 ∷ []
 abbrev pub marks_tree : ℕ → Option ℕ → ℕ → List ℕ → List SightText → Forest
 marks_tree end lane y free [] = nothing
 marks_tree end lane y free (sight ∷ sights) =
-    beside (mark_if end y free sight (is_shown lane sight)) (marks_tree end lane y (rows_if end free sight (is_shown lane sight)) sights)
+    beside (mark_if end y free sight (is_shown lane sight))
+    (marks_tree end lane y (rows_if end free sight (is_shown lane sight)) sights)

@@ -25,16 +25,19 @@ height_of members answers = TOP + lanes_height members + (answers + 6) * LINE
 
 -- the style sheet, the stretches that are shortened, and over them the lanes
 unfoldable pub upper_tree : ℕ → ℕ → List Name → List SightText → Forest
-upper_tree end height names sights = beside (beside (style_tree SHEET.now) (stretches_tree end height 0 sights)) (lanes_tree end 0 names sights)
+upper_tree end height names sights =
+    beside (beside (style_tree SHEET.now) (stretches_tree end height 0 sights)) (lanes_tree end 0 names sights)
 
 -- the axis, and where promises end
 unfoldable pub lower_tree : ℕ → ℕ → List SightText → List AnswerText → Forest
-lower_tree end height sights answers = beside (axis_tree end (TOP + height + LINE) sights) (alarms_tree end height sights answers)
+lower_tree end height sights answers =
+    beside (axis_tree end (TOP + height + LINE) sights) (alarms_tree end height sights answers)
 
 -- what stands in a picture whose end stands so far behind the start, and whose lanes are so high
 unfoldable pub content_of : ℕ → ℕ → RunText → Forest
 content_of end height run =
-    beside (beside (upper_tree end height run.names run.sights) (lower_tree end height run.sights run.answers)) (legend_tree (TOP + height + 2 * LINE) run.answers run.left_out)
+    beside (beside (upper_tree end height run.names run.sights) (lower_tree end height run.sights run.answers))
+    (legend_tree (TOP + height + 2 * LINE) run.answers run.left_out)
 
 -- what stands in the picture
 abbrev pub content_tree : RunText → Forest

@@ -12,18 +12,26 @@ use Rattle.picture.specs.declared.lanes.TheConstants.{TOP}
 
 -- how long a stretch is, and how long it is drawn
 abbrev pub stretch_text : ℕ → List ℕ
-stretch_text ticks = decimal (ticks / TICKS_OF_SECOND) ++ (codes "." ++ (decimal (ticks % TICKS_OF_SECOND) ++ codes " s without lines are drawn as 5.0 s"))
+stretch_text ticks = decimal (ticks / TICKS_OF_SECOND)
+    ++ (codes "." ++ (decimal (ticks % TICKS_OF_SECOND) ++ codes " s without lines are drawn as 5.0 s"))
 
 -- the stretch of so many ticks before a line
 unfoldable pub stretch_tree : ℕ → ℕ → SightText → ℕ → Forest
 stretch_tree end height sight ticks =
-    rect_tree (record { x = x_at end (sight.offset - LONGEST_STRETCH); y = TOP; width = x_at end sight.offset - x_at end (sight.offset - LONGEST_STRETCH); height = height }) Shortened (stretch_text ticks)
+    rect_tree (record {
+      x = x_at end (sight.offset - LONGEST_STRETCH);
+      y = TOP;
+      width = x_at end sight.offset - x_at end (sight.offset - LONGEST_STRETCH);
+      height = height;
+    }) Shortened (stretch_text ticks)
 
 -- that stretch, where it is drawn shorter than it is
 abbrev pub stretch_if : ℕ → ℕ → SightText → ℕ → Forest
-stretch_if end height sight ticks = if nat_lt LONGEST_STRETCH ticks then stretch_tree end height sight ticks else nothing
+stretch_if end height sight ticks =
+    if nat_lt LONGEST_STRETCH ticks then stretch_tree end height sight ticks else nothing
 
 -- each stretch before one of these lines that is drawn shorter than it is, behind a line at the moment `last`
 abbrev pub stretches_tree : ℕ → ℕ → ℕ → List SightText → Forest
 stretches_tree end height last [] = nothing
-stretches_tree end height last (sight ∷ sights) = beside (stretch_if end height sight (sight.tick - last)) (stretches_tree end height sight.tick sights)
+stretches_tree end height last (sight ∷ sights) =
+    beside (stretch_if end height sight (sight.tick - last)) (stretches_tree end height sight.tick sights)

@@ -45,7 +45,8 @@ use Rattle.command_line.specs.Status.{IsRefusal, Refuses, ending_of_print, endin
 use Rattle.program_commands.proofs.Endings.{Ends-done, Ends-faulty, Ends-past, Ends-refused, Ends-stopped, Ends-wanting, IsQuiet, Reads, plays-only, prints-so, quiet, refusal-says, script-makes, steps-cut}
 
 -- an ending in which the input gives no script
-refusal-is : (ending : Ending) → IsRefusal ending → (status_of ending ≢ statuses.Usage) × (status_of ending ≢ statuses.Done)
+refusal-is : (ending : Ending) → IsRefusal ending
+    → (status_of ending ≢ statuses.Usage) × (status_of ending ≢ statuses.Done)
 refusal-is (endings.NotScript line fault) is = (λ e. cc, λ e. cc)
 refusal-is (endings.Limit limit) is = (λ e. cc, λ e. cc)
 refusal-is endings.ReadFault is = (λ e. cc, λ e. cc)
@@ -92,7 +93,9 @@ no-world : false ≡ true → ⊥
 no-world e = cc
 
 -- what a call answers where all connections came tells nothing of them
-came-all : {D X : Type 0} (door : DoorGhosts D) (was now : D) (x : X) (cluster : Cluster) (id : MemberId) (count : ℕ) (visitors : List Connection) → Came door was now (Ok x) cluster id count visitors → Came {X = Unit {0}} door was now (Ok tt) cluster id count visitors
+came-all : {D X : Type 0} (door : DoorGhosts D) (was now : D) (x : X) (cluster : Cluster) (id : MemberId)
+    (count : ℕ) (visitors : List Connection) → Came door was now (Ok x) cluster id count visitors
+    → Came {X = Unit {0}} door was now (Ok tt) cluster id count visitors
 came-all door was now x cluster id count visitors c = record {
   told = λ no. c.told (done-unserved x serves.Memory);
   many = c.many;
@@ -104,7 +107,9 @@ came-all door was now x cluster id count visitors c = record {
   serves = c.serves;
 }
 
-came-part : {D X : Type 0} (door : DoorGhosts D) (was now : D) (error : ServeError) (cluster : Cluster) (id : MemberId) (count : ℕ) (visitors : List Connection) → Came {X = X} door was now (Err error) cluster id count visitors → Came {X = Unit {0}} door was now (Err error) cluster id count visitors
+came-part : {D X : Type 0} (door : DoorGhosts D) (was now : D) (error : ServeError) (cluster : Cluster) (id : MemberId)
+    (count : ℕ) (visitors : List Connection) → Came {X = X} door was now (Err error) cluster id count visitors
+    → Came {X = Unit {0}} door was now (Err error) cluster id count visitors
 came-part door was now error cluster id count visitors c = record {
   told = λ no. c.told (λ e. no (ap Err (same-error refl e)));
   many = c.many;
@@ -124,84 +129,139 @@ past-so : (count : ℕ) (plan : Plan) → MOST_GENERATED < count → verdict_of_
 past-so count plan many = let over : nat_lt MOST_GENERATED count ≡ true = grind (arith, nat_tests) in rw over refl
 
 -- what is left whose facts are itself
-pub ended-same : (left : Option WorldFacts) → ended_by (λ (w : WorldFacts). w) (Ok left) ≡ record { status = statuses.Done; world = left }
+pub ended-same : (left : Option WorldFacts)
+    → ended_by (λ (w : WorldFacts). w) (Ok left) ≡ record { status = statuses.Done; world = left }
 ended-same None = refl
 ended-same (Some world) = refl
 
-module _ {S K D W : Type 0} (source : SourceGhosts S) (sink : SinkGhosts K) (door : DoorGhosts D) (facts : W → WorldFacts) where
-  leaves-nothing : (bytes : Option (List ℕ)) (played : Bool) (verdict : List ℕ → Verdict) (ending : Ending) → status_of ending ≢ statuses.Done → LeavesWorld bytes played verdict (ended_by facts (Err ending))
-  leaves-nothing bytes played verdict ending not = record { done = ((λ some. absurd (no-world some)), λ done. absurd (not done.0)); stands = tt }
+module _ {S K D W : Type 0} (source : SourceGhosts S) (sink : SinkGhosts K) (door : DoorGhosts D)
+    (facts : W → WorldFacts) where
+  leaves-nothing : (bytes : Option (List ℕ)) (played : Bool) (verdict : List ℕ → Verdict) (ending : Ending)
+      → status_of ending ≢ statuses.Done → LeavesWorld bytes played verdict (ended_by facts (Err ending))
+  leaves-nothing bytes played verdict ending not =
+      record { done = ((λ some. absurd (no-world some)), λ done. absurd (not done.0)); stands = tt }
 
   -- something was printed, and then a stop came
-  stopped : (input left : S) (out then : K) (was now : D) (command : Command) (error : ServeError) → ((visitors : List Connection) × Carries source sink door input left out then was now (Some command) visitors (ended_by facts (Err (ending_of_serve error))))
+  stopped : (input left : S) (out then : K) (was now : D) (command : Command) (error : ServeError)
+      → ((visitors : List Connection) × Carries source sink door input left out then was now
+      (Some command) visitors (ended_by facts (Err (ending_of_serve error))))
       → IsCarriedOut source sink door facts input left out then was now command (Err (ending_of_serve error))
-  stopped input left out then was now command error carries = record { usage = stop-no-usage error; carries = carries; says = λ visitors bytes told. stop-says error (verdict_on command visitors bytes) }
+  stopped input left out then was now command error carries = record {
+    usage = stop-no-usage error;
+    carries = carries;
+    says = λ visitors bytes told. stop-says error (verdict_on command visitors bytes);
+  }
 
   -- a command that has nothing to do with the door makes this plan of the bytes that it goes by
-  module _ (input left : S) (out then : K) (was : D) (command : Command) (plan : Plan) (makes : Known (heeded (reads (Some command)) (source.rest input)) (λ bytes. verdict_on command [] bytes ≡ Makes plan))
-      (read : Reads source sink door input left out was (reads (Some command)) (verdict_on command [])) (visited : (status : Status) → IsVisited source sink door input left out then was was (reads (Some command)) (verdict_on command []) status (Makes plan)) where
+  module _ (input left : S) (out then : K) (was : D) (command : Command) (plan : Plan)
+      (makes : Known (heeded (reads (Some command)) (source.rest input))
+      (λ bytes. verdict_on command [] bytes ≡ Makes plan))
+      (read : Reads source sink door input left out was (reads (Some command)) (verdict_on command []))
+      (visited : (status : Status) → IsVisited source sink door input left out then was was
+      (reads (Some command)) (verdict_on command []) status (Makes plan)) where
     -- all of it was printed
-    pub planned-whole : {X E : Type 0} {x : X} {fault : E} (world : Option W) → (reads (Some command) ≡ true → Known (heeded (reads (Some command)) (source.rest input)) (λ bytes. source.rest left ≡ Some []))
-        → Prints sink out then fault (Ok x) (plan_text plan) → LeavesWorld (heeded (reads (Some command)) (source.rest input)) (plays (Some command)) (verdict_on command []) (ended_by facts (Ok world)) → IsCarriedOut source sink door facts input left out then was was command (Ok world)
+    pub planned-whole : {X E : Type 0} {x : X} {fault : E} (world : Option W)
+        → (reads (Some command) ≡ true →
+        Known (heeded (reads (Some command)) (source.rest input)) (λ bytes. source.rest left ≡ Some []))
+        → Prints sink out then fault (Ok x) (plan_text plan)
+        → LeavesWorld (heeded (reads (Some command)) (source.rest input)) (plays (Some command))
+        (verdict_on command []) (ended_by facts (Ok world))
+        → IsCarriedOut source sink door facts input left out then was was command (Ok world)
     planned-whole world end printed leaves = record {
       usage = λ e. cc;
-      carries = ([], record { ends = Ends-done source sink door input left out then was was (reads (Some command)) (verdict_on command []) plan makes read end printed (visited statuses.Done); world = leaves });
+      carries = (
+        [],
+        record {
+          ends = Ends-done source sink door input left out then was was (reads (Some command))
+              (verdict_on command []) plan makes read end printed (visited statuses.Done);
+          world = leaves;
+        },
+      );
       says = λ visitors bytes told. tt;
     }
 
     -- or a part of it
-    pub planned-part : {X : Type 0} (error : PrintError) → Prints {X = X} sink out then prints.Write (Err error) (plan_text plan) → (error ≡ prints.Memory → IsCut source sink door input left out then was was (reads (Some command)) (verdict_on command []) (Makes plan))
+    pub planned-part : {X : Type 0} (error : PrintError)
+        → Prints {X = X} sink out then prints.Write (Err error) (plan_text plan)
+        → (error ≡ prints.Memory →
+        IsCut source sink door input left out then was was (reads (Some command)) (verdict_on command []) (Makes plan))
         → IsCarriedOut source sink door facts input left out then was was command (Err (ending_of_print error))
     planned-part error printed whole =
         let how : ServeError = serve_error error in
-        subst (λ (e : Ending). IsCarriedOut source sink door facts input left out then was was command (Err e)) (sym (print-ends error)) (stopped input left out then was was command how (
+        subst (λ (e : Ending). IsCarriedOut source sink door facts input left out then was was command (Err e))
+        (sym (print-ends error)) (stopped input left out then was was command how (
           [],
           record {
-            ends = Ends-stopped source sink door input left out then was was (reads (Some command)) (verdict_on command []) plan makes read how (record {
-              printed = prints-so error printed;
-              whole = λ memory. whole (memory-is error memory);
-              halted = λ e. absurd (no-door error e);
-              opens = λ opens e. no-door error e;
-              visited = visited (status_of (ending_of_serve how));
-            });
-            world = leaves-nothing (heeded (reads (Some command)) (source.rest input)) (plays (Some command)) (verdict_on command []) (ending_of_serve how) (stop-not-done how);
+            ends = Ends-stopped source sink door input left out then was was (reads (Some command))
+                (verdict_on command []) plan makes read how (record {
+                  printed = prints-so error printed;
+                  whole = λ memory. whole (memory-is error memory);
+                  halted = λ e. absurd (no-door error e);
+                  opens = λ opens e. no-door error e;
+                  visited = visited (status_of (ending_of_serve how));
+                });
+            world = leaves-nothing (heeded (reads (Some command)) (source.rest input)) (plays (Some command))
+                (verdict_on command []) (ending_of_serve how) (stop-not-done how);
           },
         ))
 
   -- a world that a run left
-  leaves-run : (bytes : Option (List ℕ)) (verdict : List ℕ → Verdict) (plan : Plan) (played : Played) (world : W) → Known bytes (λ all. verdict all ≡ Makes plan) → plan_run plan ≡ Some played → IsLeftBy played (facts world) → LeavesWorld bytes true verdict (ended_by facts (Ok (Some world)))
+  leaves-run : (bytes : Option (List ℕ)) (verdict : List ℕ → Verdict) (plan : Plan) (played : Played) (world : W)
+      → Known bytes (λ all. verdict all ≡ Makes plan) → plan_run plan ≡ Some played
+      → IsLeftBy played (facts world) → LeavesWorld bytes true verdict (ended_by facts (Ok (Some world)))
   leaves-run bytes verdict plan played world makes run stands = record {
     done = ((λ some. (refl, refl)), λ done. refl);
-    stands = λ all told. plays-only (λ (p : Played). IsLeftBy p (facts world)) (verdict all) plan played (makes all told) run stands;
+    stands = λ all told.
+        plays-only (λ (p : Played). IsLeftBy p (facts world)) (verdict all) plan played (makes all told) run stands;
   }
 
   -- nothing was played
-  leaves-none : (bytes : Option (List ℕ)) (verdict : List ℕ → Verdict) → LeavesWorld bytes false verdict (ended_by facts (Ok None))
-  leaves-none bytes verdict = record { done = ((λ some. absurd (no-world some)), λ done. absurd (no-world done.1)); stands = tt }
+  leaves-none : (bytes : Option (List ℕ)) (verdict : List ℕ → Verdict)
+      → LeavesWorld bytes false verdict (ended_by facts (Ok None))
+  leaves-none bytes verdict =
+      record { done = ((λ some. absurd (no-world some)), λ done. absurd (no-world done.1)); stands = tt }
 
   -- nothing was written of what is told whole or not at all
-  untold : {out then : K} (plan : Plan) → EndsWhole plan [] → then ≡ out → (text : List ℕ) × EndsWhole plan text × Grew (sink.content out) (sink.content then) text
-  untold {out = out} plan none same = subst (λ (k : K). (text : List ℕ) × EndsWhole plan text × Grew (sink.content out) (sink.content k) text) (sym same) ([], none, Grew-nothing (sink.content out))
+  untold : {out then : K} (plan : Plan) → EndsWhole plan [] → then ≡ out
+      → (text : List ℕ) × EndsWhole plan text × Grew (sink.content out) (sink.content then) text
+  untold {out = out} plan none same =
+      subst (λ (k : K). (text : List ℕ) × EndsWhole plan text × Grew (sink.content out) (sink.content k) text)
+      (sym same) ([], none, Grew-nothing (sink.content out))
 
   -- a command that goes by a script of the input
   module _ (input left : S) (taken : Consumed (source.rest input) (source.rest left) most_read) where
     -- the script can't be read
-    pub refused : (out : K) (was : D) (command : Command) (waited : ℕ) (makes : List Connection → ScriptText → Verdict) → reads (Some command) ≡ true → ((visitors : List Connection) (bytes : List ℕ) → verdict_in waited (makes visitors) bytes ≡ verdict_on command visitors bytes) → ((script : ScriptText) → IsQuiet (makes [] script))
-        → (result : Result (Option W) Ending) (ending : Ending) → result ≡ Err ending → IsRefusal ending → Known (source.rest input) (Refuses waited ending)
-        → (ending ≡ endings.ReadFault → Rose (source.faults input) (source.faults left)) → (source.is_reliable input → ending ≢ endings.ReadFault)
+    pub refused : (out : K) (was : D) (command : Command) (waited : ℕ) (makes : List Connection → ScriptText → Verdict)
+        → reads (Some command) ≡ true
+        → ((visitors : List Connection) (bytes : List ℕ) →
+        verdict_in waited (makes visitors) bytes ≡ verdict_on command visitors bytes)
+        → ((script : ScriptText) → IsQuiet (makes [] script))
+        → (result : Result (Option W) Ending) (ending : Ending) → result ≡ Err ending → IsRefusal ending
+        → Known (source.rest input) (Refuses waited ending)
+        → (ending ≡ endings.ReadFault → Rose (source.faults input) (source.faults left))
+        → (source.is_reliable input → ending ≢ endings.ReadFault)
         → IsCarriedOut source sink door facts input left out out was was command result
     refused out was command waited makes goes same quiets result ending is refusal refuses rose unfailing =
-        let says : (visitors : List Connection) → Known (source.rest input) (λ bytes. Says ending (verdict_on command visitors bytes)) =
-        λ visitors bytes told. subst (Says ending) (same visitors bytes) (refusal-says waited (makes visitors) ending bytes refusal (refuses bytes told)) in
-        let heard : (b : Bool) → b ≡ true → heeded b (source.rest input) ≡ source.rest input = λ b true-is. rw true-is refl in
+        let says : (visitors : List Connection)
+        → Known (source.rest input) (λ bytes. Says ending (verdict_on command visitors bytes)) =
+        λ visitors bytes told. subst (Says ending) (same visitors bytes)
+        (refusal-says waited (makes visitors) ending bytes refusal (refuses bytes told)) in
+        let heard : (b : Bool) → b ≡ true → heeded b (source.rest input) ≡ source.rest input =
+        λ b true-is. rw true-is refl in
         subst (IsCarriedOut source sink door facts input left out out was was command) (sym is) (record {
           usage = (refusal-is ending refusal).0;
           carries = (
             [],
             record {
-              ends = subst (λ (b : Bool). Ends source sink door input left out out was was b (verdict_on command []) (status_of ending)) (sym goes)
-                  (Ends-refused source sink door input left out was (verdict_on command []) taken ending refusal (says []) (λ bytes. subst IsQuiet (same [] bytes) (quiet waited (makes []) bytes quiets)) rose unfailing);
-              world = leaves-nothing (heeded (reads (Some command)) (source.rest input)) (plays (Some command)) (verdict_on command []) ending (refusal-is ending refusal).1;
+              ends =
+                  subst (λ (b : Bool).
+                  Ends source sink door input left out out was was b (verdict_on command []) (status_of ending))
+                  (sym goes)
+                  (Ends-refused source sink door input left out was
+                  (verdict_on command []) taken ending refusal (says [])
+                  (λ bytes. subst IsQuiet (same [] bytes) (quiet waited (makes []) bytes quiets)) rose unfailing);
+              world = leaves-nothing (heeded (reads (Some command)) (source.rest input))
+                  (plays (Some command)) (verdict_on command []) ending (refusal-is ending refusal).1;
             },
           );
           says = λ visitors bytes told. says visitors bytes (sym (heard (reads (Some command)) goes) ∙ told);
@@ -213,34 +273,59 @@ module _ {S K D W : Type 0} (source : SourceGhosts S) (sink : SinkGhosts K) (doo
     -- a script was read
     module _ (script : ScriptText) (end : Known (source.rest input) (λ bytes. source.rest left ≡ Some [])) where
       abbrev IsRead : ℕ → Type 0
-      IsRead waited = Known (source.rest input) (λ bytes. (limit_of waited bytes ≡ None) × (script_of bytes ≡ Ok script))
+      IsRead waited =
+          Known (source.rest input) (λ bytes. (limit_of waited bytes ≡ None) × (script_of bytes ≡ Ok script))
 
       -- and its run is printed, or the script
       module _ (out then : K) (was : D) (read : IsRead 0) (result : Result (Option W) Ending) where
         plays-so : Known (source.rest input) (λ bytes. verdict_on Run [] bytes ≡ Makes (Plays (played_of script)))
-        plays-so bytes told = script-makes 0 (λ script. Makes (Plays (played_of script))) bytes script (read bytes told).0 (read bytes told).1
+        plays-so bytes told = script-makes 0 (λ script. Makes (Plays (played_of script))) bytes script
+            (read bytes told).0 (read bytes told).1
 
         formats-so : Known (source.rest input) (λ bytes. verdict_on Print [] bytes ≡ Makes (Formats script))
-        formats-so bytes told = script-makes 0 (λ script. Makes (Formats script)) bytes script (read bytes told).0 (read bytes told).1
+        formats-so bytes told =
+            script-makes 0 (λ script. Makes (Formats script)) bytes script (read bytes told).0 (read bytes told).1
 
-        pub printed-whole : (world : W) → result ≡ Ok (Some world) → Prints sink out then prints.Write (Ok world) (text_of_run (played_of script)) → IsLeftBy (played_of script) (facts world) → IsCarriedOut source sink door facts input left out then was was Run result
-        printed-whole world is printed stands = subst (IsCarriedOut source sink door facts input left out then was was Run) (sym is)
-            (planned-whole input left out then was Run (Plays (played_of script)) plays-so (reads-so out was (verdict_on Run [])) (λ status. refl) (Some world) (λ e. end) printed
-            (leaves-run (source.rest input) (verdict_on Run []) (Plays (played_of script)) (played_of script) world plays-so refl stands))
-
-        pub printed-part : (error : PrintError) → result ≡ Err (ending_of_print error) → Prints {X = W} sink out then prints.Write (Err error) (text_of_run (played_of script))
-            → (error ≡ prints.Memory → PrintsWholeSteps sink out then (cluster_of script.head) false (steps_of script.body))
+        pub printed-whole : (world : W) → result ≡ Ok (Some world)
+            → Prints sink out then prints.Write (Ok world) (text_of_run (played_of script))
+            → IsLeftBy (played_of script) (facts world)
             → IsCarriedOut source sink door facts input left out then was was Run result
-        printed-part error is printed whole = subst (IsCarriedOut source sink door facts input left out then was was Run) (sym is)
-            (planned-part input left out then was Run (Plays (played_of script)) plays-so (reads-so out was (verdict_on Run [])) (λ status. refl) error printed (λ memory. steps-cut source sink door script.head (steps_of script.body) (whole memory)))
+        printed-whole world is printed stands =
+            subst (IsCarriedOut source sink door facts input left out then was was Run) (sym is)
+            (planned-whole input left out then was Run (Plays (played_of script)) plays-so
+            (reads-so out was (verdict_on Run [])) (λ status. refl) (Some world) (λ e. end) printed
+            (leaves-run (source.rest input) (verdict_on Run []) (Plays (played_of script))
+            (played_of script) world plays-so refl stands))
 
-        pub formatted-whole : result ≡ Ok None → Prints {X = Unit {0}} sink out then prints.Write (Ok tt) (spelling_of script) → IsCarriedOut source sink door facts input left out then was was Print result
-        formatted-whole is printed = subst (IsCarriedOut source sink door facts input left out then was was Print) (sym is)
-            (planned-whole input left out then was Print (Formats script) formats-so (reads-so out was (verdict_on Print [])) (λ status. refl) None (λ e. end) printed (leaves-none (source.rest input) (verdict_on Print [])))
+        pub printed-part : (error : PrintError) → result ≡ Err (ending_of_print error)
+            → Prints {X = W} sink out then prints.Write (Err error) (text_of_run (played_of script))
+            → (error ≡ prints.Memory →
+            PrintsWholeSteps sink out then (cluster_of script.head) false (steps_of script.body))
+            → IsCarriedOut source sink door facts input left out then was was Run result
+        printed-part error is printed whole =
+            subst (IsCarriedOut source sink door facts input left out then was was Run) (sym is)
+            (planned-part input left out then was Run (Plays (played_of script)) plays-so
+            (reads-so out was (verdict_on Run [])) (λ status. refl) error printed
+            (λ memory. steps-cut source sink door script.head (steps_of script.body) (whole memory)))
 
-        pub formatted-part : (error : PrintError) → result ≡ Err (ending_of_print error) → Prints {X = Unit {0}} sink out then prints.Write (Err error) (spelling_of script) → (error ≡ prints.Memory → then ≡ out) → IsCarriedOut source sink door facts input left out then was was Print result
-        formatted-part error is printed memory = subst (IsCarriedOut source sink door facts input left out then was was Print) (sym is)
-            (planned-part input left out then was Print (Formats script) formats-so (reads-so out was (verdict_on Print [])) (λ status. refl) error printed (λ wanting. untold (Formats script) refl (memory wanting)))
+        pub formatted-whole : result ≡ Ok None
+            → Prints {X = Unit {0}} sink out then prints.Write (Ok tt) (spelling_of script)
+            → IsCarriedOut source sink door facts input left out then was was Print result
+        formatted-whole is printed =
+            subst (IsCarriedOut source sink door facts input left out then was was Print) (sym is)
+            (planned-whole input left out then was Print (Formats script) formats-so
+            (reads-so out was (verdict_on Print [])) (λ status. refl) None (λ e. end) printed
+            (leaves-none (source.rest input) (verdict_on Print [])))
+
+        pub formatted-part : (error : PrintError) → result ≡ Err (ending_of_print error)
+            → Prints {X = Unit {0}} sink out then prints.Write (Err error) (spelling_of script)
+            → (error ≡ prints.Memory → then ≡ out)
+            → IsCarriedOut source sink door facts input left out then was was Print result
+        formatted-part error is printed memory =
+            subst (IsCarriedOut source sink door facts input left out then was was Print) (sym is)
+            (planned-part input left out then was Print (Formats script) formats-so
+            (reads-so out was (verdict_on Print [])) (λ status. refl) error printed
+            (λ wanting. untold (Formats script) refl (memory wanting)))
 
       module _ (member address : List ℕ) (count : ℕ) (read : IsRead (most_waiting * count)) where
         abbrev service : Command
@@ -249,26 +334,37 @@ module _ {S K D W : Type 0} (source : SourceGhosts S) (sink : SinkGhosts K) (doo
         abbrev makes : List Connection → ScriptText → Verdict
         makes visitors script = service_of script count visitors (member_named script.head member)
 
-        makes-so : (visitors : List Connection) (found : Option MemberId) → member_named script.head member ≡ found → Known (source.rest input) (λ bytes. verdict_on service visitors bytes ≡ service_of script count visitors found)
-        makes-so visitors found is bytes told = script-makes (most_waiting * count) (makes visitors) bytes script (read bytes told).0 (read bytes told).1 ∙ ap (service_of script count visitors) is
+        makes-so : (visitors : List Connection) (found : Option MemberId) → member_named script.head member ≡ found
+            → Known (source.rest input)
+            (λ bytes. verdict_on service visitors bytes ≡ service_of script count visitors found)
+        makes-so visitors found is bytes told =
+            script-makes (most_waiting * count) (makes visitors) bytes script (read bytes told).0 (read bytes told).1
+            ∙ ap (service_of script count visitors) is
 
         -- it declares no member of the name that is to be served
-        pub unknown : (out : K) (was : D) (result : Result (Option W) Ending) → result ≡ Err endings.UnknownMember → member_named script.head member ≡ None → IsCarriedOut source sink door facts input left out out was was service result
+        pub unknown : (out : K) (was : D) (result : Result (Option W) Ending)
+            → result ≡ Err endings.UnknownMember → member_named script.head member ≡ None
+            → IsCarriedOut source sink door facts input left out out was was service result
         unknown out was result is none =
-            let says : (visitors : List Connection) → Known (source.rest input) (λ bytes. verdict_on service visitors bytes ≡ UnknownMember) = λ visitors. makes-so visitors None none in
+            let says : (visitors : List Connection)
+            → Known (source.rest input) (λ bytes. verdict_on service visitors bytes ≡ UnknownMember) =
+            λ visitors. makes-so visitors None none in
             subst (IsCarriedOut source sink door facts input left out out was was service) (sym is) (record {
               usage = λ e. cc;
               carries = (
                 [],
                 record {
-                  ends = Ends-faulty source sink door input left out was true (verdict_on service []) (reads-so out was (verdict_on service [])) UnknownMember tt tt (says []);
-                  world = leaves-nothing (source.rest input) true (verdict_on service []) endings.UnknownMember (λ e. cc);
+                  ends = Ends-faulty source sink door input left out was true (verdict_on service [])
+                      (reads-so out was (verdict_on service [])) UnknownMember tt tt (says []);
+                  world =
+                      leaves-nothing (source.rest input) true (verdict_on service []) endings.UnknownMember (λ e. cc);
                 },
               );
               says = says;
             })
 
-        module _ (id : MemberId) (found : member_named script.head member ≡ Some id) (out then : K) (was now : D) (visitors : List Connection) where
+        module _ (id : MemberId) (found : member_named script.head member ≡ Some id) (out then : K)
+            (was now : D) (visitors : List Connection) where
           abbrev served : Plan
           served = Serves script id count visitors
 
@@ -276,36 +372,52 @@ module _ {S K D W : Type 0} (source : SourceGhosts S) (sink : SinkGhosts K) (doo
           serves-so = makes-so visitors (Some id) found
 
           -- or connections came behind its run, and all was printed
-          pub served-whole : (result : Result (Option W) Ending) (world : W) → result ≡ Ok (Some world) → ServedSo sink door facts out then was now (Ok world) script id count visitors → IsCarriedOut source sink door facts input left out then was now service result
-          served-whole result world is s = subst (IsCarriedOut source sink door facts input left out then was now service) (sym is) (record {
-            usage = λ e. cc;
-            carries = (
-              visitors,
-              record {
-                ends = Ends-done source sink door input left out then was now true (verdict_on service visitors) served serves-so (reads-so out was (verdict_on service visitors)) (λ e. end) s.printed
-                    (came-all door was now world (after_steps (cluster_of script.head) (steps_of script.body)) id count visitors s.came);
-                world = leaves-run (source.rest input) (verdict_on service visitors) served (served_of script id visitors) world serves-so refl s.world;
-              },
-            );
-            says = λ others bytes told. tt;
-          })
+          pub served-whole : (result : Result (Option W) Ending) (world : W) → result ≡ Ok (Some world)
+              → ServedSo sink door facts out then was now (Ok world) script id count visitors
+              → IsCarriedOut source sink door facts input left out then was now service result
+          served-whole result world is s =
+              subst (IsCarriedOut source sink door facts input left out then was now service) (sym is) (record {
+                usage = λ e. cc;
+                carries = (
+                  visitors,
+                  record {
+                    ends = Ends-done source sink door input left out then was now true (verdict_on service visitors)
+                        served serves-so (reads-so out was (verdict_on service visitors)) (λ e. end) s.printed
+                        (came-all door was now world
+                        (after_steps (cluster_of script.head) (steps_of script.body)) id count visitors s.came);
+                    world = leaves-run (source.rest input) (verdict_on service visitors) served
+                        (served_of script id visitors) world serves-so refl s.world;
+                  },
+                );
+                says = λ others bytes told. tt;
+              })
 
           -- or a part of it
-          pub served-part : (result : Result (Option W) Ending) (error : ServeError) → result ≡ Err (ending_of_serve error) → ServedSo sink door facts out then was now (Err error) script id count visitors → IsCarriedOut source sink door facts input left out then was now service result
+          pub served-part : (result : Result (Option W) Ending) (error : ServeError)
+              → result ≡ Err (ending_of_serve error)
+              → ServedSo sink door facts out then was now (Err error) script id count visitors
+              → IsCarriedOut source sink door facts input left out then was now service result
           served-part result error is s =
               let start : Cluster = after_steps (cluster_of script.head) (steps_of script.body) in
-              subst (IsCarriedOut source sink door facts input left out then was now service) (sym is) (stopped input left out then was now service error (
+              subst (IsCarriedOut source sink door facts input left out then was now service) (sym is)
+              (stopped input left out then was now service error (
                 visitors,
                 record {
-                  ends = Ends-stopped source sink door input left out then was now true (verdict_on service visitors) served serves-so (reads-so out was (verdict_on service visitors)) error (record {
-                    printed = subst (λ (t : List ℕ). Prints {X = Unit {0}} sink out then serves.Write (Err error) t) (append-nil (text_of_run (served_of script id visitors)))
-                        (Prints-stop serves.Write error (Err error) [] s.printed refl (λ e. e));
-                    whole = λ memory. steps-cut source sink door (served_of script id visitors).head (served_of script id visitors).steps (s.whole (ap Err memory));
-                    halted = λ e. (s.came.halts (ap Err e), s.halted (ap Err e));
-                    opens = λ opens. s.came.serves 0 (subst (door.serves was) (sym (plus-nothing count)) opens);
-                    visited = subst (λ (r : Result (Unit {0}) ServeError). Came door was now r start id count visitors) (sym (serving-back error)) (came-part door was now error start id count visitors s.came);
-                  });
-                  world = leaves-nothing (source.rest input) true (verdict_on service visitors) (ending_of_serve error) (stop-not-done error);
+                  ends = Ends-stopped source sink door input left out then was now true (verdict_on service visitors)
+                      served serves-so (reads-so out was (verdict_on service visitors)) error (record {
+                        printed = subst (λ (t : List ℕ). Prints {X = Unit {0}} sink out then serves.Write (Err error) t)
+                            (append-nil (text_of_run (served_of script id visitors)))
+                            (Prints-stop serves.Write error (Err error) [] s.printed refl (λ e. e));
+                        whole = λ memory. steps-cut source sink door (served_of script id visitors).head
+                            (served_of script id visitors).steps (s.whole (ap Err memory));
+                        halted = λ e. (s.came.halts (ap Err e), s.halted (ap Err e));
+                        opens = λ opens. s.came.serves 0 (subst (door.serves was) (sym (plus-nothing count)) opens);
+                        visited =
+                            subst (λ (r : Result (Unit {0}) ServeError). Came door was now r start id count visitors)
+                            (sym (serving-back error)) (came-part door was now error start id count visitors s.came);
+                      });
+                  world = leaves-nothing (source.rest input) true (verdict_on service visitors)
+                      (ending_of_serve error) (stop-not-done error);
                 },
               ))
             where
@@ -315,22 +427,33 @@ module _ {S K D W : Type 0} (source : SourceGhosts S) (sink : SinkGhosts K) (doo
   -- a command that reads nothing
   module _ (input : S) where
     unread : (out : K) (was : D) (verdict : List ℕ → Verdict) → Reads source sink door input input out was false verdict
-    unread out was verdict = record { unread = λ e. refl; consumed = record { some = λ all told. (0, omega arith, told) } }
+    unread out was verdict =
+        record { unread = λ e. refl; consumed = record { some = λ all told. (0, omega arith, told) } }
 
     -- so many lines were to be drawn
     module _ (seed count : ℕ) (out : K) (was : D) (result : Result (Option W) Ending) where
-      not-drawn : (command : Command) (plan : Plan) → reads (Some command) ≡ false → ((visitors : List Connection) (bytes : List ℕ) → verdict_of_count count plan ≡ verdict_on command visitors bytes) → IsQuiet (Makes plan)
-          → (ending : Ending) → result ≡ Err ending → RefusesToDraw count ending → IsCarriedOut source sink door facts input input out out was was command result
+      not-drawn : (command : Command) (plan : Plan) → reads (Some command) ≡ false
+          → ((visitors : List Connection) (bytes : List ℕ) →
+          verdict_of_count count plan ≡ verdict_on command visitors bytes)
+          → IsQuiet (Makes plan)
+          → (ending : Ending) → result ≡ Err ending → RefusesToDraw count ending
+          → IsCarriedOut source sink door facts input input out out was was command result
       not-drawn command plan goes same none endings.PastCount is many =
-          let says : (visitors : List Connection) (bytes : List ℕ) → verdict_on command visitors bytes ≡ PastCount = λ visitors bytes. sym (same visitors bytes) ∙ past-so count plan many in
+          let says : (visitors : List Connection) (bytes : List ℕ) → verdict_on command visitors bytes ≡ PastCount =
+          λ visitors bytes. sym (same visitors bytes) ∙ past-so count plan many in
           subst (IsCarriedOut source sink door facts input input out out was was command) (sym is) (record {
             usage = λ e. cc;
             carries = (
               [],
               record {
-                ends = subst (λ (b : Bool). Ends source sink door input input out out was was b (verdict_on command []) statuses.Limit) (sym goes)
-                    (Ends-past source sink door input input out was false (verdict_on command []) (unread out was (verdict_on command [])) PastCount tt tt (λ bytes told. says [] bytes));
-                world = leaves-nothing (heeded (reads (Some command)) (source.rest input)) (plays (Some command)) (verdict_on command []) endings.PastCount (λ e. cc);
+                ends =
+                    subst (λ (b : Bool).
+                    Ends source sink door input input out out was was b (verdict_on command []) statuses.Limit)
+                    (sym goes)
+                    (Ends-past source sink door input input out was false (verdict_on command [])
+                    (unread out was (verdict_on command [])) PastCount tt tt (λ bytes told. says [] bytes));
+                world = leaves-nothing (heeded (reads (Some command)) (source.rest input))
+                    (plays (Some command)) (verdict_on command []) endings.PastCount (λ e. cc);
               },
             );
             says = λ visitors bytes told. says visitors bytes;
@@ -341,9 +464,15 @@ module _ {S K D W : Type 0} (source : SourceGhosts S) (sink : SinkGhosts K) (doo
             carries = (
               [],
               record {
-                ends = subst (λ (b : Bool). Ends source sink door input input out out was was b (verdict_on command []) statuses.Memory) (sym goes)
-                    (Ends-wanting source sink door input input out was false (verdict_on command []) (unread out was (verdict_on command [])) (λ bytes. subst IsQuiet (sym (drawn-so count plan few) ∙ same [] bytes) none));
-                world = leaves-nothing (heeded (reads (Some command)) (source.rest input)) (plays (Some command)) (verdict_on command []) endings.Memory (λ e. cc);
+                ends =
+                    subst (λ (b : Bool).
+                    Ends source sink door input input out out was was b (verdict_on command []) statuses.Memory)
+                    (sym goes)
+                    (Ends-wanting source sink door input input out was false (verdict_on command [])
+                    (unread out was (verdict_on command []))
+                    (λ bytes. subst IsQuiet (sym (drawn-so count plan few) ∙ same [] bytes) none));
+                world = leaves-nothing (heeded (reads (Some command)) (source.rest input))
+                    (plays (Some command)) (verdict_on command []) endings.Memory (λ e. cc);
               },
             );
             says = λ visitors bytes told. tt;
@@ -357,58 +486,95 @@ module _ {S K D W : Type 0} (source : SourceGhosts S) (sink : SinkGhosts K) (doo
       not-drawn command plan goes same none (endings.NotScript line fault) is never = absurd never
       not-drawn command plan goes same none (endings.Limit limit) is never = absurd never
 
-      pub not-generated : (ending : Ending) → result ≡ Err ending → RefusesToDraw count ending → IsCarriedOut source sink door facts input input out out was was (Generate seed count) result
-      not-generated = not-drawn (Generate seed count) (Formats (generated_script seed count)) refl (λ visitors bytes. refl) tt
+      pub not-generated : (ending : Ending) → result ≡ Err ending → RefusesToDraw count ending
+          → IsCarriedOut source sink door facts input input out out was was (Generate seed count) result
+      not-generated =
+          not-drawn (Generate seed count) (Formats (generated_script seed count)) refl (λ visitors bytes. refl) tt
 
-      pub not-drilled : (ending : Ending) → result ≡ Err ending → RefusesToDraw count ending → IsCarriedOut source sink door facts input input out out was was (Drill seed count) result
-      not-drilled = not-drawn (Drill seed count) (Drills (played_of (generated_script seed count))) refl (λ visitors bytes. refl) tt
+      pub not-drilled : (ending : Ending) → result ≡ Err ending → RefusesToDraw count ending
+          → IsCarriedOut source sink door facts input input out out was was (Drill seed count) result
+      not-drilled = not-drawn (Drill seed count) (Drills (played_of (generated_script seed count))) refl
+          (λ visitors bytes. refl) tt
 
       -- and the script is printed, or the summary of its run
       module _ (few : CanBeDrawn count) (then : K) where
         abbrev script : ScriptText
         script = generated_script seed count
 
-        pub generated-whole : result ≡ Ok None → Prints {X = Unit {0}} sink out then prints.Write (Ok tt) (spelling_of script) → IsCarriedOut source sink door facts input input out then was was (Generate seed count) result
-        generated-whole is printed = subst (IsCarriedOut source sink door facts input input out then was was (Generate seed count)) (sym is)
-            (planned-whole input input out then was (Generate seed count) (Formats script) (λ bytes told. drawn-so count (Formats script) few) (unread out was (verdict_on (Generate seed count) [])) (λ status. refl) None (λ e. absurd (no-world e)) printed
+        pub generated-whole : result ≡ Ok None
+            → Prints {X = Unit {0}} sink out then prints.Write (Ok tt) (spelling_of script)
+            → IsCarriedOut source sink door facts input input out then was was (Generate seed count) result
+        generated-whole is printed =
+            subst (IsCarriedOut source sink door facts input input out then was was (Generate seed count)) (sym is)
+            (planned-whole input input out then was (Generate seed count) (Formats script)
+            (λ bytes told. drawn-so count (Formats script) few) (unread out was (verdict_on (Generate seed count) []))
+            (λ status. refl) None (λ e. absurd (no-world e)) printed
             (leaves-none (Some []) (verdict_on (Generate seed count) [])))
 
-        pub generated-part : (error : PrintError) → result ≡ Err (ending_of_print error) → Prints {X = Unit {0}} sink out then prints.Write (Err error) (spelling_of script) → (error ≡ prints.Memory → then ≡ out) → IsCarriedOut source sink door facts input input out then was was (Generate seed count) result
-        generated-part error is printed memory = subst (IsCarriedOut source sink door facts input input out then was was (Generate seed count)) (sym is)
-            (planned-part input input out then was (Generate seed count) (Formats script) (λ bytes told. drawn-so count (Formats script) few) (unread out was (verdict_on (Generate seed count) [])) (λ status. refl) error printed (λ wanting. untold (Formats script) refl (memory wanting)))
+        pub generated-part : (error : PrintError) → result ≡ Err (ending_of_print error)
+            → Prints {X = Unit {0}} sink out then prints.Write (Err error) (spelling_of script)
+            → (error ≡ prints.Memory → then ≡ out)
+            → IsCarriedOut source sink door facts input input out then was was (Generate seed count) result
+        generated-part error is printed memory =
+            subst (IsCarriedOut source sink door facts input input out then was was (Generate seed count)) (sym is)
+            (planned-part input input out then was (Generate seed count) (Formats script)
+            (λ bytes told. drawn-so count (Formats script) few) (unread out was (verdict_on (Generate seed count) []))
+            (λ status. refl) error printed (λ wanting. untold (Formats script) refl (memory wanting)))
 
-        pub drilled-whole : (world : W) → result ≡ Ok (Some world) → Prints sink out then prints.Write (Ok world) (summary_of_run (played_of script)) → IsLeftBy (played_of script) (facts world) → IsCarriedOut source sink door facts input input out then was was (Drill seed count) result
-        drilled-whole world is printed stands = subst (IsCarriedOut source sink door facts input input out then was was (Drill seed count)) (sym is)
-            (planned-whole input input out then was (Drill seed count) (Drills (played_of script)) (λ bytes told. drawn-so count (Drills (played_of script)) few) (unread out was (verdict_on (Drill seed count) [])) (λ status. refl) (Some world) (λ e. absurd (no-world e)) printed
-            (leaves-run (Some []) (verdict_on (Drill seed count) []) (Drills (played_of script)) (played_of script) world (λ bytes told. drawn-so count (Drills (played_of script)) few) refl stands))
+        pub drilled-whole : (world : W) → result ≡ Ok (Some world)
+            → Prints sink out then prints.Write (Ok world) (summary_of_run (played_of script))
+            → IsLeftBy (played_of script) (facts world)
+            → IsCarriedOut source sink door facts input input out then was was (Drill seed count) result
+        drilled-whole world is printed stands =
+            subst (IsCarriedOut source sink door facts input input out then was was (Drill seed count)) (sym is)
+            (planned-whole input input out then was (Drill seed count) (Drills (played_of script))
+            (λ bytes told. drawn-so count (Drills (played_of script)) few)
+            (unread out was (verdict_on (Drill seed count) [])) (λ status. refl) (Some world)
+            (λ e. absurd (no-world e)) printed
+            (leaves-run (Some []) (verdict_on (Drill seed count) []) (Drills (played_of script))
+            (played_of script) world (λ bytes told. drawn-so count (Drills (played_of script)) few) refl stands))
 
-        pub drilled-part : (error : PrintError) → result ≡ Err (ending_of_print error) → Prints {X = W} sink out then prints.Write (Err error) (summary_of_run (played_of script)) → (error ≡ prints.Memory → then ≡ out) → IsCarriedOut source sink door facts input input out then was was (Drill seed count) result
-        drilled-part error is printed memory = subst (IsCarriedOut source sink door facts input input out then was was (Drill seed count)) (sym is)
-            (planned-part input input out then was (Drill seed count) (Drills (played_of script)) (λ bytes told. drawn-so count (Drills (played_of script)) few) (unread out was (verdict_on (Drill seed count) [])) (λ status. refl) error printed (λ wanting. untold (Drills (played_of script)) refl (memory wanting)))
+        pub drilled-part : (error : PrintError) → result ≡ Err (ending_of_print error)
+            → Prints {X = W} sink out then prints.Write (Err error) (summary_of_run (played_of script))
+            → (error ≡ prints.Memory → then ≡ out)
+            → IsCarriedOut source sink door facts input input out then was was (Drill seed count) result
+        drilled-part error is printed memory =
+            subst (IsCarriedOut source sink door facts input input out then was was (Drill seed count)) (sym is)
+            (planned-part input input out then was (Drill seed count) (Drills (played_of script))
+            (λ bytes told. drawn-so count (Drills (played_of script)) few)
+            (unread out was (verdict_on (Drill seed count) [])) (λ status. refl) error printed
+            (λ wanting. untold (Drills (played_of script)) refl (memory wanting)))
 
   -- words that are this command
-  pub asked : (input left : S) (out then : K) (was now : D) (command : Command) (words : Option Command) (result : Result (Option W) Ending) (ended : EndedFacts) → Some command ≡ words → ended_by facts result ≡ ended → IsCarriedOut source sink door facts input left out then was now command result
+  pub asked : (input left : S) (out then : K) (was now : D) (command : Command) (words : Option Command)
+      (result : Result (Option W) Ending) (ended : EndedFacts) → Some command ≡ words → ended_by facts result ≡ ended
+      → IsCarriedOut source sink door facts input left out then was now command result
       → (visitors : List Connection) × Carries source sink door input left out then was now words visitors ended
   asked input left out then was now command words result ended is so carried = rw (sym is, sym so) carried.carries
 
 module _ {S K D : Type 0} (source : SourceGhosts S) (sink : SinkGhosts K) (door : DoorGhosts D) where
   -- words that are no command
-  pub unasked : (input : S) (out : K) (was : D) (words : Option Command) → words ≡ None → (visitors : List Connection) × Carries source sink door input input out out was was words visitors (record { status = statuses.Usage; world = None })
-  unasked input out was words is = subst (λ (o : Option Command). (visitors : List Connection) × Carries source sink door input input out out was was o visitors (record { status = statuses.Usage; world = None })) (sym is) (
-    [],
-    record {
-      ends = record {
-        means = refl;
-        unread = λ e. refl;
-        visited = λ bytes told. refl;
-        past_limit = λ reliable bytes told past. absurd past;
-        faulty = λ reliable bytes told faulty. absurd faulty;
-        complete = λ reliable bytes told plan makes. absurd (no-plan plan makes);
-        consumed = record { some = λ all told. (0, omega arith, told) };
-      };
-      world = record { done = ((λ some. absurd (no-world some)), λ done. absurd (not-so done.0)); stands = tt };
-    },
-  )
+  pub unasked : (input : S) (out : K) (was : D) (words : Option Command) → words ≡ None
+      → (visitors : List Connection) × Carries source sink door input input out out was was words visitors
+      (record { status = statuses.Usage; world = None })
+  unasked input out was words is =
+      subst (λ (o : Option Command). (visitors : List Connection) × Carries source sink door input input out
+      out was was o visitors (record { status = statuses.Usage; world = None }))
+      (sym is) (
+        [],
+        record {
+          ends = record {
+            means = refl;
+            unread = λ e. refl;
+            visited = λ bytes told. refl;
+            past_limit = λ reliable bytes told past. absurd past;
+            faulty = λ reliable bytes told faulty. absurd faulty;
+            complete = λ reliable bytes told plan makes. absurd (no-plan plan makes);
+            consumed = record { some = λ all told. (0, omega arith, told) };
+          };
+          world = record { done = ((λ some. absurd (no-world some)), λ done. absurd (not-so done.0)); stands = tt };
+        },
+      )
     where
       no-plan : (plan : Plan) → NoCommand ≡ Makes plan → ⊥
       no-plan plan e = cc

@@ -39,7 +39,8 @@ use Rattle.program_commands.specs.Ends.{Ends, IsBroken, IsCut, IsDone, IsFaulty,
 use Rattle.command_line.specs.Status.{status_of, ending_of_print, ending_of_serve, Refuses, IsRefusal}
 
 -- an ending that refuses bytes says what comes of them
-pub refusal-says : (waited : ℕ) (makes : ScriptText → Verdict) (ending : Ending) (bytes : List ℕ) → IsRefusal ending → Refuses waited ending bytes → Says ending (verdict_in waited makes bytes)
+pub refusal-says : (waited : ℕ) (makes : ScriptText → Verdict) (ending : Ending) (bytes : List ℕ)
+    → IsRefusal ending → Refuses waited ending bytes → Says ending (verdict_in waited makes bytes)
 refusal-says waited makes (endings.NotScript line fault) bytes is refuses = rw (refuses.0, refuses.1) refl
 refusal-says waited makes (endings.Limit limit) bytes is refuses = rw refuses refl
 refusal-says waited makes endings.Done bytes is refuses = tt
@@ -52,11 +53,13 @@ refusal-says waited makes endings.DoorFault bytes is refuses = tt
 refusal-says waited makes endings.PastCount bytes is refuses = absurd is
 
 -- of a script within the limits comes what is made of it
-pub script-makes : (waited : ℕ) (makes : ScriptText → Verdict) (bytes : List ℕ) (script : ScriptText) → limit_of waited bytes ≡ None → script_of bytes ≡ Ok script → verdict_in waited makes bytes ≡ makes script
+pub script-makes : (waited : ℕ) (makes : ScriptText → Verdict) (bytes : List ℕ) (script : ScriptText)
+    → limit_of waited bytes ≡ None → script_of bytes ≡ Ok script → verdict_in waited makes bytes ≡ makes script
 script-makes waited makes bytes script none is = rw (none, is) refl
 
 -- what is played is the run of the plan
-pub plays-only : (P : Played → Type 0) (verdict : Verdict) (plan : Plan) (played : Played) → verdict ≡ Makes plan → plan_run plan ≡ Some played → P played → IfPlayed P verdict
+pub plays-only : (P : Played → Type 0) (verdict : Verdict) (plan : Plan) (played : Played)
+    → verdict ≡ Makes plan → plan_run plan ≡ Some played → P played → IfPlayed P verdict
 plays-only P verdict plan played is run holds = rw (is, run) holds
 
 -- no connection came
@@ -64,23 +67,27 @@ abbrev pub IsQuiet : Verdict → Type 0
 IsQuiet (Makes (Serves script id count visitors)) = visitors ≡ []
 IsQuiet _ = Unit {0}
 
-pub quiet-service : (script : ScriptText) (count : ℕ) (found : Option MemberId) → IsQuiet (service_of script count [] found)
+pub quiet-service : (script : ScriptText) (count : ℕ) (found : Option MemberId)
+    → IsQuiet (service_of script count [] found)
 quiet-service script count None = tt
 quiet-service script count (Some id) = refl
 
-quiet-by : (makes : ScriptText → Verdict) (limit : Option Limit) (read : Result ScriptText (ℕ × Fault)) → ((script : ScriptText) → IsQuiet (makes script)) → IsQuiet (verdict_by makes limit read)
+quiet-by : (makes : ScriptText → Verdict) (limit : Option Limit) (read : Result ScriptText (ℕ × Fault))
+    → ((script : ScriptText) → IsQuiet (makes script)) → IsQuiet (verdict_by makes limit read)
 quiet-by makes (Some limit) read each = tt
 quiet-by makes None (Err (line, fault)) each = tt
 quiet-by makes None (Ok script) each = each script
 
 -- where no connection came
-pub quiet : (waited : ℕ) (makes : ScriptText → Verdict) (bytes : List ℕ) → ((script : ScriptText) → IsQuiet (makes script)) → IsQuiet (verdict_in waited makes bytes)
+pub quiet : (waited : ℕ) (makes : ScriptText → Verdict) (bytes : List ℕ)
+    → ((script : ScriptText) → IsQuiet (makes script)) → IsQuiet (verdict_in waited makes bytes)
 quiet waited makes bytes each = quiet-by makes (limit_of waited bytes) (script_of bytes) each
 
 -- no steps were played
 none-played : (plan : Plan) → EndsWhole plan []
 none-played (Plays played) = record { done = []; more = played.steps; parts = refl; lines = refl }
-none-played (Serves script id count visitors) = record { done = []; more = (served_of script id visitors).steps; parts = refl; lines = refl }
+none-played (Serves script id count visitors) =
+    record { done = []; more = (served_of script id visitors).steps; parts = refl; lines = refl }
 none-played (Drills played) = refl
 none-played (Formats script) = refl
 
@@ -99,11 +106,17 @@ module _ {S K D : Type 0} (source : SourceGhosts S) (sink : SinkGhosts K) (door 
     nothing-cut UnknownMember = refl
 
     -- no connection came to a door, since nothing was played
-    unvisited : (status : Status) (found : Verdict) → serving_of status ≡ Err serves.Memory → IsQuiet found → IsVisited source sink door input left out out was was read verdict status found
+    unvisited : (status : Status) (found : Verdict) → serving_of status ≡ Err serves.Memory → IsQuiet found
+        → IsVisited source sink door input left out out was was read verdict status found
     unvisited status (Makes (Serves script id count visitors)) stops none =
-        subst (λ (l : List Connection). Came door was was (serving_of status) (after_steps (cluster_of script.head) (steps_of script.body)) id count l) (sym none)
-        (subst (λ (r : Result (Unit {0}) ServeError). Came door was was r (after_steps (cluster_of script.head) (steps_of script.body)) id count []) (sym stops)
-        (Came-none door was serves.Memory (after_steps (cluster_of script.head) (steps_of script.body)) id count no-door))
+        subst (λ (l : List Connection).
+        Came door was was (serving_of status) (after_steps (cluster_of script.head) (steps_of script.body)) id count l)
+        (sym none)
+        (subst (λ (r : Result (Unit {0}) ServeError).
+        Came door was was r (after_steps (cluster_of script.head) (steps_of script.body)) id count [])
+        (sym stops)
+        (Came-none door was serves.Memory
+        (after_steps (cluster_of script.head) (steps_of script.body)) id count no-door))
       where
         no-door : serves.Memory ≡ serves.Door → ⊥
         no-door e = cc
@@ -122,11 +135,15 @@ module _ {S K D : Type 0} (source : SourceGhosts S) (sink : SinkGhosts K) (door 
       pub consumed : Consumed (source.rest input) (source.rest left) most_read
 
     -- the input is no script, or declares no such member
-    pub Ends-faulty : Reads → (found : Verdict) → IsFaulty found → IsQuiet found → Known told (λ bytes. verdict bytes ≡ found) → Ends source sink door input left out out was was read verdict statuses.NotScript
+    pub Ends-faulty : Reads → (found : Verdict) → IsFaulty found → IsQuiet found
+        → Known told (λ bytes. verdict bytes ≡ found)
+        → Ends source sink door input left out out was was read verdict statuses.NotScript
     Ends-faulty reads found faulty none is = record {
       means = (λ bytes told. subst IsFaulty (sym (is bytes told)) faulty, refl);
       unread = reads.unread;
-      visited = λ bytes told. subst (IsVisited source sink door input left out out was was read verdict statuses.NotScript) (sym (is bytes told)) (unvisited statuses.NotScript found refl none);
+      visited =
+          λ bytes told. subst (IsVisited source sink door input left out out was was read verdict statuses.NotScript)
+          (sym (is bytes told)) (unvisited statuses.NotScript found refl none);
       past_limit = λ reliable bytes told past. absurd (not-past found faulty (subst IsPastLimit (is bytes told) past));
       faulty = λ reliable bytes told not. inl refl;
       complete = λ reliable bytes told plan so. absurd (subst IsFaulty (sym (is bytes told) ∙ so) faulty);
@@ -142,11 +159,14 @@ module _ {S K D : Type 0} (source : SourceGhosts S) (sink : SinkGhosts K) (door 
         not-past (Makes plan) faulty past = past
 
     -- a limit is passed
-    pub Ends-past : Reads → (found : Verdict) → IsPastLimit found → IsQuiet found → Known told (λ bytes. verdict bytes ≡ found) → Ends source sink door input left out out was was read verdict statuses.Limit
+    pub Ends-past : Reads → (found : Verdict) → IsPastLimit found → IsQuiet found
+        → Known told (λ bytes. verdict bytes ≡ found)
+        → Ends source sink door input left out out was was read verdict statuses.Limit
     Ends-past reads found past none is = record {
       means = (λ bytes told. subst IsPastLimit (sym (is bytes told)) past, refl);
       unread = reads.unread;
-      visited = λ bytes told. subst (IsVisited source sink door input left out out was was read verdict statuses.Limit) (sym (is bytes told)) (unvisited statuses.Limit found refl none);
+      visited = λ bytes told. subst (IsVisited source sink door input left out out was was read verdict statuses.Limit)
+          (sym (is bytes told)) (unvisited statuses.Limit found refl none);
       past_limit = λ reliable bytes told passed. inl refl;
       faulty = λ reliable bytes told faulty. absurd (not-faulty found past (subst IsFaulty (is bytes told) faulty));
       complete = λ reliable bytes told plan so. absurd (subst IsPastLimit (sym (is bytes told) ∙ so) past);
@@ -162,7 +182,8 @@ module _ {S K D : Type 0} (source : SourceGhosts S) (sink : SinkGhosts K) (door 
         not-faulty (Makes plan) past faulty = past
 
     -- memory was wanting before anything was written
-    pub Ends-wanting : Reads → ((bytes : List ℕ) → IsQuiet (verdict bytes)) → Ends source sink door input left out out was was read verdict statuses.Memory
+    pub Ends-wanting : Reads → ((bytes : List ℕ) → IsQuiet (verdict bytes))
+        → Ends source sink door input left out out was was read verdict statuses.Memory
     Ends-wanting reads none = record {
       means = λ bytes told. nothing-cut (verdict bytes);
       unread = reads.unread;
@@ -174,12 +195,16 @@ module _ {S K D : Type 0} (source : SourceGhosts S) (sink : SinkGhosts K) (door 
     }
 
   -- an input that gives no script
-  module _ (input left : S) (out : K) (was : D) (verdict : List ℕ → Verdict) (consumed : Consumed (source.rest input) (source.rest left) most_read) where
+  module _ (input left : S) (out : K) (was : D) (verdict : List ℕ → Verdict)
+      (consumed : Consumed (source.rest input) (source.rest left) most_read) where
     reads-so : Reads input left out was true verdict
     reads-so = record { unread = λ e. cc; consumed = consumed }
 
-    pub Ends-refused : (ending : Ending) → IsRefusal ending → Known (source.rest input) (λ bytes. Says ending (verdict bytes)) → ((bytes : List ℕ) → IsQuiet (verdict bytes))
-        → (ending ≡ endings.ReadFault → Rose (source.faults input) (source.faults left)) → (source.is_reliable input → ending ≢ endings.ReadFault)
+    pub Ends-refused : (ending : Ending) → IsRefusal ending
+        → Known (source.rest input) (λ bytes. Says ending (verdict bytes))
+        → ((bytes : List ℕ) → IsQuiet (verdict bytes))
+        → (ending ≡ endings.ReadFault → Rose (source.faults input) (source.faults left))
+        → (source.is_reliable input → ending ≢ endings.ReadFault)
         → Ends source sink door input left out out was was true verdict (status_of ending)
     Ends-refused endings.Done refusal says none rose unfailing = absurd refusal
     Ends-refused endings.Usage refusal says none rose unfailing = absurd refusal
@@ -187,21 +212,27 @@ module _ {S K D : Type 0} (source : SourceGhosts S) (sink : SinkGhosts K) (door 
     Ends-refused endings.UnknownMember refusal says none rose unfailing = absurd refusal
     Ends-refused endings.DoorFault refusal says none rose unfailing = absurd refusal
     Ends-refused endings.PastCount refusal says none rose unfailing = absurd refusal
-    Ends-refused (endings.NotScript line fault) refusal says none rose unfailing = Ends-faulty input left out was true verdict reads-so (Faulty line fault) tt tt says
-    Ends-refused (endings.Limit limit) refusal says none rose unfailing = Ends-past input left out was true verdict reads-so (PastLimit limit) tt tt says
+    Ends-refused (endings.NotScript line fault) refusal says none rose unfailing =
+        Ends-faulty input left out was true verdict reads-so (Faulty line fault) tt tt says
+    Ends-refused (endings.Limit limit) refusal says none rose unfailing =
+        Ends-past input left out was true verdict reads-so (PastLimit limit) tt tt says
     Ends-refused endings.ReadFault refusal says none rose unfailing = record {
       means = (refl, rose refl, refl);
       unread = reads-so.unread;
-      visited = λ bytes told. unvisited input left out was true verdict statuses.ReadFault (verdict bytes) refl (none bytes);
+      visited =
+          λ bytes told. unvisited input left out was true verdict statuses.ReadFault (verdict bytes) refl (none bytes);
       past_limit = λ reliable. absurd (unfailing (reliable refl) refl);
       faulty = λ reliable. absurd (unfailing (reliable refl) refl);
       complete = λ reliable. absurd (unfailing (reliable refl) refl);
       consumed = consumed;
     }
-    Ends-refused endings.Memory refusal says none rose unfailing = Ends-wanting input left out was true verdict reads-so none
+    Ends-refused endings.Memory refusal says none rose unfailing =
+        Ends-wanting input left out was true verdict reads-so none
 
   -- a plan of which all was printed, or a front
-  module _ (input left : S) (out then : K) (was now : D) (read : Bool) (verdict : List ℕ → Verdict) (plan : Plan) (is : Known (heeded read (source.rest input)) (λ bytes. verdict bytes ≡ Makes plan)) (reads : Reads input left out was read verdict) where
+  module _ (input left : S) (out then : K) (was now : D) (read : Bool) (verdict : List ℕ → Verdict)
+      (plan : Plan) (is : Known (heeded read (source.rest input)) (λ bytes. verdict bytes ≡ Makes plan))
+      (reads : Reads input left out was read verdict) where
     abbrev Visited : Status → Type 0
     Visited status = IsVisited source sink door input left out then was now read verdict status (Makes plan)
 
@@ -220,12 +251,22 @@ module _ {S K D : Type 0} (source : SourceGhosts S) (sink : SinkGhosts K) (door 
         same-plan : Makes plan ≡ Makes other → plan ≡ other
         same-plan e = cc
 
-    came : (status : Status) → Visited status → Known heard (λ bytes. IsVisited source sink door input left out then was now read verdict status (verdict bytes))
-    came status visited bytes told = subst (IsVisited source sink door input left out then was now read verdict status) (sym (is bytes told)) visited
+    came : (status : Status) → Visited status
+        → Known heard
+        (λ bytes. IsVisited source sink door input left out then was now read verdict status (verdict bytes))
+    came status visited bytes told =
+        subst (IsVisited source sink door input left out then was now read verdict status) (sym (is bytes told)) visited
 
-    pub Ends-done : {X E : Type 0} {x : X} {fault : E} → (read ≡ true → Known heard (λ bytes. source.rest left ≡ Some [])) → Prints sink out then fault (Ok x) (plan_text plan) → Visited statuses.Done → Ends source sink door input left out then was now read verdict statuses.Done
+    pub Ends-done : {X E : Type 0} {x : X} {fault : E}
+        → (read ≡ true → Known heard (λ bytes. source.rest left ≡ Some []))
+        → Prints sink out then fault (Ok x) (plan_text plan) → Visited statuses.Done
+        → Ends source sink door input left out then was now read verdict statuses.Done
     Ends-done end printed visited = record {
-      means = (λ bytes told. subst (IsDone source sink door input left out then was now read verdict) (sym (is bytes told)) printed.ok, end);
+      means = (
+        λ bytes told.
+            subst (IsDone source sink door input left out then was now read verdict) (sym (is bytes told)) printed.ok,
+        end,
+      );
       unread = reads.unread;
       visited = came statuses.Done visited;
       past_limit = λ reliable bytes told past. absurd (no-limit bytes told past);
@@ -238,22 +279,32 @@ module _ {S K D : Type 0} (source : SourceGhosts S) (sink : SinkGhosts K) (door 
     pub record Stops (error : ServeError) : Type 0 where
       pub printed : Prints {X = Unit {0}} sink out then serves.Write (Err error) (plan_text plan)
       pub whole : error ≡ serves.Memory → IsCut source sink door input left out then was now read verdict (Makes plan)
-      pub halted : error ≡ serves.Door → Rose (door.door_faults was) (door.door_faults now) × IsHalted source sink door input left out then was now read verdict (Makes plan)
+      pub halted : error ≡ serves.Door
+          → Rose (door.door_faults was) (door.door_faults now)
+          × IsHalted source sink door input left out then was now read verdict (Makes plan)
       pub opens : IsServedBy source sink door input left out then was now read verdict plan → error ≢ serves.Door
       pub visited : Visited (status_of (ending_of_serve error))
 
-    pub Ends-stopped : (error : ServeError) → Stops error → Ends source sink door input left out then was now read verdict (status_of (ending_of_serve error))
+    pub Ends-stopped : (error : ServeError) → Stops error
+        → Ends source sink door input left out then was now read verdict (status_of (ending_of_serve error))
     Ends-stopped serves.Write s = record {
-      means = (s.printed.write refl, λ bytes told. subst (IsBroken source sink door input left out then was now read verdict) (sym (is bytes told)) s.printed.part);
+      means = (
+        s.printed.write refl,
+        λ bytes told. subst (IsBroken source sink door input left out then was now read verdict)
+            (sym (is bytes told)) s.printed.part,
+      );
       unread = reads.unread;
       visited = came statuses.WriteFault s.visited;
       past_limit = λ reliable bytes told past. absurd (no-limit bytes told past);
       faulty = λ reliable bytes told faulty. absurd (no-fault bytes told faulty);
-      complete = λ reliable bytes told other so n can fits opens. absurd (s.printed.room n can (subst (λ (p : Plan). length (plan_text p) ≤ n) (sym (one-plan bytes told other so)) fits) refl);
+      complete = λ reliable bytes told other so n can fits opens.
+          absurd (s.printed.room n can
+          (subst (λ (p : Plan). length (plan_text p) ≤ n) (sym (one-plan bytes told other so)) fits) refl);
       consumed = reads.consumed;
     }
     Ends-stopped serves.Memory s = record {
-      means = λ bytes told. subst (IsCut source sink door input left out then was now read verdict) (sym (is bytes told)) (s.whole refl);
+      means = λ bytes told.
+          subst (IsCut source sink door input left out then was now read verdict) (sym (is bytes told)) (s.whole refl);
       unread = reads.unread;
       visited = came statuses.Memory s.visited;
       past_limit = λ reliable bytes told past. inr refl;
@@ -262,25 +313,40 @@ module _ {S K D : Type 0} (source : SourceGhosts S) (sink : SinkGhosts K) (door 
       consumed = reads.consumed;
     }
     Ends-stopped serves.Door s = record {
-      means = ((s.halted refl).0, λ bytes told. subst (IsHalted source sink door input left out then was now read verdict) (sym (is bytes told)) (s.halted refl).1);
+      means = (
+        (s.halted refl).0,
+        λ bytes told. subst (IsHalted source sink door input left out then was now read verdict)
+            (sym (is bytes told)) (s.halted refl).1,
+      );
       unread = reads.unread;
       visited = came statuses.DoorFault s.visited;
       past_limit = λ reliable bytes told past. absurd (no-limit bytes told past);
       faulty = λ reliable bytes told faulty. absurd (no-fault bytes told faulty);
-      complete = λ reliable bytes told other so n can fits opens. absurd (s.opens (subst (IsServedBy source sink door input left out then was now read verdict) (sym (one-plan bytes told other so)) opens) refl);
+      complete = λ reliable bytes told other so n can fits opens.
+          absurd (s.opens (subst (IsServedBy source sink door input left out then was now read verdict)
+          (sym (one-plan bytes told other so)) opens)
+          refl);
       consumed = reads.consumed;
     }
 
   -- what was printed of a run when memory was wanting are the lines of whole steps
-  pub steps-cut : {out then : K} (head : HeadText) (steps : List Step) → PrintsWholeSteps sink out then (cluster_of head) false steps
-      → (text : List ℕ) × EndsAtStep (record { head = head; steps = steps }) text × Grew (sink.content out) (sink.content then) text
-  steps-cut head steps whole = (_, record { done = whole.done; more = whole.more; parts = whole.parts; lines = refl }, whole.grew)
+  pub steps-cut : {out then : K} (head : HeadText) (steps : List Step)
+      → PrintsWholeSteps sink out then (cluster_of head) false steps
+      → (text : List ℕ) × EndsAtStep (record { head = head; steps = steps }) text
+      × Grew (sink.content out) (sink.content then) text
+  steps-cut head steps whole =
+      (_, record { done = whole.done; more = whole.more; parts = whole.parts; lines = refl }, whole.grew)
 
 -- an error of printing ends a command as the like error of serving
-pub same-status : (error : PrintError) → status_of (ending_of_print error) ≡ status_of (ending_of_serve (serve_error error))
+pub same-status : (error : PrintError)
+    → status_of (ending_of_print error) ≡ status_of (ending_of_serve (serve_error error))
 same-status prints.Write = refl
 same-status prints.Memory = refl
 
-pub prints-so : {K X : Type 0} {sink : SinkGhosts K} {out then : K} {text : List ℕ} (error : PrintError) → Prints {X = X} sink out then prints.Write (Err error) text → Prints {X = Unit {0}} sink out then serves.Write (Err (serve_error error)) text
+pub prints-so : {K X : Type 0} {sink : SinkGhosts K} {out then : K} {text : List ℕ} (error : PrintError)
+    → Prints {X = X} sink out then prints.Write (Err error) text
+    → Prints {X = Unit {0}} sink out then serves.Write (Err (serve_error error)) text
 prints-so {sink = sink} {out = out} {then = then} {text = text} error p =
-    subst (λ (t : List ℕ). Prints {X = Unit {0}} sink out then serves.Write (Err (serve_error error)) t) (append-nil text) (Prints-stop serves.Write (serve_error error) (Err (serve_error error)) [] p refl (write-is error))
+    subst (λ (t : List ℕ). Prints {X = Unit {0}} sink out then serves.Write (Err (serve_error error)) t)
+    (append-nil text)
+    (Prints-stop serves.Write (serve_error error) (Err (serve_error error)) [] p refl (write-is error))

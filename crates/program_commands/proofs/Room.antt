@@ -24,14 +24,23 @@ line-steps (lines.Command command) = omega arith
 
 body-steps : (body : List Line) → length (steps_of body) ≤ total_ticks body + length body
 body-steps [] = omega arith
-body-steps (line ∷ body) = omega (arith, line-steps line, body-steps body, length-append (steps_of_line line) (steps_of body))
+body-steps (line ∷ body) =
+    omega (arith, line-steps line, body-steps body, length-append (steps_of_line line) (steps_of body))
 
 pub room-alone : (script : ScriptText) → KeepsLimits 0 script → length (steps_of script.body) ≤ most_steps
 room-alone script few = omega (arith, few.ticks, few.lines, body-steps script.body)
 
-pub room-behind : (script : ScriptText) (count : ℕ) → KeepsLimits (most_waiting * count) script → length (steps_of script.body) + connection_cost * count ≤ most_steps
+pub room-behind : (script : ScriptText) (count : ℕ) → KeepsLimits (most_waiting * count) script
+    → length (steps_of script.body) + connection_cost * count ≤ most_steps
 room-behind script count few = omega (arith, few.ticks, few.lines, body-steps script.body)
 
 -- nor have scripts that are made of a number
 pub room-drawn : (seed count : ℕ) → CanBeDrawn count → length (steps_of (generated_script seed count).body) ≤ most_steps
-room-drawn seed count few = omega (arith, few, generated-ticks seed count, generated-lines seed count, length-map (generated_body seed count) (line_text (names_of generated_head)), body-steps (generated_body seed count))
+room-drawn seed count few = omega (
+  arith,
+  few,
+  generated-ticks seed count,
+  generated-lines seed count,
+  length-map (generated_body seed count) (line_text (names_of generated_head)),
+  body-steps (generated_body seed count),
+)

@@ -26,9 +26,10 @@ pub record EndedFacts : Type 0 where
   pub status : Status
   pub world : Option WorldFacts
 
--- a world is there exactly where all is done and a run was played, and where the bytes that the command goes by are told, the world took all
--- steps of that run
-pub record LeavesWorld (bytes : Option (List ℕ)) (played : Bool) (verdict : List ℕ → Verdict) (ended : EndedFacts) : Type 0 where
+-- a world is there exactly where all is done and a run was played, and where the
+-- bytes that the command goes by are told, the world took all steps of that run
+pub record LeavesWorld (bytes : Option (List ℕ)) (played : Bool) (verdict : List ℕ → Verdict)
+    (ended : EndedFacts) : Type 0 where
   pub done : IsSome ended.world ↔ ((ended.status ≡ statuses.Done) × IsTrue played)
   pub stands : IfSome ended.world (λ world. Known bytes (λ all. IfPlayed (λ run. IsLeftBy run world) (verdict all)))
 
@@ -37,13 +38,22 @@ abbrev pub ended_by : {W : Type 0} → (W → WorldFacts) → Result (Option W) 
 ended_by facts (Ok left) = record { status = statuses.Done; world = option_map facts left }
 ended_by facts (Err ending) = record { status = status_of ending; world = None }
 
--- words were carried out while these connections came: the status says what came of the words, and a run that was played leaves its world
-pub record Carries {S K D : Type 0} (source : Ghosts S) (sink : SinkGhosts K) (door : DoorGhosts D) (input left : S) (out then : K) (was now : D) (words : Option Command) (visitors : List Connection) (ended : EndedFacts) : Type 0 where
+-- words were carried out while these connections came: the status says
+-- what came of the words, and a run that was played leaves its world
+pub record Carries {S K D : Type 0} (source : Ghosts S) (sink : SinkGhosts K) (door : DoorGhosts D) (input left : S)
+    (out then : K) (was now : D) (words : Option Command) (visitors : List Connection) (ended : EndedFacts) : Type
+    0 where
   pub ends : Ends source sink door input left out then was now (reads words) (verdict_of words visitors) ended.status
   pub world : LeavesWorld (heeded (reads words) (source.rest input)) (plays words) (verdict_of words visitors) ended
 
--- what a call that carries out a command says of it: the words were one, these connections came, and what it names is the input's
-pub record IsCarriedOut {S K D W : Type 0} (source : Ghosts S) (sink : SinkGhosts K) (door : DoorGhosts D) (facts : W → WorldFacts) (input left : S) (out then : K) (was now : D) (command : Command) (result : Result (Option W) Ending) : Type 0 where
+-- what a call that carries out a command says of it: the words were
+-- one, these connections came, and what it names is the input's
+pub record IsCarriedOut {S K D W : Type 0} (source : Ghosts S) (sink : SinkGhosts K) (door : DoorGhosts D)
+    (facts : W → WorldFacts) (input left : S) (out then : K) (was now : D) (command : Command)
+    (result : Result (Option W) Ending) : Type 0 where
   pub usage : status_of (ending_in result) ≢ statuses.Usage
-  pub carries : (visitors : List Connection) × Carries source sink door input left out then was now (Some command) visitors (ended_by facts result)
-  pub says : (visitors : List Connection) → Known (heeded (reads (Some command)) (source.rest input)) (λ bytes. Says (ending_in result) (verdict_on command visitors bytes))
+  pub carries : (visitors : List Connection)
+      × Carries source sink door input left out then was now (Some command) visitors (ended_by facts result)
+  pub says : (visitors : List Connection)
+      → Known (heeded (reads (Some command)) (source.rest input))
+      (λ bytes. Says (ending_in result) (verdict_on command visitors bytes))

@@ -36,8 +36,10 @@ serving_of statuses.WriteFault = Err errors.Write
 serving_of statuses.DoorFault = Err errors.Door
 serving_of _ = Err errors.Memory
 
--- a source, a sink and a door before a command and after it, whether the command reads the source, and what comes of it by the bytes that it goes by
-module _ {S K D : Type 0} (source : SourceGhosts S) (sink : SinkGhosts K) (door : DoorGhosts D) (input left : S) (out then : K) (was now : D) (read : Bool) (verdict : List ℕ → Verdict) where
+-- a source, a sink and a door before a command and after it, whether the
+-- command reads the source, and what comes of it by the bytes that it goes by
+module _ {S K D : Type 0} (source : SourceGhosts S) (sink : SinkGhosts K) (door : DoorGhosts D)
+    (input left : S) (out then : K) (was now : D) (read : Bool) (verdict : List ℕ → Verdict) where
   -- the bytes that the command goes by, where they are told
   abbrev pub told : Option (List ℕ)
   told = heeded read (source.rest input)
@@ -66,23 +68,27 @@ module _ {S K D : Type 0} (source : SourceGhosts S) (sink : SinkGhosts K) (door 
 
   -- connections were to come, and of what was to be printed all but the closing summary is
   abbrev pub IsHalted : Verdict → Type 0
-  IsHalted (Makes (Serves script id count visitors)) = Grew (sink.content out) (sink.content then) (lines_of_run (served_of script id visitors))
+  IsHalted (Makes (Serves script id count visitors)) =
+      Grew (sink.content out) (sink.content then) (lines_of_run (served_of script id visitors))
   IsHalted _ = ⊥
 
   -- what each status says of the bytes, of the input, of the output and of the door
   abbrev pub Means : Status → Type 0
-  Means statuses.Done = Known told (λ bytes. IsDone (verdict bytes)) × (IsTrue read → Known told (λ bytes. source.rest left ≡ Some []))
+  Means statuses.Done =
+      Known told (λ bytes. IsDone (verdict bytes)) × (IsTrue read → Known told (λ bytes. source.rest left ≡ Some []))
   Means statuses.NotScript = Known told (λ bytes. IsFaulty (verdict bytes)) × IsUnwritten
   Means statuses.Usage = IsUnwritten
   Means statuses.ReadFault = IsTrue read × Rose (source.faults input) (source.faults left) × IsUnwritten
   Means statuses.WriteFault = Rose (sink.faults out) (sink.faults then) × Known told (λ bytes. IsBroken (verdict bytes))
   Means statuses.Memory = Known told (λ bytes. IsCut (verdict bytes))
-  Means statuses.DoorFault = Rose (door.door_faults was) (door.door_faults now) × Known told (λ bytes. IsHalted (verdict bytes))
+  Means statuses.DoorFault =
+      Rose (door.door_faults was) (door.door_faults now) × Known told (λ bytes. IsHalted (verdict bytes))
   Means statuses.Limit = Known told (λ bytes. IsPastLimit (verdict bytes)) × IsUnwritten
 
   -- what became of the door: the connections of a plan came to it, which else has nothing to do with it
   abbrev pub IsVisited : Status → Verdict → Type 0
-  IsVisited status (Makes (Serves script id count visitors)) = Came door was now (serving_of status) (after_steps (cluster_of script.head) (steps_of script.body)) id count visitors
+  IsVisited status (Makes (Serves script id count visitors)) = Came door was now (serving_of status)
+      (after_steps (cluster_of script.head) (steps_of script.body)) id count visitors
   IsVisited status _ = now ≡ was
 
   -- the door serves as many connections as a plan has
@@ -90,15 +96,18 @@ module _ {S K D : Type 0} (source : SourceGhosts S) (sink : SinkGhosts K) (door 
   IsServedBy (Serves script id count visitors) = door.serves was count
   IsServedBy _ = Unit {0}
 
-  -- A command that doesn't read the input leaves it as it was. Where no read fails, bytes that pass a limit or are no script are told apart from
-  -- scripts, unless memory is wanting, and where the output has room too, and the door serves as many connections as there are to be, all is
-  -- printed.
+  -- A command that doesn't read the input leaves it as it was. Where no read fails, bytes that pass
+  -- a limit or are no script are told apart from scripts, unless memory is wanting, and where the
+  -- output has room too, and the door serves as many connections as there are to be, all is printed.
   pub record Ends (status : Status) : Type 0 where
     pub means : Means status
     pub unread : read ≡ false → left ≡ input
     pub visited : Known told (λ bytes. IsVisited status (verdict bytes))
-    pub past_limit : NoReadFails → Known told (λ bytes. IsPastLimit (verdict bytes) → (status ≡ statuses.Limit) ⊎ (status ≡ statuses.Memory))
-    pub faulty : NoReadFails → Known told (λ bytes. IsFaulty (verdict bytes) → (status ≡ statuses.NotScript) ⊎ (status ≡ statuses.Memory))
+    pub past_limit : NoReadFails
+        → Known told (λ bytes. IsPastLimit (verdict bytes) → (status ≡ statuses.Limit) ⊎ (status ≡ statuses.Memory))
+    pub faulty : NoReadFails
+        → Known told (λ bytes. IsFaulty (verdict bytes) → (status ≡ statuses.NotScript) ⊎ (status ≡ statuses.Memory))
     pub complete : NoReadFails → Known told (λ bytes.
-        (plan : Plan) → verdict bytes ≡ Makes plan → (n : ℕ) → sink.can_take out n → length (plan_text plan) ≤ n → IsServedBy plan → (status ≡ statuses.Done) ⊎ (status ≡ statuses.Memory))
+        (plan : Plan) → verdict bytes ≡ Makes plan → (n : ℕ) → sink.can_take out n →
+        length (plan_text plan) ≤ n → IsServedBy plan → (status ≡ statuses.Done) ⊎ (status ≡ statuses.Memory))
     pub consumed : Consumed (source.rest input) (source.rest left) most_read

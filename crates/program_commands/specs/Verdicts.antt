@@ -16,8 +16,8 @@ use Rattle.command_line.specs.Members.{member_named}
 use Rattle.command_line.specs.declared.ending.Ending.{Ending}
 use Rattle.command_line.specs.declared.ending.Ending.TheVariants as endings
 
--- what a command is to do: to play a run and to print it; a script, and then the connections that come to the agent of a member, which are
--- to be so many; to play a run and to print its closing summary alone; to print a script
+-- what a command is to do: to play a run and to print it; a script, and then the connections that come to the agent
+-- of a member, which are to be so many; to play a run and to print its closing summary alone; to print a script
 pub data Plan : Type 0 where
   Plays : Played → Plan
   Serves : ScriptText → MemberId → ℕ → List Connection → Plan
@@ -56,7 +56,8 @@ verdict_of_count count plan = if nat_lt MOST_GENERATED count then PastCount else
 abbrev pub verdict_on : Command → List Connection → List ℕ → Verdict
 verdict_on Run visitors bytes = verdict_in 0 (λ script. Makes (Plays (played_of script))) bytes
 verdict_on (Serve member address count) visitors bytes =
-    verdict_in (most_waiting * count) (λ script. service_of script count visitors (member_named script.head member)) bytes
+    verdict_in (most_waiting * count)
+    (λ script. service_of script count visitors (member_named script.head member)) bytes
 verdict_on Print visitors bytes = verdict_in 0 (λ script. Makes (Formats script)) bytes
 verdict_on (Generate seed count) visitors bytes = verdict_of_count count (Formats (generated_script seed count))
 verdict_on (Drill seed count) visitors bytes = verdict_of_count count (Drills (played_of (generated_script seed count)))

@@ -38,21 +38,29 @@ armable modes.Off works = refl
 armable modes.Automatic works = refl
 armable modes.Required works = refl
 
-same-margins : (members : List MemberText) (m : ℕ) → margin_of (map declared_watch members) m ≡ margin_said (slice_get members m)
+same-margins : (members : List MemberText) (m : ℕ)
+    → margin_of (map declared_watch members) m ≡ margin_said (slice_get members m)
 same-margins [] m = refl
 same-margins (member ∷ members) zero = refl
 same-margins (member ∷ members) (suc m) = same-margins members m
 
-same-works : (members : List MemberText) (m : ℕ) → is_watched (map declared_watch members) m ≡ works_said (slice_get members m)
+same-works : (members : List MemberText) (m : ℕ)
+    → is_watched (map declared_watch members) m ≡ works_said (slice_get members m)
 same-works [] m = refl
 same-works (member ∷ members) zero = armable member.options.watchdog member.options.device_works
 same-works (member ∷ members) (suc m) = same-works members m
 
 -- the premises as the summary is told them are those that the head declares
-meets : (head : HeadText) (front : List Event) → ArePremisesMet (margin_of (watches_of head)) (is_watched (watches_of head)) head.config front → MeetsPremises head front
+meets : (head : HeadText) (front : List Event)
+    → ArePremisesMet (margin_of (watches_of head)) (is_watched (watches_of head)) head.config front
+    → MeetsPremises head front
 meets head front met = record {
   timely = subst (λ (margin : ℕ → Option ℕ). IsTimely margin front) (fun_ext (same-margins head.members)) met.timely;
-  hands_off = record { unpaused = met.hands_off.unpaused; watched = λ m. sym (same-works head.members m) ∙ met.hands_off.watched m; events = met.hands_off.events };
+  hands_off = record {
+    unpaused = met.hands_off.unpaused;
+    watched = λ m. sym (same-works head.members m) ∙ met.hands_off.watched m;
+    events = met.hands_off.events;
+  };
 }
 
 module _ (played : Played) (is : IsHead played.head) where
@@ -66,7 +74,8 @@ module _ (played : Played) (is : IsHead played.head) where
   few = rw length-map is.few
 
   measured : AreMeasured first_moments first_since (book_of (events_by_step start played.steps))
-  measured = subst (λ (book : List Event). AreMeasured first_moments first_since book) (sym whole) (runs-measured played.head played.steps)
+  measured = subst (λ (book : List Event). AreMeasured first_moments first_since book) (sym whole)
+      (runs-measured played.head played.steps)
 
   one-writer : WhereMet played.head (run_of played) HasOneWriter
   one-writer front rest parts met = runs-one played.head is played.steps front rest parts met.timely met.hands_off
@@ -74,13 +83,20 @@ module _ (played : Played) (is : IsHead played.head) where
   keeps-commits : KeepsCommitsIn played.head (run_of played)
   keeps-commits = runs-keep played.head is played.steps
 
-  closes : IsSummaryOf (watches_of played.head) played.head.config (first_logs played.head) (run_of played) (closing_of_run played)
-  closes = subst (λ (book : List Event). IsSummaryOf (watches_of played.head) played.head.config (first_logs played.head) book (closing_of_run played)) whole
-      (steps-told (watches_of played.head) played.head.config (first_logs played.head) (events_by_step start played.steps) few measured (steps-tell played.head is played.steps))
+  closes : IsSummaryOf (watches_of played.head) played.head.config (first_logs played.head) (run_of played)
+      (closing_of_run played)
+  closes =
+      subst (λ (book : List Event).
+      IsSummaryOf (watches_of played.head) played.head.config (first_logs played.head) book (closing_of_run played))
+      whole
+      (steps-told (watches_of played.head) played.head.config (first_logs played.head)
+      (events_by_step start played.steps) few measured (steps-tell played.head is played.steps))
 
   named : AreNamed (slice_get (names_of played.head)) (closing_of_run played).writers
   named = named-steps (slice_get (names_of played.head)) (first_summary played.head) (events_by_step start played.steps)
-      (subst (λ (book : List Event). AllAre (NamesServer (slice_get (names_of played.head))) book) (sym whole) (runs-name played.head played.steps is)) (named-first (slice_get (names_of played.head)))
+      (subst (λ (book : List Event). AllAre (NamesServer (slice_get (names_of played.head))) book) (sym whole)
+      (runs-name played.head played.steps is))
+      (named-first (slice_get (names_of played.head)))
 
   -- a run of a head that a script may have keeps what every run keeps
   pub keeps-promises : KeepsPromises played
@@ -91,6 +107,9 @@ module _ (played : Played) (is : IsHead played.head) where
     sync_order = runs-in-order played.head is played.steps;
     summary = closes;
     names = named;
-    premises_guard = steps-guarded (watches_of played.head) played.head.config (events_by_step start played.steps) few measured (λ front rest parts met. one-writer front rest (parts ∙ whole) (meets played.head front met));
-    commits_guard = λ on. commits-guarded (watches_of played.head) played.head.config (first_logs played.head) (run_of played) (closing_of_run played) closes on (λ front rest parts met mode. keeps-commits on front rest parts (meets played.head front met) mode);
+    premises_guard = steps-guarded (watches_of played.head) played.head.config (events_by_step start played.steps) few
+        measured (λ front rest parts met. one-writer front rest (parts ∙ whole) (meets played.head front met));
+    commits_guard = λ on. commits-guarded (watches_of played.head) played.head.config (first_logs played.head)
+        (run_of played) (closing_of_run played) closes on
+        (λ front rest parts met mode. keeps-commits on front rest parts (meets played.head front met) mode);
   }

@@ -14,24 +14,29 @@ use Rattle.run_model.specs.Watches.{watches_of}
 pub record KeepsPromises (played : Played) : Type 0 where
   -- At most one server accepts writes at each moment of the run up to which the premises are met.
   pub one_writer : WhereMet played.head (run_of played) HasOneWriter
-  -- At most one member answers 200 on `/`, `/primary` and `/read-write` at each of these moments, whoever is asked (Patroni, "Health check
-  -- endpoints"): a load balancer sends nobody's writes to two servers.
+  -- At most one member answers 200 on `/`, `/primary` and `/read-write` at each of these moments, whoever
+  -- is asked (Patroni, "Health check endpoints"): a load balancer sends nobody's writes to two servers.
   pub one_primary : WhereMet played.head (run_of played) (FindsOne played.head)
-  -- With synchronous mode on from the beginning each server that accepts writes has each commit that a client was told of, at each moment of
-  -- the run up to which the premises are met and the mode stays on.
+  -- With synchronous mode on from the beginning each server that accepts writes has each commit that a
+  -- client was told of, at each moment of the run up to which the premises are met and the mode stays on.
   pub kept_commits : KeepsCommitsIn played.head (run_of played)
-  -- At each of these moments the sync key names who accepts writes as the leader, and its commits wait for each standby in that key. Each
-  -- claim of that key was granted where there was none, or one that named its sender; and who asked to add a standby to it had commits wait
-  -- for that one, which had confirmed where its leader's log ended when its required list last grew (Patroni, "Replication modes").
+  -- At each of these moments the sync key names who accepts writes as the leader, and its commits wait for
+  -- each standby in that key. Each claim of that key was granted where there was none, or one that named
+  -- its sender; and who asked to add a standby to it had commits wait for that one, which had confirmed
+  -- where its leader's log ended when its required list last grew (Patroni, "Replication modes").
   pub sync_order : KeepsOrderIn played.head (run_of played)
-  -- Each answer of the closing summary is so of the book: when the premises were first broken, and why; when synchronous mode was; since when
-  -- two servers accepted writes, and which do at the end; how many commits were acknowledged; since when one is lost.
-  pub summary : IsSummaryOf (watches_of played.head) played.head.config (first_logs played.head) (run_of played) (closing_of_run played)
+  -- Each answer of the closing summary is so of the book: when the premises were first
+  -- broken, and why; when synchronous mode was; since when two servers accepted writes,
+  -- and which do at the end; how many commits were acknowledged; since when one is lost.
+  pub summary : IsSummaryOf (watches_of played.head) played.head.config (first_logs played.head)
+      (run_of played) (closing_of_run played)
   -- Those that it says accept writes at the end have the names that the head declares for their numbers.
   pub names : AreNamed (slice_get (names_of played.head)) (closing_of_run played).writers
-  -- Where the summary says that the premises are met it says that two servers never accepted writes, and where it says when they were broken,
-  -- two servers first did no earlier.
+  -- Where the summary says that the premises are met it says that two servers never accepted
+  -- writes, and where it says when they were broken, two servers first did no earlier.
   pub premises_guard : IsGuarded (closing_of_run played).premises (closing_of_run played).two_writers
-  -- Where it says that the premises are met, and the mode is on, it says that no commit was ever lost, and where it says when these were
-  -- broken, the first loss that it tells is no earlier than the first of these moments.
-  pub commits_guard : played.head.config.config.synchronous_mode ≡ true → AreCommitsGuarded (closing_of_run played).premises (closing_of_run played).synchronous (closing_of_run played).lost
+  -- Where it says that the premises are met, and the mode is on, it says that no commit was ever lost, and where
+  -- it says when these were broken, the first loss that it tells is no earlier than the first of these moments.
+  pub commits_guard : played.head.config.config.synchronous_mode ≡ true
+      → AreCommitsGuarded (closing_of_run played).premises (closing_of_run played).synchronous
+      (closing_of_run played).lost

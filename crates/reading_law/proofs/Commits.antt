@@ -27,7 +27,12 @@ one : (n : ℕ) → n < 10 → BeginsByDigit ((48 + n) ∷ [])
 one n small = record { first = 48 + n; others = []; is = refl; digit = omega arith }
 
 more : (n : ℕ) (ds : List ℕ) → BeginsByDigit ds → BeginsByDigit (ds ++ ((48 + n % 10) ∷ []))
-more n ds front = record { first = front.first; others = front.others ++ ((48 + n % 10) ∷ []); is = ap (λ t. t ++ ((48 + n % 10) ∷ [])) front.is; digit = front.digit }
+more n ds front = record {
+  first = front.first;
+  others = front.others ++ ((48 + n % 10) ∷ []);
+  is = ap (λ t. t ++ ((48 + n % 10) ∷ [])) front.is;
+  digit = front.digit;
+}
 
 begins : (n : ℕ) → n < 2 ^ 64 → BeginsByDigit (decimal n)
 begins n fits = decimal_by_steps (λ n ds. BeginsByDigit ds) one (λ n ds some front. more n ds front) n fits
@@ -68,19 +73,32 @@ past-number n rest fits =
     ∙ ap (λ m. counted_behind m (Some rest)) (number-decimal n fits)
 
 -- what is told behind the number of a commit
-numbered : (tick n : ℕ) (rest : List ℕ) (told : Told) → n < 2 ^ 64 → told_of_commit tick rest ≡ Some told → told_by_words tick (codes "commit " ++ (decimal n ++ (32 ∷ rest))) ≡ Some told
+numbered : (tick n : ℕ) (rest : List ℕ) (told : Told) → n < 2 ^ 64 → told_of_commit tick rest ≡ Some told
+    → told_by_words tick (codes "commit " ++ (decimal n ++ (32 ∷ rest))) ≡ Some told
 numbered tick n rest told fits e =
-    ap (λ h. first_of (told_named tick (name_of (codes "commit")) h) (first_of (option_and_then (told_of_commit tick) (behind_number (decimal n ++ (32 ∷ rest)))) None)) (by-number n (32 ∷ rest) fits)
+    ap (λ h. first_of (told_named tick (name_of (codes "commit")) h)
+    (first_of (option_and_then (told_of_commit tick) (behind_number (decimal n ++ (32 ∷ rest)))) None))
+    (by-number n (32 ∷ rest) fits)
     ∙ ap (λ o. first_of (option_and_then (told_of_commit tick) o) None) (past-number n rest fits)
     ∙ ap (λ o. first_of o None) e
 
-pub acknowledged-read : (tick n : ℕ) → n < 2 ^ 64 → told_by_words tick (codes "commit " ++ (decimal n ++ codes " is acknowledged")) ≡ Some (of_nobody tick IsAcknowledged)
+pub acknowledged-read : (tick n : ℕ) → n < 2 ^ 64
+    → told_by_words tick (codes "commit " ++ (decimal n ++ codes " is acknowledged"))
+    ≡ Some (of_nobody tick IsAcknowledged)
 acknowledged-read tick n fits = numbered tick n (codes "is acknowledged") (of_nobody tick IsAcknowledged) fits refl
 
-committed : (tick bytes : ℕ) (server : Name) → bytes < 2 ^ 64 → told_of_commit tick (codes "of " ++ (decimal bytes ++ (codes " bytes on " ++ name_bytes server))) ≡ Some (of_nobody tick Commits)
+committed : (tick bytes : ℕ) (server : Name) → bytes < 2 ^ 64
+    → told_of_commit tick (codes "of " ++ (decimal bytes ++ (codes " bytes on " ++ name_bytes server)))
+    ≡ Some (of_nobody tick Commits)
 committed tick bytes server fits =
-    ap (λ o. commits_on tick (option_and_then name_of (option_and_then (behind (codes "bytes on ")) o))) (past-number bytes (codes "bytes on " ++ name_bytes server) fits)
+    ap (λ o. commits_on tick (option_and_then name_of (option_and_then (behind (codes "bytes on ")) o)))
+    (past-number bytes (codes "bytes on " ++ name_bytes server) fits)
     ∙ ap (commits_on tick) (name_of-name_bytes server)
 
-pub commits-read : (tick n bytes : ℕ) (server : Name) → n < 2 ^ 64 → bytes < 2 ^ 64 → told_by_words tick (codes "commit " ++ (decimal n ++ (codes " of " ++ (decimal bytes ++ (codes " bytes on " ++ name_bytes server))))) ≡ Some (of_nobody tick Commits)
-commits-read tick n bytes server fits room = numbered tick n (codes "of " ++ (decimal bytes ++ (codes " bytes on " ++ name_bytes server))) (of_nobody tick Commits) fits (committed tick bytes server room)
+pub commits-read : (tick n bytes : ℕ) (server : Name) → n < 2 ^ 64 → bytes < 2 ^ 64
+    → told_by_words tick
+    (codes "commit " ++ (decimal n ++ (codes " of " ++ (decimal bytes ++ (codes " bytes on " ++ name_bytes server)))))
+    ≡ Some (of_nobody tick Commits)
+commits-read tick n bytes server fits room =
+    numbered tick n (codes "of " ++ (decimal bytes ++ (codes " bytes on " ++ name_bytes server)))
+    (of_nobody tick Commits) fits (committed tick bytes server room)

@@ -6,7 +6,8 @@ use Rattle.run_reading.specs.Forms.{is_tail, named_of, tail_of, words_of}
 use Rattle.reading_law.specs.Lines.{is_named}
 
 -- words with what may follow them tell what they are the words of; text may follow as it is
-pub form-read : (happening : Happening) (tail : List ℕ) → is_named happening ≡ true → is_tail (tail_of happening) tail ≡ true → named_of (words_of happening ++ tail) ≡ Some happening
+pub form-read : (happening : Happening) (tail : List ℕ) → is_named happening ≡ true
+    → is_tail (tail_of happening) tail ≡ true → named_of (words_of happening ++ tail) ≡ Some happening
 unfolding named_of
 form-read Answers tail is follows = refl
 form-read HandsOver tail is follows = refl

@@ -33,16 +33,20 @@ pub name-unbroken : (name : Name) → first_at 32 (name_bytes name) ≡ None
 name-unbroken name = no-blank (name_bytes name) (is_text-bytes 32 is_name_byte (name_bytes name) name.legal)
 
 -- a moment is read, and then the words behind it
-pub told_of-words : (tick : ℕ) (words : List ℕ) → tick < 2 ^ 64 → told_of (decimal tick ++ (32 ∷ words)) ≡ told_by_words tick words
+pub told_of-words : (tick : ℕ) (words : List ℕ) → tick < 2 ^ 64
+    → told_of (decimal tick ++ (32 ∷ words)) ≡ told_by_words tick words
 told_of-words tick words fits =
     let below : 32 < 48 = omega arith in
     ap (λ cut. told_at (number cut.0) cut.1) (cut_word-again (decimal tick) words (first_at-decimal 32 tick below fits))
     ∙ ap (λ n. told_at n (Some words)) (number-decimal tick fits)
 
-named : (tick : ℕ) (name : Name) (words : List ℕ) (happening : Happening) → named_of words ≡ Some happening → told_by_name tick (name_bytes name, Some words) ≡ Some (one_told tick name happening)
-named tick name words happening e = ap (λ n. told_named tick n (named_of words)) (name_of-name_bytes name) ∙ ap (λ h. told_named tick (Some name) h) e
+named : (tick : ℕ) (name : Name) (words : List ℕ) (happening : Happening) → named_of words ≡ Some happening
+    → told_by_name tick (name_bytes name, Some words) ≡ Some (one_told tick name happening)
+named tick name words happening e =
+    ap (λ n. told_named tick n (named_of words)) (name_of-name_bytes name) ∙ ap (λ h. told_named tick (Some name) h) e
 
-pub by-words : (tick : ℕ) (name : Name) (words : List ℕ) (happening : Happening) → named_of words ≡ Some happening → told_by_words tick (name_bytes name ++ (32 ∷ words)) ≡ Some (one_told tick name happening)
+pub by-words : (tick : ℕ) (name : Name) (words : List ℕ) (happening : Happening) → named_of words ≡ Some happening
+    → told_by_words tick (name_bytes name ++ (32 ∷ words)) ≡ Some (one_told tick name happening)
 by-words tick name words happening e =
     let other : Option Told = told_unnamed tick (name_bytes name ++ (32 ∷ words)) in
     ap (λ cut. first_of (told_by_name tick cut) other) (cut_word-again (name_bytes name) words (name-unbroken name))

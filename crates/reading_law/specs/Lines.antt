@@ -36,11 +36,13 @@ expiry_words holder = codes "the leader key of " ++ (name_bytes holder ++ codes 
 
 -- those of a request that is refused, for this reason
 abbrev pub refusal_words : TxnKind → Name → List ℕ → List ℕ
-refusal_words kind by why = codes "the " ++ (kind_text kind ++ (codes " of " ++ (name_bytes by ++ (codes " is refused, " ++ why))))
+refusal_words kind by why =
+    codes "the " ++ (kind_text kind ++ (codes " of " ++ (name_bytes by ++ (codes " is refused, " ++ why))))
 
 -- those of a commit of so many bytes on the server of this name
 abbrev pub commit_words : ℕ → ℕ → Name → List ℕ
-commit_words serial bytes server = codes "commit " ++ (decimal serial ++ (codes " of " ++ (decimal bytes ++ (codes " bytes on " ++ name_bytes server))))
+commit_words serial bytes server = codes "commit "
+    ++ (decimal serial ++ (codes " of " ++ (decimal bytes ++ (codes " bytes on " ++ name_bytes server))))
 
 -- those of a commit that is acknowledged
 abbrev pub acknowledgement_words : ℕ → List ℕ

@@ -46,7 +46,8 @@ decided (Err refused) = Replies (text_of refused.status (answer_text refused.tex
 
 -- what a health check answers: its status, and with a body what the page of the member tells
 abbrev pub health_reply : AgentView → Option SnapshotFacts → Endpoint → Option (List ℕ) → Bool → ReplyText
-health_reply view seen endpoint lag true = json_of (health_of_view endpoint view seen lag) (compact_text (object (patroni_members_of view seen)))
+health_reply view seen endpoint lag true =
+    json_of (health_of_view endpoint view seen lag) (compact_text (object (patroni_members_of view seen)))
 health_reply view seen endpoint lag false = status_alone (health_of_view endpoint view seen lag)
 
 -- what is answered to this, by what the agent shows, its newest snapshot, the parameter lag and the content
@@ -59,4 +60,5 @@ answer_by view seen lag body (asks.Change change) = decided (change_on view seen
 
 -- what is answered to a request
 abbrev pub answer_to : AgentView → Option SnapshotFacts → RequestText → Answered
-answer_to view seen asked = answer_by view seen (lag_of asked.target) asked.body (ask_of asked.verb (path_of asked.target))
+answer_to view seen asked =
+    answer_by view seen (lag_of asked.target) asked.body (ask_of asked.verb (path_of asked.target))

@@ -26,13 +26,18 @@ abbrev pub asking_for : {A : Type 0} → (A → OperatorRequest) → Result A Re
 asking_for request (Ok x) = Ok (request x)
 asking_for request (Err refused) = Err refused
 
--- what an agent that shows this, and whose newest snapshot is this one, is to do to make this change with this content, or what it is refused with
+-- what an agent that shows this, and whose newest snapshot is this one, is
+-- to do to make this change with this content, or what it is refused with
 abbrev pub change_on : AgentView → Option SnapshotFacts → Change → List ℕ → Result OperatorRequest Refused
-change_on view seen asked.Switchover body = asking_for (requests.Failover failover_kinds.Switchover) (switchover_on seen view.waits body)
+change_on view seen asked.Switchover body =
+    asking_for (requests.Failover failover_kinds.Switchover) (switchover_on seen view.waits body)
 change_on view seen asked.DropSwitchover body = Err no_scheduled_switchover
-change_on view seen asked.Failover body = asking_for (requests.Failover failover_kinds.Failover) (failover_on seen view.waits body)
+change_on view seen asked.Failover body =
+    asking_for (requests.Failover failover_kinds.Failover) (failover_on seen view.waits body)
 change_on view seen asked.Restart body = unless_refused (restart_refusal view) requests.Restart
 change_on view seen asked.Reinitialize body = unless_refused (reinit_refusal view) requests.Reinit
-change_on view seen asked.PatchConfiguration body = asking_for requests.Configuration (configuration_on seen view.waits changes.Patch body)
-change_on view seen asked.ReplaceConfiguration body = asking_for requests.Configuration (configuration_on seen view.waits changes.Replace body)
+change_on view seen asked.PatchConfiguration body =
+    asking_for requests.Configuration (configuration_on seen view.waits changes.Patch body)
+change_on view seen asked.ReplaceConfiguration body =
+    asking_for requests.Configuration (configuration_on seen view.waits changes.Replace body)
 change_on view seen asked.Failsafe body = failsafe_on view.me seen body

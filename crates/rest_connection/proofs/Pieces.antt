@@ -35,7 +35,8 @@ most-read = HEAD_LIMIT + (BODY_LIMIT + PIECE)
 -- these bytes have been read, and what the door promised still holds
 pub record Reading {D : Type 0} (door : Ghosts D) (before after : D) (bytes : List ℕ) : Type 0 where
   pub facts : Tells (door.told before) (λ facts. door.told after ≡ Some (after_read (length bytes) facts))
-  pub read : HasRead (bytes_here (door.told before)) (bytes_here (door.told after)) (door.connection_faults before) (door.connection_faults after) bytes most-read
+  pub read : HasRead (bytes_here (door.told before)) (bytes_here (door.told after))
+      (door.connection_faults before) (door.connection_faults after) bytes most-read
   pub present : 0 < length bytes → Tells (door.told before) (λ facts. IsSome facts.here)
   pub calm : door.door_faults after ≡ door.door_faults before
   pub served : (n : ℕ) → door.serves before n → door.serves after n
@@ -43,12 +44,15 @@ pub record Reading {D : Type 0} (door : Ghosts D) (before after : D) (bytes : Li
 
 -- two reads are as good as one
 read-more : (before mid after : Option DoorFacts) (count more : ℕ)
-    → Tells before (λ facts. mid ≡ Some (after_read count facts)) → Tells mid (λ facts. after ≡ Some (after_read more facts))
+    → Tells before (λ facts. mid ≡ Some (after_read count facts))
+    → Tells mid (λ facts. after ≡ Some (after_read more facts))
     → Tells before (λ facts. after ≡ Some (after_read (count + more) facts))
-read-more before mid after count more had next facts is = next (after_read count facts) (had facts is) ∙ ap Some (after_read-twice facts count more)
+read-more before mid after count more had next facts is =
+    next (after_read count facts) (had facts is) ∙ ap Some (after_read-twice facts count more)
 
 -- what is left on the present connection
-pub here-after : (before after : Option DoorFacts) (count : ℕ) → Tells before (λ facts. after ≡ Some (after_read count facts))
+pub here-after : (before after : Option DoorFacts) (count : ℕ)
+    → Tells before (λ facts. after ≡ Some (after_read count facts))
     → Known (bytes_here before) (λ all. bytes_here after ≡ Some (drop count all))
 here-after None after count had all is = cc
 here-after (Some facts) after count had all is = ap bytes_here (had facts refl) ∙ ap (option_map (drop count)) is
@@ -58,9 +62,11 @@ here-before : (count : ℕ) (here : Option (List ℕ)) → IsSome (option_map (d
 here-before count None is = is
 here-before count (Some bytes) is = cc
 
-pub present-before : (before mid : Option DoorFacts) (count : ℕ) → Tells before (λ facts. mid ≡ Some (after_read count facts))
+pub present-before : (before mid : Option DoorFacts) (count : ℕ)
+    → Tells before (λ facts. mid ≡ Some (after_read count facts))
     → Tells mid (λ facts. IsSome facts.here) → Tells before (λ facts. IsSome facts.here)
-present-before before mid count had is facts told = here-before count facts.here (is (after_read count facts) (had facts told))
+present-before before mid count had is facts told =
+    here-before count facts.here (is (after_read count facts) (had facts told))
 
 -- one more piece was read, as its call says
 pub record ReadsPiece {D : Type 0} (door : Ghosts D) (mid after : D) (bytes longer : List ℕ) (count : ℕ) : Type 0 where
@@ -74,10 +80,12 @@ pub record ReadsPiece {D : Type 0} (door : Ghosts D) (mid after : D) (bytes long
   pub served : (n : ℕ) → door.serves mid n → door.serves after n
   pub reliable : (n : ℕ) → door.takes mid n → door.takes after n
 
-pub reading-more : {D : Type 0} (door : Ghosts D) (before mid after : D) (bytes longer : List ℕ) (count : ℕ) → Reading door before mid bytes → length bytes < HEAD_LIMIT + BODY_LIMIT
+pub reading-more : {D : Type 0} (door : Ghosts D) (before mid after : D) (bytes longer : List ℕ) (count : ℕ)
+    → Reading door before mid bytes → length bytes < HEAD_LIMIT + BODY_LIMIT
     → ReadsPiece door mid after bytes longer count → Reading door before after longer
 reading-more door before mid after bytes longer count had short more = record {
-  facts = subst (λ (n : ℕ). Tells (door.told before) (λ facts. door.told after ≡ Some (after_read n facts))) (sym more.added) (read-more _ _ _ (length bytes) count had.facts more.facts);
+  facts = subst (λ (n : ℕ). Tells (door.told before) (λ facts. door.told after ≡ Some (after_read n facts)))
+      (sym more.added) (read-more _ _ _ (length bytes) count had.facts more.facts);
   read = HasRead-more _ _ _ _ _ _ _ _ _ _ had.read
       (record { added = more.added; bytes_are = more.bytes_are; after = here-after _ _ count more.facts })
       (omega (arith, more.within, short)) more.grows;
@@ -94,8 +102,10 @@ within-limit false value n is e =
     let same : value ≡ n = cc in
     omega (arith, same, ltb-false BODY_LIMIT value is)
 
-length-by-one : (test : Bool) (value : List ℕ) (n : ℕ) → is_decimal value ≡ test → length_by_all (value ∷ []) ≡ Ok n → n ≤ BODY_LIMIT
-length-by-one true value n is e = within-limit (nat_lt BODY_LIMIT (digits_value 10 value)) (digits_value 10 value) n refl (rw is at e)
+length-by-one : (test : Bool) (value : List ℕ) (n : ℕ) → is_decimal value ≡ test
+    → length_by_all (value ∷ []) ≡ Ok n → n ≤ BODY_LIMIT
+length-by-one true value n is e =
+    within-limit (nat_lt BODY_LIMIT (digits_value 10 value)) (digits_value 10 value) n refl (rw is at e)
 length-by-one false value n is e = cc
 
 length-within : (values : List (List ℕ)) (n : ℕ) → length_by_all values ≡ Ok n → n ≤ BODY_LIMIT
@@ -105,24 +115,30 @@ length-within [] n e =
 length-within (value ∷ []) n e = length-by-one (is_decimal value) value n refl e
 length-within (value ∷ other ∷ more) n e = cc
 
-content-wanted : (test : Bool) (h : RequestHead) (rest : List ℕ) (n : ℕ) → nat_lt (length rest) n ≡ test → answer_by h rest (Ok n) ≡ Ok None → length rest < n
+content-wanted : (test : Bool) (h : RequestHead) (rest : List ℕ) (n : ℕ) → nat_lt (length rest) n ≡ test
+    → answer_by h rest (Ok n) ≡ Ok None → length rest < n
 content-wanted true h rest n is e = ltb-true (length rest) n is
 content-wanted false h rest n is e = cc
 
-rest-wanted : (h : RequestHead) (rest : List ℕ) (length_is : Result ℕ RequestFault) → ((n : ℕ) → length_is ≡ Ok n → n ≤ BODY_LIMIT) → answer_by h rest length_is ≡ Ok None → length rest < BODY_LIMIT
+rest-wanted : (h : RequestHead) (rest : List ℕ) (length_is : Result ℕ RequestFault)
+    → ((n : ℕ) → length_is ≡ Ok n → n ≤ BODY_LIMIT) → answer_by h rest length_is ≡ Ok None → length rest < BODY_LIMIT
 rest-wanted h rest (Err fault) within e = cc
-rest-wanted h rest (Ok n) within e = omega (arith, content-wanted (nat_lt (length rest) n) h rest n refl e, within n refl)
+rest-wanted h rest (Ok n) within e =
+    omega (arith, content-wanted (nat_lt (length rest) n) h rest n refl e, within n refl)
 
-head-wanted : (test : Bool) (bytes : List ℕ) → nat_lt HEAD_LIMIT (length bytes) ≡ test → answer_of bytes Incomplete ≡ Ok None → length bytes ≤ HEAD_LIMIT
+head-wanted : (test : Bool) (bytes : List ℕ) → nat_lt HEAD_LIMIT (length bytes) ≡ test
+    → answer_of bytes Incomplete ≡ Ok None → length bytes ≤ HEAD_LIMIT
 head-wanted true bytes is e = cc
 head-wanted false bytes is e = ltb-false HEAD_LIMIT (length bytes) is
 
 -- more bytes are wanted only while there are fewer than a request may have
-more-wanted : (bytes : List ℕ) (begun : Begun) → IsBegun bytes begun → answer_of bytes begun ≡ Ok None → length bytes < HEAD_LIMIT + BODY_LIMIT
+more-wanted : (bytes : List ℕ) (begun : Begun) → IsBegun bytes begun → answer_of bytes begun ≡ Ok None
+    → length bytes < HEAD_LIMIT + BODY_LIMIT
 more-wanted bytes (Whole h) x e =
     omega (
       arith,
-      rest-wanted h (behind h bytes) (content_length (map name_and_value h.fields)) (length-within (length_values (map name_and_value h.fields))) e,
+      rest-wanted h (behind h bytes) (content_length (map name_and_value h.fields))
+          (length-within (length_values (map name_and_value h.fields))) e,
       simp length-append at (ap length x.1.1),
       length-take HEAD_LIMIT bytes,
       length-drop (length (print_request h)) bytes,
@@ -148,7 +164,8 @@ no-request-yet h rest reads = omega (arith, simp length-append at (ap length rea
 
 -- the shortest head
 shortest : RequestHead
-shortest = record { blank = []; method = codes "G"; target = codes "/"; minor = 1; line_end = lf; fields = []; last = lf }
+shortest =
+    record { blank = []; method = codes "G"; target = codes "/"; minor = 1; line_end = lf; fields = []; last = lf }
 
 slash-is-ascii : IsAscii (codes "/")
 slash-is-ascii zero = omega arith
@@ -170,55 +187,72 @@ nothing-yet (Whole h) x = absurd (no-request-yet h x.0 x.1)
 nothing-yet Incomplete x = refl
 nothing-yet Malformed x = absurd (x (print_request shortest ++ []) shortest [] (shortest-is, refl))
 
-unanswered : (result : Result (Option Request) RequestFault) (answer : Result RequestText RequestFault) → answer_seen result ≡ Ok None → reading_seen result ≡ Some answer → ⊥
+unanswered : (result : Result (Option Request) RequestFault) (answer : Result RequestText RequestFault)
+    → answer_seen result ≡ Ok None → reading_seen result ≡ Some answer → ⊥
 unanswered (Ok None) answer none is = cc
 unanswered (Ok (Some request)) answer none is = cc
 unanswered (Err fault) answer none is = cc
 
-no-memory : (result : Result (Option Request) RequestFault) (answer : Result RequestText RequestFault) → reading_seen result ≡ Some answer → result ≢ Err Memory
+no-memory : (result : Result (Option Request) RequestFault) (answer : Result RequestText RequestFault)
+    → reading_seen result ≡ Some answer → result ≢ Err Memory
 no-memory result answer is e = cc
 
 -- what was answered to bytes was answered to some
-pub answered-some : (bytes : List ℕ) (result : Result (Option Request) RequestFault) (answer : Result RequestText RequestFault) → Reads bytes result → reading_seen result ≡ Some answer → 0 < length bytes
+pub answered-some : (bytes : List ℕ) (result : Result (Option Request) RequestFault)
+    (answer : Result RequestText RequestFault) → Reads bytes result → reading_seen result ≡ Some answer
+    → 0 < length bytes
 answered-some [] result answer reads is =
     let begins = reads (no-memory result answer is) in
     absurd (unanswered result answer (begins.2 ∙ nothing-yet begins.0 begins.1) is)
 answered-some (byte ∷ bytes) result answer reads is = omega arith
 
 -- what was answered to a front is asked by all
-early : (all bytes : List ℕ) (found : Result (Option RequestText) RequestFault) (answer : Result RequestText RequestFault) → bytes ≡ take (length bytes) all
-    → (begun : Begun) × IsBegun bytes begun × (found ≡ answer_of bytes begun) → found ≢ Ok None → answer ≡ at_end found → IsRequested all answer
+early : (all bytes : List ℕ) (found : Result (Option RequestText) RequestFault)
+    (answer : Result RequestText RequestFault) → bytes ≡ take (length bytes) all
+    → (begun : Begun) × IsBegun bytes begun × (found ≡ answer_of bytes begun) → found ≢ Ok None
+    → answer ≡ at_end found → IsRequested all answer
 early all bytes found answer front begins some is =
     let later = stays bytes (drop (length bytes) all) begins.0 begins.1 (λ e. some (begins.2 ∙ e)) in
-    let whole : bytes ++ drop (length bytes) all ≡ all = ap (λ t. t ++ drop (length bytes) all) front ∙ take-append-drop (length bytes) all in
+    let whole : bytes ++ drop (length bytes) all ≡ all = ap (λ t. t ++ drop (length bytes) all) front
+    ∙ take-append-drop (length bytes) all in
     subst (λ t. IsRequested t answer) whole (later.0, later.1, is ∙ ap at_end (begins.2 ∙ sym later.2))
 
-pub asked-early : (all bytes : List ℕ) (result : Result (Option Request) RequestFault) (answer : Result RequestText RequestFault) → bytes ≡ take (length bytes) all
+pub asked-early : (all bytes : List ℕ) (result : Result (Option Request) RequestFault)
+    (answer : Result RequestText RequestFault) → bytes ≡ take (length bytes) all
     → Reads bytes result → reading_seen result ≡ Some answer → IsRequested all answer
 asked-early all bytes (Ok None) answer front reads is = cc
-asked-early all bytes (Ok (Some request)) answer front reads is = early all bytes (Ok (Some (request_text request))) answer front (reads (λ e. cc)) (λ e. cc) cc
-asked-early all bytes (Err BadHead) answer front reads is = early all bytes (Err BadHead) answer front (reads (λ e. cc)) (λ e. cc) cc
-asked-early all bytes (Err TooLong) answer front reads is = early all bytes (Err TooLong) answer front (reads (λ e. cc)) (λ e. cc) cc
-asked-early all bytes (Err BadLength) answer front reads is = early all bytes (Err BadLength) answer front (reads (λ e. cc)) (λ e. cc) cc
+asked-early all bytes (Ok (Some request)) answer front reads is =
+    early all bytes (Ok (Some (request_text request))) answer front (reads (λ e. cc)) (λ e. cc) cc
+asked-early all bytes (Err BadHead) answer front reads is =
+    early all bytes (Err BadHead) answer front (reads (λ e. cc)) (λ e. cc) cc
+asked-early all bytes (Err TooLong) answer front reads is =
+    early all bytes (Err TooLong) answer front (reads (λ e. cc)) (λ e. cc) cc
+asked-early all bytes (Err BadLength) answer front reads is =
+    early all bytes (Err BadLength) answer front (reads (λ e. cc)) (λ e. cc) cc
 asked-early all bytes (Err Memory) answer front reads is = cc
 
 -- a fault of the reading is one of the call
-pub asked-by-fault : (all bytes : List ℕ) (fault : RequestFault) (result : Result Request AskError) (answer : Result RequestText RequestFault) → bytes ≡ take (length bytes) all
-    → Reads bytes (Err fault) → IsErrAnd result (λ error. error ≡ Bytes fault) → seen result ≡ Some answer → IsRequested all answer
+pub asked-by-fault : (all bytes : List ℕ) (fault : RequestFault) (result : Result Request AskError)
+    (answer : Result RequestText RequestFault) → bytes ≡ take (length bytes) all
+    → Reads bytes (Err fault) → IsErrAnd result (λ error. error ≡ Bytes fault) → seen result ≡ Some answer
+    → IsRequested all answer
 asked-by-fault all bytes fault (Ok request) answer front reads fails is = absurd fails
 asked-by-fault all bytes fault (Err error) answer front reads fails is =
     let same : error ≡ Bytes fault = fails in
     asked-early all bytes (Err fault) answer front reads (rw same at is)
 
-pub fault-answered-some : (bytes : List ℕ) (fault : RequestFault) (result : Result Request AskError) (answer : Result RequestText RequestFault)
-    → Reads bytes (Err fault) → IsErrAnd result (λ error. error ≡ Bytes fault) → seen result ≡ Some answer → 0 < length bytes
+pub fault-answered-some : (bytes : List ℕ) (fault : RequestFault) (result : Result Request AskError)
+    (answer : Result RequestText RequestFault)
+    → Reads bytes (Err fault) → IsErrAnd result (λ error. error ≡ Bytes fault) → seen result ≡ Some answer
+    → 0 < length bytes
 fault-answered-some bytes fault (Ok request) answer reads fails is = absurd fails
 fault-answered-some bytes fault (Err error) answer reads fails is =
     let same : error ≡ Bytes fault = fails in
     answered-some bytes (Err fault) answer reads (rw same at is)
 
 -- want of memory and a failed read tell nothing
-pub unseen : (error : AskError) (result : Result Request AskError) (answer : Result RequestText RequestFault) → (error ≡ Bytes Memory) ⊎ (error ≡ Connection)
+pub unseen : (error : AskError) (result : Result Request AskError) (answer : Result RequestText RequestFault)
+    → (error ≡ Bytes Memory) ⊎ (error ≡ Connection)
     → IsErrAnd result (λ given. given ≡ error) → seen result ≡ Some answer → ⊥
 unseen error (Ok request) answer which fails is = absurd fails
 unseen error (Err (Bytes fault)) answer (inl memory) fails is =
@@ -228,43 +262,57 @@ unseen error (Err (Bytes fault)) answer (inr line) fails is = cc
 unseen error (Err Connection) answer which fails is = cc
 
 -- where more are wanted at the end, a bad head is asked
-pub asked-at-end : (all bytes : List ℕ) (answer : Result RequestText RequestFault) → bytes ≡ take (length bytes) all → length (drop (length bytes) all) ≡ 0
+pub asked-at-end : (all bytes : List ℕ) (answer : Result RequestText RequestFault)
+    → bytes ≡ take (length bytes) all → length (drop (length bytes) all) ≡ 0
     → Reads bytes (Ok None) → answer ≡ Err BadHead → IsRequested all answer
 asked-at-end all bytes answer front none reads is =
     let begins = reads (λ e. cc) in
-    let whole : bytes ≡ all = front ∙ take_all (length bytes) all (omega (arith, length-drop (length bytes) all, none)) in
+    let whole : bytes ≡ all = front
+    ∙ take_all (length bytes) all (omega (arith, length-drop (length bytes) all, none)) in
     subst (λ t. IsRequested t answer) whole (begins.0, begins.1, is ∙ ap at_end begins.2)
 
 -- what was read asks by itself what it was answered
 front-of-itself : (bytes : List ℕ) → bytes ≡ take (length bytes) bytes
 front-of-itself bytes = sym (take_all (length bytes) bytes (omega arith))
 
-here-of : (before : Option DoorFacts) (facts : DoorFacts) (all : List ℕ) → before ≡ Some facts → facts.here ≡ Some all → bytes_here before ≡ Some all
+here-of : (before : Option DoorFacts) (facts : DoorFacts) (all : List ℕ) → before ≡ Some facts
+    → facts.here ≡ Some all → bytes_here before ≡ Some all
 here-of before facts all is here = ap bytes_here is ∙ here
 
-left-early : {D : Type 0} (door : Ghosts D) (before after : D) (bytes : List ℕ) (told : Option (Result RequestText RequestFault)) → Reading door before after bytes
-    → ((answer : Result RequestText RequestFault) → told ≡ Some answer → IsRequested bytes answer) → Tells (door.told before) (λ facts. LeavesRest most-read facts (door.told after) told)
+left-early : {D : Type 0} (door : Ghosts D) (before after : D) (bytes : List ℕ)
+    (told : Option (Result RequestText RequestFault)) → Reading door before after bytes
+    → ((answer : Result RequestText RequestFault) → told ≡ Some answer → IsRequested bytes answer)
+    → Tells (door.told before) (λ facts. LeavesRest most-read facts (door.told after) told)
 left-early door before after bytes told had own facts is = (
   length bytes,
   had.read.within,
   had.facts facts is,
-  λ all here answer told_is. subst (λ t. IsRequested t answer) (had.read.front all (here-of (door.told before) facts all is here)).1 (own answer told_is),
+  λ all here answer told_is. subst (λ t. IsRequested t answer)
+      (had.read.front all (here-of (door.told before) facts all is here)).1 (own answer told_is),
 )
 
-pub left-request : {D : Type 0} (door : Ghosts D) (before after : D) (bytes : List ℕ) (request : Request) → Reading door before after bytes → Reads bytes (Ok (Some request))
+pub left-request : {D : Type 0} (door : Ghosts D) (before after : D) (bytes : List ℕ) (request : Request)
+    → Reading door before after bytes → Reads bytes (Ok (Some request))
     → Tells (door.told before) (λ facts. LeavesRest most-read facts (door.told after) (seen (Ok request)))
 left-request door before after bytes request had reads =
-    left-early door before after bytes (seen (Ok request)) had (λ answer told_is. asked-early bytes bytes (Ok (Some request)) answer (front-of-itself bytes) reads told_is)
+    left-early door before after bytes (seen (Ok request)) had
+    (λ answer told_is. asked-early bytes bytes (Ok (Some request)) answer (front-of-itself bytes) reads told_is)
 
-pub left-fault : {D : Type 0} (door : Ghosts D) (before after : D) (bytes : List ℕ) (fault : RequestFault) (result : Result Request AskError) → Reading door before after bytes
-    → Reads bytes (Err fault) → IsErrAnd result (λ error. error ≡ Bytes fault) → Tells (door.told before) (λ facts. LeavesRest most-read facts (door.told after) (seen result))
+pub left-fault : {D : Type 0} (door : Ghosts D) (before after : D) (bytes : List ℕ) (fault : RequestFault)
+    (result : Result Request AskError) → Reading door before after bytes
+    → Reads bytes (Err fault) → IsErrAnd result (λ error. error ≡ Bytes fault)
+    → Tells (door.told before) (λ facts. LeavesRest most-read facts (door.told after) (seen result))
 left-fault door before after bytes fault result had reads fails =
-    left-early door before after bytes (seen result) had (λ answer told_is. asked-by-fault bytes bytes fault result answer (front-of-itself bytes) reads fails told_is)
+    left-early door before after bytes (seen result) had
+    (λ answer told_is. asked-by-fault bytes bytes fault result answer (front-of-itself bytes) reads fails told_is)
 
 -- at most one more piece was taken, and nothing was told
-pub left-untold : {D : Type 0} (door : Ghosts D) (before mid after : D) (bytes : List ℕ) (told : Option (Result RequestText RequestFault)) → Reading door before mid bytes → length bytes < HEAD_LIMIT + BODY_LIMIT
+pub left-untold : {D : Type 0} (door : Ghosts D) (before mid after : D) (bytes : List ℕ)
+    (told : Option (Result RequestText RequestFault)) → Reading door before mid bytes
+    → length bytes < HEAD_LIMIT + BODY_LIMIT
     → Tells (door.told mid) (λ facts. (count : ℕ) × (count ≤ PIECE) × (door.told after ≡ Some (after_read count facts)))
-    → ((answer : Result RequestText RequestFault) → told ≡ Some answer → ⊥) → Tells (door.told before) (λ facts. LeavesRest most-read facts (door.told after) told)
+    → ((answer : Result RequestText RequestFault) → told ≡ Some answer → ⊥)
+    → Tells (door.told before) (λ facts. LeavesRest most-read facts (door.told after) told)
 left-untold door before mid after bytes told had short more none facts is =
     let next = more (after_read (length bytes) facts) (had.facts facts is) in (
       length bytes + next.0,
@@ -274,8 +322,10 @@ left-untold door before mid after bytes told had short more none facts is =
     )
 
 -- no more bytes came
-pub left-at-end : {D : Type 0} (door : Ghosts D) (before mid after : D) (bytes : List ℕ) (count : ℕ) → Reading door before mid bytes → length bytes < HEAD_LIMIT + BODY_LIMIT → count ≤ PIECE
-    → Tells (door.told mid) (λ facts. door.told after ≡ Some (after_read count facts)) → Known (bytes_here (door.told mid)) (λ rest. length rest ≡ 0) → Reads bytes (Ok None)
+pub left-at-end : {D : Type 0} (door : Ghosts D) (before mid after : D) (bytes : List ℕ) (count : ℕ)
+    → Reading door before mid bytes → length bytes < HEAD_LIMIT + BODY_LIMIT → count ≤ PIECE
+    → Tells (door.told mid) (λ facts. door.told after ≡ Some (after_read count facts))
+    → Known (bytes_here (door.told mid)) (λ rest. length rest ≡ 0) → Reads bytes (Ok None)
     → Tells (door.told before) (λ facts. LeavesRest most-read facts (door.told after) (Some (Err BadHead)))
 left-at-end door before mid after bytes count had short within more ended reads facts is = (
   length bytes + count,
@@ -284,30 +334,41 @@ left-at-end door before mid after bytes count had short within more ended reads 
   λ all here answer told_is.
       let all_is : bytes_here (door.told before) ≡ Some all = here-of (door.told before) facts all is here in
       let none : length (drop (length bytes) all) ≡ 0 = ended (drop (length bytes) all) (had.read.rest all all_is) in
-      let whole : all ≡ take (length bytes + count) all = sym (take_all (length bytes + count) all (omega (arith, length-drop (length bytes) all, none))) in
-      subst (λ t. IsRequested t answer) whole (asked-at-end all bytes answer (had.read.front all all_is).1 none reads cc),
+      let whole : all ≡ take (length bytes + count) all =
+      sym (take_all (length bytes + count) all (omega (arith, length-drop (length bytes) all, none))) in
+      subst (λ t. IsRequested t answer) whole
+      (asked-at-end all bytes answer (had.read.front all all_is).1 none reads cc),
 )
 
 -- no more bytes than a head may have ask one thing, whatever they begin with
-one-short : (all : List ℕ) (one other : Begun) → nat_lt HEAD_LIMIT (length all) ≡ false → IsBegun all one → IsBegun all other → at_end (answer_of all one) ≡ at_end (answer_of all other)
-one-short all (Whole h) (Whole k) short x y = ap (λ t. at_end (answer_of all (Whole t))) (request_unique (head_room all) h k x.0 y.0 x.1 y.1).0
+one-short : (all : List ℕ) (one other : Begun) → nat_lt HEAD_LIMIT (length all) ≡ false → IsBegun all one
+    → IsBegun all other → at_end (answer_of all one) ≡ at_end (answer_of all other)
+one-short all (Whole h) (Whole k) short x y =
+    ap (λ t. at_end (answer_of all (Whole t))) (request_unique (head_room all) h k x.0 y.0 x.1 y.1).0
 one-short all (Whole h) Incomplete short x y = absurd (y.0 h x.0 x.1)
-one-short all (Whole h) Malformed short x y = absurd (y [] h (x.0 ++ []) (ReadsRequest-append (head_room all) h x.0 [] x.1))
+one-short all (Whole h) Malformed short x y =
+    absurd (y [] h (x.0 ++ []) (ReadsRequest-append (head_room all) h x.0 [] x.1))
 one-short all Incomplete (Whole h) short x y = absurd (x.0 h y.0 y.1)
 one-short all Incomplete Incomplete short x y = refl
 one-short all Incomplete Malformed short x y = rw short refl
-one-short all Malformed (Whole h) short x y = absurd (x [] h (y.0 ++ []) (ReadsRequest-append (head_room all) h y.0 [] y.1))
+one-short all Malformed (Whole h) short x y =
+    absurd (x [] h (y.0 ++ []) (ReadsRequest-append (head_room all) h y.0 [] y.1))
 one-short all Malformed Incomplete short x y = rw short refl
 one-short all Malformed Malformed short x y = refl
 
-one-end : (all : List ℕ) (test : Bool) (one other : Begun) → nat_lt HEAD_LIMIT (length all) ≡ test → IsBegun all one → IsBegun all other
-    → (at_end (answer_of all one) ≡ at_end (answer_of all other)) ⊎ (EndsInTarget (head_room all) × (HEAD_LIMIT < length all))
+one-end : (all : List ℕ) (test : Bool) (one other : Begun) → nat_lt HEAD_LIMIT (length all) ≡ test
+    → IsBegun all one → IsBegun all other
+    → (at_end (answer_of all one) ≡ at_end (answer_of all other))
+    ⊎ (EndsInTarget (head_room all) × (HEAD_LIMIT < length all))
 one-end all true one other is x y =
-    elim (one-thing all one other x y) [ inl e ↦ inl (ap (λ t. at_end (answer_of all t)) e) | inr t ↦ inr (t, ltb-true HEAD_LIMIT (length all) is) ]
+    elim (one-thing all one other x
+    y) [ inl e ↦ inl (ap (λ t. at_end (answer_of all t)) e) | inr t ↦ inr (t, ltb-true HEAD_LIMIT (length all) is) ]
 one-end all false one other is x y = inl (one-short all one other is x y)
 
 -- bytes ask one thing, but for an end within a target at the limit of a head
-pub asks-one : (all : List ℕ) (one other : Result RequestText RequestFault) → IsRequested all one → IsRequested all other
+pub asks-one : (all : List ℕ) (one other : Result RequestText RequestFault) → IsRequested all one
+    → IsRequested all other
     → (one ≡ other) ⊎ (EndsInTarget (head_room all) × (HEAD_LIMIT < length all))
 asks-one all one other x y =
-    elim (one-end all (nat_lt HEAD_LIMIT (length all)) x.0 y.0 refl x.1 y.1) [ inl e ↦ inl (x.2 ∙ e ∙ sym y.2) | inr t ↦ inr t ]
+    elim (one-end all
+    (nat_lt HEAD_LIMIT (length all)) x.0 y.0 refl x.1 y.1) [ inl e ↦ inl (x.2 ∙ e ∙ sym y.2) | inr t ↦ inr t ]

@@ -20,7 +20,8 @@ pub written-nothing : (before : Option DoorFacts) → Tells before (λ facts. be
 written-nothing before facts is = is ∙ ap Some (sym (after_write-nothing facts))
 
 -- a front, and some of what follows it
-longer-front : (bytes : List ℕ) (at n : ℕ) → take at bytes ++ take n (take (length bytes - at) (drop at bytes)) ≡ take (at + n) bytes
+longer-front : (bytes : List ℕ) (at n : ℕ)
+    → take at bytes ++ take n (take (length bytes - at) (drop at bytes)) ≡ take (at + n) bytes
 longer-front bytes at n = ap (λ t. take at bytes ++ take n t) (slice_rest at bytes) ∙ sym (take-add at n bytes)
 
 pub written-more : (before mid after : Option DoorFacts) (bytes : List ℕ) (at n : ℕ)
@@ -33,15 +34,20 @@ written-more before mid after bytes at n had more facts is =
     ∙ ap (λ t. Some (after_write t facts)) (longer-front bytes at n)
 
 pub written-front : (before mid after : Option DoorFacts) (bytes : List ℕ) (at : ℕ)
-    → Tells before (λ facts. mid ≡ Some (after_write (take at bytes) facts)) → after ≡ mid → WritesFront before after bytes
-written-front before mid after bytes at had same facts is = (take at bytes, drop at bytes, take-append-drop at bytes, same ∙ had facts is)
+    → Tells before (λ facts. mid ≡ Some (after_write (take at bytes) facts)) → after ≡ mid
+    → WritesFront before after bytes
+written-front before mid after bytes at had same facts is =
+    (take at bytes, drop at bytes, take-append-drop at bytes, same ∙ had facts is)
 
 pub written-all : (before after : Option DoorFacts) (bytes : List ℕ) (at : ℕ) → length bytes ≤ at
-    → Tells before (λ facts. after ≡ Some (after_write (take at bytes) facts)) → Tells before (λ facts. after ≡ Some (after_write bytes facts))
-written-all before after bytes at all had facts is = had facts is ∙ ap (λ t. Some (after_write t facts)) (take_all at bytes all)
+    → Tells before (λ facts. after ≡ Some (after_write (take at bytes) facts))
+    → Tells before (λ facts. after ≡ Some (after_write bytes facts))
+written-all before after bytes at all had facts is =
+    had facts is ∙ ap (λ t. Some (after_write t facts)) (take_all at bytes all)
 
 -- the rest of the bytes fits where all of them do
-pub rest-fits : (bytes : List ℕ) (at n : ℕ) → length bytes ≤ n → length (take (length bytes - at) (drop at bytes)) ≤ n - at
+pub rest-fits : (bytes : List ℕ) (at n : ℕ) → length bytes ≤ n
+    → length (take (length bytes - at) (drop at bytes)) ≤ n - at
 rest-fits bytes at n h = rw (slice_rest at bytes) (omega (arith, length-drop at bytes))
 
 pub front-nothing : (before : Option DoorFacts) (bytes : List ℕ) → WritesFront before before bytes

@@ -33,7 +33,9 @@ seen (Ok request) = Some (Ok (request_text request))
 seen (Err (Bytes fault)) = fault_seen fault
 seen (Err Connection) = None
 
--- of the bytes to come these at most were read, the rest is left, and what was told is asked by those that were read alone
+-- of the bytes to come these at most were read, the rest is left, and
+-- what was told is asked by those that were read alone
 abbrev pub LeavesRest : ℕ → DoorFacts → Option DoorFacts → Option (Result RequestText RequestFault) → Type 0
 LeavesRest most facts after told = (count : ℕ) × (count ≤ most) × (after ≡ Some (after_read count facts))
-    × Known facts.here (λ all. (answer : Result RequestText RequestFault) → told ≡ Some answer → IsRequested (take count all) answer)
+    × Known facts.here
+    (λ all. (answer : Result RequestText RequestFault) → told ≡ Some answer → IsRequested (take count all) answer)

@@ -1,5 +1,5 @@
--- What health checks look at of a member, and what they answer, by what its agent shows, the newest snapshot that it accepted, and the
--- value of the parameter lag.
+-- What health checks look at of a member, and what they answer, by what its agent
+-- shows, the newest snapshot that it accepted, and the value of the parameter lag.
 use Rattle.std.specs.Prelude.{ℕ, List, Option}
 use Rattle.rest_health.specs.declared.endpoint.Endpoint.{Endpoint}
 use Rattle.rest_health.specs.declared.facts.Facts.{Facts}

@@ -13,8 +13,8 @@ limit_of lag = option_and_then size_of lag
 abbrev pub status_on : Option SnapshotFacts → Option Lsn
 status_on seen = option_and_then status_in seen
 
--- a log lags no further than this: the end that the leader told minus its own end is at most the limit. A log that ends further on lags
--- by nothing, and so does each where the leader told nothing; no log lies below every end
+-- a log lags no further than this: the end that the leader told minus its own end is at most the limit. A log that
+-- ends further on lags by nothing, and so does each where the leader told nothing; no log lies below every end
 abbrev pub is_within : ℕ → Option Lsn → Option Lsn → Bool
 is_within limit None end = true
 is_within limit (Some status) None = false

@@ -30,7 +30,8 @@ TakesLoad view = (view.state ≡ states.Replica) × (view.tags.noloadbalance ≡
 
 -- a snapshot was accepted whose sync key names the member as a standby
 abbrev pub IsNamed : AgentView → Option SnapshotFacts → Type 0
-IsNamed view seen = (snapshot : SnapshotFacts) × (sync : SyncKey) × (seen ≡ Some snapshot) × (sync_in snapshot ≡ Some sync) × (is_standby view.me sync ≡ true)
+IsNamed view seen = (snapshot : SnapshotFacts) × (sync : SyncKey) × (seen ≡ Some snapshot)
+    × (sync_in snapshot ≡ Some sync) × (is_standby view.me sync ≡ true)
 
 -- where the query sets a limit and the leader told where its log ends, the own log ends at most so many bytes before
 abbrev pub KeepsUp : AgentView → Option SnapshotFacts → Option (List ℕ) → Type 0
@@ -44,7 +45,8 @@ allowed_span _ config = other_span config
 
 -- a turn of this incarnation began, the last one no longer ago than allowed
 abbrev pub TakesTurns : AgentView → Option SnapshotFacts → Type 0
-TakesTurns view seen = (turn : Ticks) × (view.last_turn ≡ Some turn) × (view.moment.0 ≤ turn.0 + allowed_span view.state (config_on seen))
+TakesTurns view seen =
+    (turn : Ticks) × (view.last_turn ≡ Some turn) × (view.moment.0 ≤ turn.0 + allowed_span view.state (config_on seen))
 
 -- the lag of the query counts on this path
 abbrev pub counts_lag : Endpoint → Bool

@@ -37,11 +37,14 @@ abbrev looks_for : ℕ → ℕ → ℕ → Bool
 looks_for holds fails word = bit_and word (bit_or holds fails) == holds
 
 -- a row that agrees with a test of facts at each word of eight bits does so at every word
-by-facts : (holds fails : ℕ) (test : Facts → Bool) → nat_lt (bit_or holds fails) 256 ≡ true → agree_below (looks_for holds fails) (λ word. test (facts_of word)) 256 ≡ true → (word : ℕ) → looks_for holds fails word ≡ test (facts_of word)
+by-facts : (holds fails : ℕ) (test : Facts → Bool) → nat_lt (bit_or holds fails) 256 ≡ true
+    → agree_below (looks_for holds fails) (λ word. test (facts_of word)) 256 ≡ true → (word : ℕ)
+    → looks_for holds fails word ≡ test (facts_of word)
 by-facts holds fails test small agrees word =
     let below : bit_or holds fails < 2 ^ 8 = ltb-true (bit_or holds fails) 256 small in
     ap (λ seen. seen == holds) (low-bits word (bit_or holds fails) below)
-    ∙ agree_below_at (looks_for holds fails) (λ word. test (facts_of word)) 256 (word % 2 ^ 8) agrees (mod-lt word (lit< tt))
+    ∙ agree_below_at (looks_for holds fails) (λ word. test (facts_of word)) 256 (word % 2 ^ 8) agrees
+    (mod-lt word (lit< tt))
     ∙ ap test (sym (low-facts word))
 
 -- a row for a primary with the leader key
@@ -53,24 +56,36 @@ pub load-row : (word : ℕ) → looks_for bits.replica bits.no_load_balance word
 load-row = by-facts bits.replica bits.no_load_balance takes_load refl refl
 
 -- a row for such a replica within the lag
-pub lag-row : (word : ℕ) → looks_for (bit_or bits.replica bits.within_lag) bits.no_load_balance word ≡ (takes_load (facts_of word) && (facts_of word).within_lag)
-lag-row = by-facts (bit_or bits.replica bits.within_lag) bits.no_load_balance (λ facts. takes_load facts && facts.within_lag) refl refl
+pub lag-row : (word : ℕ)
+    → looks_for (bit_or bits.replica bits.within_lag) bits.no_load_balance word
+    ≡ (takes_load (facts_of word) && (facts_of word).within_lag)
+lag-row = by-facts (bit_or bits.replica bits.within_lag) bits.no_load_balance
+    (λ facts. takes_load facts && facts.within_lag) refl refl
 
 -- a row for a synchronous standby
-pub sync-row : (word : ℕ) → looks_for (bit_or bits.replica bits.standby) bits.no_load_balance word ≡ is_sync (facts_of word)
+pub sync-row : (word : ℕ)
+    → looks_for (bit_or bits.replica bits.standby) bits.no_load_balance word ≡ is_sync (facts_of word)
 sync-row = by-facts (bit_or bits.replica bits.standby) bits.no_load_balance is_sync refl refl
 
 -- a row for an asynchronous standby within the lag
-pub async-row : (word : ℕ) → looks_for (bit_or bits.replica bits.within_lag) (bit_or bits.no_load_balance bits.standby) word ≡ is_async (facts_of word)
+pub async-row : (word : ℕ)
+    → looks_for (bit_or bits.replica bits.within_lag) (bit_or bits.no_load_balance bits.standby) word
+    ≡ is_async (facts_of word)
 async-row = by-facts (bit_or bits.replica bits.within_lag) (bit_or bits.no_load_balance bits.standby) is_async refl refl
 
 -- a row for a primary whose agent had a turn of late
-pub primary-turn-row : (word : ℕ) → looks_for (bit_or bits.primary bits.fresh_as_primary) 0 word ≡ ((facts_of word).primary && (facts_of word).fresh_as_primary)
-primary-turn-row = by-facts (bit_or bits.primary bits.fresh_as_primary) 0 (λ facts. facts.primary && facts.fresh_as_primary) refl refl
+pub primary-turn-row : (word : ℕ)
+    → looks_for (bit_or bits.primary bits.fresh_as_primary) 0 word
+    ≡ ((facts_of word).primary && (facts_of word).fresh_as_primary)
+primary-turn-row =
+    by-facts (bit_or bits.primary bits.fresh_as_primary) 0 (λ facts. facts.primary && facts.fresh_as_primary) refl refl
 
 -- a row for any other member whose agent had one
-pub other-turn-row : (word : ℕ) → looks_for bits.fresh_otherwise bits.primary word ≡ (not (facts_of word).primary && (facts_of word).fresh_otherwise)
-other-turn-row = by-facts bits.fresh_otherwise bits.primary (λ facts. not facts.primary && facts.fresh_otherwise) refl refl
+pub other-turn-row : (word : ℕ)
+    → looks_for bits.fresh_otherwise bits.primary word
+    ≡ (not (facts_of word).primary && (facts_of word).fresh_otherwise)
+other-turn-row =
+    by-facts bits.fresh_otherwise bits.primary (λ facts. not facts.primary && facts.fresh_otherwise) refl refl
 
 -- what each row of several facts looks for
 pub ruleset row_words = (leads-row, load-row, lag-row, sync-row, async-row, primary-turn-row, other-turn-row)

@@ -24,7 +24,13 @@ word_of facts =
 and-or : (a b mask : ℕ) → bit_and (bit_or a b) mask ≡ bit_or (bit_and a mask) (bit_and b mask)
 and-or a b mask =
     same_from_bits (bit_and (bit_or a b) mask) (bit_or (bit_and a mask) (bit_and b mask))
-    (λ i. rw (bit_at_and (bit_or a b) mask i, bit_at_or a b i, bit_at_or (bit_and a mask) (bit_and b mask) i, bit_at_and a mask i, bit_at_and b mask i) (omega arith))
+    (λ i. rw (
+      bit_at_and (bit_or a b) mask i,
+      bit_at_or a b i,
+      bit_at_or (bit_and a mask) (bit_and b mask) i,
+      bit_at_and a mask i,
+      bit_at_and b mask i,
+    ) (omega arith))
 
 -- what a mask sees of a bit
 and-bit_if : (holds : Bool) (bit mask : ℕ) → bit_and (bit_if holds bit) mask ≡ bit_if holds (bit_and bit mask)

@@ -1,4 +1,5 @@
--- The health of a member by path, in the words of Patroni (Patroni documentation, "Patroni REST API", "Health check endpoints").
+-- The health of a member by path, in the words of Patroni (Patroni
+-- documentation, "Patroni REST API", "Health check endpoints").
 use Rattle.std.specs.Prelude.{ℕ, Bool, ◌&&◌, ◌||◌, not, if◌then◌else◌}
 use Rattle.rest_health.specs.declared.endpoint.Endpoint.{Endpoint}
 use Rattle.rest_health.specs.declared.endpoint.Endpoint.TheVariants.{Root, Primary, ReadWrite, Leader, Replica, ReadOnly, Sync, Synchronous, ReadOnlySync, Async, Asynchronous, Health, Readiness, Liveness}

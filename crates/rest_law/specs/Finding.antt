@@ -21,9 +21,11 @@ use Rattle.cluster_model.specs.State.{Cluster}
 
 -- a request looks for the primary: it is a health check on '/', '/primary' or '/read-write'
 abbrev pub LooksForPrimary : RequestText → Type 0
-LooksForPrimary asked = (endpoint : Endpoint) × (told : Bool) × IsTrue (is_for_primaries endpoint) × (ask_of asked.verb (path_of asked.target) ≡ Health endpoint told)
+LooksForPrimary asked = (endpoint : Endpoint) × (told : Bool) × IsTrue (is_for_primaries endpoint)
+    × (ask_of asked.verb (path_of asked.target) ≡ Health endpoint told)
 
--- a request that looks for the primary finds this member of a cluster at this moment: its agent is there, and would answer 200
+-- a request that looks for the primary finds this member of a cluster
+-- at this moment: its agent is there, and would answer 200
 pub record IsFound (cluster : Cluster) (member : Member) : Type 0 where
   pub asked : RequestText
   pub looks : LooksForPrimary asked
@@ -36,4 +38,5 @@ pub record IsFound (cluster : Cluster) (member : Member) : Type 0 where
 -- behind this book at most one member of a head's cluster is found, whoever is asked
 abbrev pub FindsOne : HeadText → List Event → Type 0
 FindsOne head book =
-    (first second : Member) → IsFound (cluster_over (cluster_of head) book) first → IsFound (cluster_over (cluster_of head) book) second → first.id.number ≡ second.id.number
+    (first second : Member) → IsFound (cluster_over (cluster_of head) book) first
+    → IsFound (cluster_over (cluster_of head) book) second → first.id.number ≡ second.id.number

@@ -10,18 +10,22 @@ use Rattle.std.proofs.lemmas.Option.{cond_some, none-some}
 use Rattle.rest_message.specs.Targets.{is_separator, first_lag, lag_value, lag_in}
 
 -- one more parameter
-pub next-parameter : (query : List ℕ) (place : ℕ) → position is_separator query ≡ Some place → lag_in query ≡ option_or (lag_value (take place query)) (lag_in (drop (place + 1) query))
+pub next-parameter : (query : List ℕ) (place : ℕ) → position is_separator query ≡ Some place
+    → lag_in query ≡ option_or (lag_value (take place query)) (lag_in (drop (place + 1) query))
 next-parameter query place is =
     let first : ℕ = position_or_len is_separator query in
     let found = cond_some (nat_lt first (length query)) first place is in
     rw (← found.1) (ap first_lag (slice_split_first is_separator query 0 (ltb-true first (length query) found.0)))
 
-undivided : (found : Bool) (query : List ℕ) → nat_lt (position_or_len is_separator query) (length query) ≡ found → cond found (Some (position_or_len is_separator query)) None ≡ None → slice_split is_separator query ≡ query ∷ []
+undivided : (found : Bool) (query : List ℕ) → nat_lt (position_or_len is_separator query) (length query) ≡ found
+    → cond found (Some (position_or_len is_separator query)) None ≡ None → slice_split is_separator query ≡ query ∷ []
 undivided true query is none = absurd (none-some (position_or_len is_separator query) (sym none))
 undivided false query is none =
-    let past : length query ≤ position_or_len is_separator query = ltb-false (position_or_len is_separator query) (length query) is in
+    let past : length query ≤ position_or_len is_separator query =
+    ltb-false (position_or_len is_separator query) (length query) is in
     slice_split_none is_separator query
-    (All-from_get_or (λ byte. is_separator byte ≡ false) query 0 (λ place within. fails_before_first is_separator query place 0 (omega (arith, within, past))))
+    (All-from_get_or (λ byte. is_separator byte ≡ false) query 0
+    (λ place within. fails_before_first is_separator query place 0 (omega (arith, within, past))))
 
 or-none : (o : Option (List ℕ)) → option_or o None ≡ o
 or-none None = refl
@@ -30,14 +34,17 @@ or-none (Some value) = refl
 -- the last parameter
 pub last-parameter : (query : List ℕ) → position is_separator query ≡ None → lag_in query ≡ lag_value query
 last-parameter query is =
-    ap first_lag (undivided (nat_lt (position_or_len is_separator query) (length query)) query refl is) ∙ or-none (lag_value query)
+    ap first_lag (undivided (nat_lt (position_or_len is_separator query) (length query)) query refl is)
+    ∙ or-none (lag_value query)
 
 -- a value was found
-pub found-here : {A : Type 0} (g : A → List ℕ) (o : Option A) (later : Option (List ℕ)) → is_some o ≡ true → option_or (option_map g o) later ≡ option_map g o
+pub found-here : {A : Type 0} (g : A → List ℕ) (o : Option A) (later : Option (List ℕ)) → is_some o ≡ true
+    → option_or (option_map g o) later ≡ option_map g o
 found-here g None later some = absurd (false≢true some)
 found-here g (Some x) later some = refl
 
 -- none was
-pub found-later : {A : Type 0} (g : A → List ℕ) (o : Option A) (later : Option (List ℕ)) → is_some o ≡ false → option_or (option_map g o) later ≡ later
+pub found-later : {A : Type 0} (g : A → List ℕ) (o : Option A) (later : Option (List ℕ)) → is_some o ≡ false
+    → option_or (option_map g o) later ≡ later
 found-later g None later none = refl
 found-later g (Some x) later none = absurd (true≢false none)

@@ -37,7 +37,8 @@ with_lag_of lag members = put (codes "lag") (lag_value lag) members
 
 -- the members, with how far the member lags, where it isn't the leader
 abbrev pub with_lag : ClusterKeys → Row → Members → Members
-with_lag keys row members = if leads row.member keys.leader then members else put (codes "lag") (lag_data keys.status row.info.end) members
+with_lag keys row members =
+    if leads row.member keys.leader then members else put (codes "lag") (lag_data keys.status row.info.end) members
 
 -- the members, with a timeline, where it is known
 abbrev pub with_timeline : Option ℕ → Members → Members

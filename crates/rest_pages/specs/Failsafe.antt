@@ -1,4 +1,5 @@
--- `/failsafe`: whom the leader may ask while the key store is out of reach (Patroni documentation, "DCS Failsafe Mode").
+-- `/failsafe`: whom the leader may ask while the key store is out of
+-- reach (Patroni documentation, "DCS Failsafe Mode").
 use Rattle.std.specs.Prelude.{ℕ, Bool, false, if◌then◌else◌, List, fold, Option, Some, None}
 use Rattle.std.specs.List.{filter_map, range_with_len}
 use Rattle.serde_json.specs.Data.{Data, object, string, Members, no_members, put}
@@ -48,4 +49,5 @@ host_members members = fold with_host no_members members
 -- the page, where failsafe mode is on: the hosts of the members in the failsafe key, at their names
 abbrev pub failsafe_data : SnapshotFacts → Option Data
 failsafe_data snapshot =
-    if (config_in snapshot).failsafe_mode then Some (object (host_members (listed_of snapshot (failsafe_in snapshot)))) else None
+    if (config_in snapshot).failsafe_mode
+    then Some (object (host_members (listed_of snapshot (failsafe_in snapshot)))) else None

@@ -19,7 +19,8 @@ with_leader items (Some leader) = items ++ string (name_bytes leader.0) ∷ []
 -- the timeline, where, why and when it ended, and who took over
 abbrev pub ending_items : SnapshotFacts → HistoryRow → List Data
 ending_items snapshot row =
-    with_leader (natural row.timeline ∷ natural row.at.position ∷ string end_reason ∷ natural row.tick.0 ∷ []) (declared_in snapshot row.leader)
+    with_leader (natural row.timeline ∷ natural row.at.position ∷ string end_reason ∷ natural row.tick.0 ∷ [])
+    (declared_in snapshot row.leader)
 
 -- a row of the page, as a list
 abbrev pub ending_data : SnapshotFacts → HistoryRow → Data

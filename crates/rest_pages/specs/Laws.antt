@@ -10,5 +10,6 @@ use Rattle.member_rows.specs.Rows.{declared_in}
 -- no other member of the cluster has the member's name
 abbrev pub HasOwnName : SnapshotFacts → MemberId → Type 0
 HasOwnName snapshot member =
-    (other : MemberId) (mine its : Name × Host) → declared_in snapshot member ≡ Some mine → declared_in snapshot other ≡ Some its
+    (other : MemberId) (mine its : Name × Host) → declared_in snapshot member ≡ Some mine
+    → declared_in snapshot other ≡ Some its
     → name_bytes its.0 ≡ name_bytes mine.0 → other.number ≡ member.number

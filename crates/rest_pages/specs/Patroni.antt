@@ -21,7 +21,8 @@ use Rattle.rest_pages.specs.Tags.{with_tags}
 
 -- the member and its cluster
 abbrev pub named_members : Name → Name → Members
-named_members name scope = put (codes "scope") (string (name_bytes scope)) (put (codes "name") (string (name_bytes name)) no_members)
+named_members name scope =
+    put (codes "scope") (string (name_bytes scope)) (put (codes "name") (string (name_bytes name)) no_members)
 
 -- the newest snapshot, if there is one, pauses the cluster
 abbrev pub pauses : Option SnapshotFacts → Bool
@@ -60,7 +61,8 @@ with_last_read (Some tick) members = put (codes "dcs_last_seen") (natural tick.0
 
 -- the members, with that the server streams, where it does
 abbrev pub with_streaming : State → Bool → Members → Members
-with_streaming state receives members = where_so (streams state receives) (codes "replication_state") (string (codes "streaming")) members
+with_streaming state receives members =
+    where_so (streams state receives) (codes "replication_state") (string (codes "streaming")) members
 
 -- where the log of a primary ends
 abbrev pub location_members : Lsn → Members
@@ -68,7 +70,8 @@ location_members end = put (codes "location") (natural end.position) no_members
 
 -- where the log of a replica ends, which has replayed all that it received
 abbrev pub replica_members : Lsn → Members
-replica_members end = put (codes "replayed_location") (natural end.position) (put (codes "received_location") (natural end.position) no_members)
+replica_members end = put (codes "replayed_location") (natural end.position)
+    (put (codes "received_location") (natural end.position) no_members)
 
 -- the members, with where the log ends of a server that runs
 abbrev pub with_position : State → Lsn → Members → Members

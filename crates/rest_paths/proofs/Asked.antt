@@ -21,8 +21,10 @@ take-next n byte rest =
     let same : 1 + n ≡ suc n = omega arith in
     rw same refl
 
-path-by : (plain : Bool) (byte n m : ℕ) (longer target : List ℕ) → take n longer ≡ take m target → take (cond plain (1 + n) 0) (byte ∷ longer) ≡ take (cond plain (1 + m) 0) (byte ∷ target)
-path-by true byte n m longer target same = take-next n byte longer ∙ (ap (λ rest. byte ∷ rest) same ∙ sym (take-next m byte target))
+path-by : (plain : Bool) (byte n m : ℕ) (longer target : List ℕ) → take n longer ≡ take m target
+    → take (cond plain (1 + n) 0) (byte ∷ longer) ≡ take (cond plain (1 + m) 0) (byte ∷ target)
+path-by true byte n m longer target same =
+    take-next n byte longer ∙ (ap (λ rest. byte ∷ rest) same ∙ sym (take-next m byte target))
 path-by false byte n m longer target same = refl
 
 -- the path stands before the first question mark
@@ -31,10 +33,12 @@ path_of-query [] query = refl
 path_of-query (byte ∷ target) query =
     path-by (not (is_query_sign byte)) byte _ _ (target ++ (codes "?" ++ query)) target (path_of-query target query)
 
-unknown-by : (found : Option Resource) (verb : Verb) (path : List ℕ) → resource_at path ≡ found → (IsKnown path → ⊥) → ask_where verb found ≡ NotFound
+unknown-by : (found : Option Resource) (verb : Verb) (path : List ℕ) → resource_at path ≡ found
+    → (IsKnown path → ⊥) → ask_where verb found ≡ NotFound
 unknown-by None verb path is unknown = refl
 unknown-by (Some resource) verb path is unknown =
-    absurd (unknown (Contains-keys_from_lookup (λ x y e. (bytes_eq-Decides x y).0 e) path path_table (subst (λ found. IsSome found) (sym is) refl)))
+    absurd (unknown (Contains-keys_from_lookup (λ x y e. (bytes_eq-Decides x y).0 e) path path_table
+    (subst (λ found. IsSome found) (sym is) refl)))
 
 pub ask_of-unknown : (verb : Verb) (path : List ℕ) → (IsKnown path → ⊥) → ask_of verb path ≡ NotFound
 ask_of-unknown verb path unknown = unknown-by (resource_at path) verb path refl unknown

@@ -35,7 +35,8 @@ module _ {K : Type 0} where
   own-lookup ((token ∷ text, key) ∷ rows) = own-lookup rows
 
   -- no row goes on with a token of a parameter
-  no-step : (parameter : ℕ) → param_token ≤ parameter → (rows : RowsOf K) → IsTrue (are_literal rows) → step parameter rows ≡ []
+  no-step : (parameter : ℕ) → param_token ≤ parameter → (rows : RowsOf K) → IsTrue (are_literal rows)
+      → step parameter rows ≡ []
   no-step parameter above [] all = refl
   no-step parameter above (([], key) ∷ rows) all = no-step parameter above rows (both true (are_literal rows) all).1
   no-step parameter above ((token ∷ text, key) ∷ rows) all =
@@ -43,7 +44,8 @@ module _ {K : Type 0} where
       let here = both (is_byte token) (list_all is_byte text) row.0 in
       rw (no-parameter token parameter here.0 above) (no-step parameter above rows row.1)
 
-  kept-literal : (here : Bool) (text : List ℕ) (key : K) (later : RowsOf K) → IsTrue (list_all is_byte text) → IsTrue (are_literal later) → IsTrue (are_literal (cond here ((text, key) ∷ later) later))
+  kept-literal : (here : Bool) (text : List ℕ) (key : K) (later : RowsOf K) → IsTrue (list_all is_byte text)
+      → IsTrue (are_literal later) → IsTrue (are_literal (cond here ((text, key) ∷ later) later))
   kept-literal true text key later good rest = rw (good, rest) refl
   kept-literal false text key later good rest = rest
 
@@ -56,7 +58,10 @@ module _ {K : Type 0} where
       let here = both (is_byte token) (list_all is_byte text) row.0 in
       kept-literal (token == byte) text key (step byte rows) here.1 (step-literal byte rows row.1)
 
-  found-by : (here : Bool) (byte : ℕ) (text path : List ℕ) (key : K) (rows later : RowsOf K) → lookup (byte ∷ path) rows ≡ lookup path later → cond (here && same_text text path) (Some key) (lookup (byte ∷ path) rows) ≡ lookup path (cond here ((text, key) ∷ later) later)
+  found-by : (here : Bool) (byte : ℕ) (text path : List ℕ) (key : K) (rows later : RowsOf K)
+      → lookup (byte ∷ path) rows ≡ lookup path later
+      → cond (here && same_text text path) (Some key) (lookup (byte ∷ path) rows)
+      ≡ lookup path (cond here ((text, key) ∷ later) later)
   found-by true byte text path key rows later same = rw same refl
   found-by false byte text path key rows later same = same
 
@@ -64,7 +69,8 @@ module _ {K : Type 0} where
   lookup-step : (byte : ℕ) (path : List ℕ) (rows : RowsOf K) → lookup (byte ∷ path) rows ≡ lookup path (step byte rows)
   lookup-step byte path [] = refl
   lookup-step byte path (([], key) ∷ rows) = lookup-step byte path rows
-  lookup-step byte path ((token ∷ text, key) ∷ rows) = found-by (token == byte) byte text path key rows (step byte rows) (lookup-step byte path rows)
+  lookup-step byte path ((token ∷ text, key) ∷ rows) =
+      found-by (token == byte) byte text path key rows (step byte rows) (lookup-step byte path rows)
 
   param_step-nothing : (path : List ℕ) → (param_step {K = K} [] path).1 ≡ []
   unfolding param_step
@@ -81,15 +87,19 @@ module _ {K : Type 0} where
   seek-nothing (suc skip) (byte ∷ path) = seek-nothing skip path
   seek-nothing zero (byte ∷ path) = rw (seek-nothing 0 path, param_step-nothing (byte ∷ path), seek-nothing _ path) refl
 
-  seek-step : (rows : RowsOf K) (byte : ℕ) (path : List ℕ) → step param_token rows ≡ [] → step catch_all_token rows ≡ [] → seek 0 rows (byte ∷ path) ≡ seek 0 (step byte rows) path
+  seek-step : (rows : RowsOf K) (byte : ℕ) (path : List ℕ) → step param_token rows ≡ []
+      → step catch_all_token rows ≡ [] → seek 0 rows (byte ∷ path) ≡ seek 0 (step byte rows) path
   unfolding seek
   seek-step rows byte path no_param no_rest =
-      rw (no_param, no_rest, param_step-nothing (byte ∷ path), seek-nothing _ path) (or_else-nothing (seek 0 (step byte rows) path))
+      rw (no_param, no_rest, param_step-nothing (byte ∷ path), seek-nothing _ path)
+      (or_else-nothing (seek 0 (step byte rows) path))
 
   -- what is found by walking is what is there byte for byte
-  pub seek-lookup : (rows : RowsOf K) → IsTrue (are_literal rows) → (path : List ℕ) → seek 0 rows path ≡ lookup path rows
+  pub seek-lookup : (rows : RowsOf K) → IsTrue (are_literal rows) → (path : List ℕ)
+      → seek 0 rows path ≡ lookup path rows
   unfolding seek
   seek-lookup rows all [] = own-lookup rows
   seek-lookup rows all (byte ∷ path) =
-      seek-step rows byte path (no-step param_token (omega arith) rows all) (no-step catch_all_token (omega arith) rows all)
+      seek-step rows byte path (no-step param_token (omega arith) rows all)
+      (no-step catch_all_token (omega arith) rows all)
       ∙ (seek-lookup (step byte rows) (step-literal byte rows all) path ∙ sym (lookup-step byte path rows))

@@ -22,7 +22,8 @@ health_ask verbs.Head endpoint = asks.Health endpoint false
 health_ask verbs.Options endpoint = asks.Health endpoint false
 health_ask _ endpoint = asks.NotAllowed
 
--- a page is told by GET; the configuration is changed, by PATCH or PUT, and POST asks the member to let another one stay primary
+-- a page is told by GET; the configuration is changed, by PATCH or
+-- PUT, and POST asks the member to let another one stay primary
 abbrev pub page_ask : Verb → Page → Ask
 page_ask verbs.Get page = asks.Page page
 page_ask verbs.Patch pages.Config = asks.Change changes.PatchConfiguration

@@ -23,10 +23,13 @@ field-length : (f : Field) → IsField f → LEAST_FIELD ≤ length (print_field
 field-length f is = simp length-append (omega (arith, is.name.0, end-length f.end))
 
 -- each field has a name of one byte, a colon and a line end
-fields-length : (fields : List Field) → All IsField fields → LEAST_FIELD * length fields ≤ length (flat_map print_field fields)
+fields-length : (fields : List Field) → All IsField fields
+    → LEAST_FIELD * length fields ≤ length (flat_map print_field fields)
 fields-length [] are = omega arith
 fields-length (f ∷ fields) are =
-    rw length-append (omega (arith, field-length f (All-head IsField f fields are), fields-length fields (All-tail IsField f fields are)))
+    rw length-append
+    (omega
+    (arith, field-length f (All-head IsField f fields are), fields-length fields (All-tail IsField f fields are)))
 
 head-length : (h : RequestHead) → IsRequestHead h → LEAST_FIELD * length h.fields ≤ length (print_request h)
 unfolding print_request
@@ -45,9 +48,11 @@ not-too-many room most many exceeds =
     )
 
 -- a whole head was read
-pub complete : (bytes room rest : List ℕ) (headers : List HeaderSpan) (spans : RequestSpans) (result : Result (Option Request) RequestFault)
+pub complete : (bytes room rest : List ℕ) (headers : List HeaderSpan) (spans : RequestSpans)
+    (result : Result (Option Request) RequestFault)
     → room ≡ head_room bytes → rest ≡ drop spans.len bytes → IsRequestOf room headers spans
-    → ((h : RequestHead) → IsRequestAt room headers spans h → Answers result (answer_by h rest (content_length (map name_and_value h.fields))))
+    → ((h : RequestHead) → IsRequestAt room headers spans h →
+    Answers result (answer_by h rest (content_length (map name_and_value h.fields))))
     → Reads bytes result
 complete bytes room rest headers spans result is rest_is whole answers ok =
     (Whole whole.0, (_, rw is at whole.1.reads), rw (rest_is, whole.1.len) at (answers whole.0 whole.1 ok))

@@ -56,4 +56,5 @@ answer_of bytes Malformed = Err BadHead
 
 -- this is answered to the bytes by what they begin with, unless memory was wanting
 abbrev pub Reads : List ℕ → Result (Option Request) RequestFault → Type 0
-Reads bytes result = result ≢ Err Memory → (begun : Begun) × IsBegun bytes begun × (answer_seen result ≡ answer_of bytes begun)
+Reads bytes result =
+    result ≢ Err Memory → (begun : Begun) × IsBegun bytes begun × (answer_seen result ≡ answer_of bytes begun)

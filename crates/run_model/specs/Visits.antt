@@ -15,7 +15,8 @@ use Rattle.run_model.specs.Run.{Played}
 abbrev pub after_steps : Cluster → List Step → Cluster
 after_steps cluster steps = cluster_over cluster (run_events cluster steps)
 
--- the steps that connections to the agent of the member of this number bring, each from the cluster that those before it leave
+-- the steps that connections to the agent of the member of this number
+-- bring, each from the cluster that those before it leave
 abbrev pub visits_steps : Cluster → MemberId → List Connection → List Step
 visits_steps cluster id [] = []
 visits_steps cluster id (visitor ∷ more) =
@@ -28,4 +29,5 @@ served_steps cluster steps id visitors = steps ++ visits_steps (after_steps clus
 
 -- what is played of a script with connections behind it
 abbrev pub served_of : ScriptText → MemberId → List Connection → Played
-served_of script id visitors = record { head = script.head; steps = served_steps (cluster_of script.head) (steps_of script.body) id visitors }
+served_of script id visitors =
+    record { head = script.head; steps = served_steps (cluster_of script.head) (steps_of script.body) id visitors }

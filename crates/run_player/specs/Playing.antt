@@ -26,28 +26,32 @@ abbrev pub player_of : {W : Type 0} → (W → WorldFacts) → Player W → Play
 player_of facts player = record { world = facts player.world; trace = player.trace; summary = player.summary }
 
 -- the lines of the first of these steps were printed, each step's whole, and nothing else
-pub record PrintsWholeSteps {K : Type 0} (sink : Ghosts K) (out then : K) (cluster : Cluster) (trace : Bool) (steps : List Step) : Type 0 where
+pub record PrintsWholeSteps {K : Type 0} (sink : Ghosts K) (out then : K) (cluster : Cluster) (trace : Bool)
+    (steps : List Step) : Type 0 where
   pub done : List Step
   pub more : List Step
   pub parts : done ++ more ≡ steps
   pub grew : Grew (sink.content out) (sink.content then) (printed_from cluster trace done)
 
--- the player took these steps: its world, its trace and its summary are what they leave, its world counts them, and their lines were
--- printed; where memory is wanting, those of the first of them, whole
-pub record Plays {K X : Type 0} (sink : Ghosts K) (before after : PlayerFacts) (out then : K) (result : Result X PrintError) (steps : List Step) : Type 0 where
-  pub world : OnOk result (after.world.cluster ≡ cluster_over before.world.cluster (run_events before.world.cluster steps))
+-- the player took these steps: its world, its trace and its summary are what they leave, its world
+-- counts them, and their lines were printed; where memory is wanting, those of the first of them, whole
+pub record Plays {K X : Type 0} (sink : Ghosts K) (before after : PlayerFacts) (out then : K)
+    (result : Result X PrintError) (steps : List Step) : Type 0 where
+  pub world : OnOk result
+      (after.world.cluster ≡ cluster_over before.world.cluster (run_events before.world.cluster steps))
   pub trace : OnOk result (after.trace ≡ traced_over before.trace steps)
   pub summary : OnOk result (after.summary ≡ noted_from before.summary before.world.cluster steps)
   pub taken : OnOk result (TookSteps before.world after.world (length steps))
   pub printed : Prints sink out then Write result (printed_from before.world.cluster before.trace steps)
   pub whole : IsErrOf result Memory → PrintsWholeSteps sink out then before.world.cluster before.trace steps
 
--- of so many ticks of one kind the player took some at once, and these are left: the world, which counts the steps, and the summary are
--- what these leave, each of which brought its tick and nothing else
+-- of so many ticks of one kind the player took some at once, and these are left: the world, which counts
+-- the steps, and the summary are what these leave, each of which brought its tick and nothing else
 pub record Idles (before after : PlayerFacts) (step : Step) (count left : ℕ) : Type 0 where
   pub within : left ≤ count
   pub ticks : BringsTicks before.world.cluster step (count - left)
-  pub world : after.world.cluster ≡ cluster_over before.world.cluster (run_events before.world.cluster (replicate (count - left) step))
+  pub world : after.world.cluster
+      ≡ cluster_over before.world.cluster (run_events before.world.cluster (replicate (count - left) step))
   pub trace : after.trace ≡ before.trace
   pub summary : after.summary ≡ noted_from before.summary before.world.cluster (replicate (count - left) step)
   pub taken : TookSteps before.world after.world (count - left)

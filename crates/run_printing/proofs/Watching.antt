@@ -6,7 +6,8 @@ use Rattle.summary_model.specs.declared.answers.WatchOf.{WatchOf}
 use Rattle.pat_base.proofs.Lists.{drop-get}
 
 -- one watchdog more
-pub watches-more : (all done longer : List WatchOf) (place : ℕ) (watchdog : WatchOf) → done ++ drop place all ≡ all → slice_get all place ≡ Some watchdog → longer ≡ done ++ watchdog ∷ [] → longer ++ drop (place + 1) all ≡ all
+pub watches-more : (all done longer : List WatchOf) (place : ℕ) (watchdog : WatchOf) → done ++ drop place all ≡ all
+    → slice_get all place ≡ Some watchdog → longer ≡ done ++ watchdog ∷ [] → longer ++ drop (place + 1) all ≡ all
 watches-more all done longer place watchdog so is more =
     ap (λ l. l ++ drop (place + 1) all) more
     ∙ append_assoc done (watchdog ∷ []) (drop (place + 1) all)

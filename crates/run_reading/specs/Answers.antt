@@ -32,13 +32,16 @@ never_or never front words = if bytes_eq words never then Some None else moment_
 -- a moment behind a front, with the cause behind it
 abbrev pub caused_at : List ℕ × Option (List ℕ) → Option (Option ℕ)
 caused_at (tick, None) = None
-caused_at (tick, Some cause) = if starts_with nat_eq cause (codes "by ") then option_map (λ n. Some n) (number tick) else None
+caused_at (tick, Some cause) =
+    if starts_with nat_eq cause (codes "by ") then option_map (λ n. Some n) (number tick) else None
 
 -- the moment that an answer tells, if the words are one: when it broke, or first was so
 abbrev pub moment_of : Answer → List ℕ → Option (Option ℕ)
 moment_of answers.End words = moment_behind (codes "") words
-moment_of answers.Premises words = if bytes_eq words (codes "met") then Some None else option_and_then (λ rest. caused_at (cut_word rest)) (behind (codes "broken at ") words)
-moment_of answers.Synchronous words = if bytes_eq words (codes "on") then Some None else never_or (codes "off") (codes "broken at ") words
+moment_of answers.Premises words = if bytes_eq words (codes "met") then Some None
+    else option_and_then (λ rest. caused_at (cut_word rest)) (behind (codes "broken at ") words)
+moment_of answers.Synchronous words =
+    if bytes_eq words (codes "on") then Some None else never_or (codes "off") (codes "broken at ") words
 moment_of answers.TwoWriters words = never_or (codes "never") (codes "first at ") words
 moment_of answers.Writers words = Some None
 moment_of answers.Acknowledged words = option_map (λ n. None) (number words)
@@ -51,7 +54,8 @@ begins_as line answer = starts_with nat_eq line (front_of answer)
 -- what the words of an answer tell
 abbrev pub answered_as : Option Answer → List ℕ → Option Answered
 answered_as None line = None
-answered_as (Some answer) line = option_map (λ moment. record { answer = answer; moment = moment }) (option_and_then (moment_of answer) (behind (front_of answer) line))
+answered_as (Some answer) line = option_map (λ moment. record { answer = answer; moment = moment })
+    (option_and_then (moment_of answer) (behind (front_of answer) line))
 
 -- what a line answers, if it is one of a closing summary
 abbrev pub answered_of : List ℕ → Option Answered

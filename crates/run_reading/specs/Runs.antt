@@ -12,8 +12,8 @@ use Rattle.run_reading.specs.declared.told.Told.{Told}
 use Rattle.run_reading.specs.Answers.{answered_of}
 use Rattle.run_reading.specs.Told.{told_of}
 
--- a line that is drawn: its moment; how far behind the start that is, where no stretch without lines is longer than it may be; the lane of
--- whom it speaks of, or none where it speaks of a commit; what it tells; and its bytes
+-- a line that is drawn: its moment; how far behind the start that is, where no stretch without lines is longer
+-- than it may be; the lane of whom it speaks of, or none where it speaks of a commit; what it tells; and its bytes
 pub record SightText : Type 0 where
   pub tick : ℕ
   pub offset : ℕ
@@ -26,8 +26,8 @@ pub record AnswerText : Type 0 where
   pub answered : Answered
   pub line : List ℕ
 
--- what is drawn of a run: of whom in which order, the lines with a moment, the answers of the summary, how many other lines there are,
--- and where the last line with a moment stands
+-- what is drawn of a run: of whom in which order, the lines with a moment, the answers of
+-- the summary, how many other lines there are, and where the last line with a moment stands
 pub record RunText : Type 0 where
   pub names : List Name
   pub sights : List SightText
@@ -55,12 +55,22 @@ offset_after offset ticks = min (offset + min ticks LONGEST_STRETCH) MOST_OFFSET
 -- what a line tells, in this lane
 abbrev pub sight_of : RunText → Told → Option ℕ → List ℕ → SightText
 sight_of run told lane line =
-    record { tick = told.tick; offset = offset_after run.offset (told.tick - run.tick); lane = lane; happening = told.happening; line = line }
+    record {
+      tick = told.tick;
+      offset = offset_after run.offset (told.tick - run.tick);
+      lane = lane;
+      happening = told.happening;
+      line = line;
+    }
 
 -- with a line that is drawn in this lane
 abbrev pub with_sight : RunText → Told → Option ℕ → List ℕ → RunText
 with_sight run told lane line =
-    record run { sights = run.sights ++ sight_of run told lane line ∷ []; tick = told.tick; offset = offset_after run.offset (told.tick - run.tick) }
+    record run {
+      sights = run.sights ++ sight_of run told lane line ∷ [];
+      tick = told.tick;
+      offset = offset_after run.offset (told.tick - run.tick);
+    }
 
 -- the lane of this name, if it has one
 abbrev pub lane_of : List Name → Name → Option ℕ
@@ -70,7 +80,9 @@ lane_of names name = position (λ other. bytes_eq (name_bytes other) (name_bytes
 abbrev pub in_lane : RunText → Told → Name → List ℕ → Option ℕ → RunText
 in_lane run told name line (Some lane) = with_sight run told (Some lane) line
 in_lane run told name line None =
-    if nat_lt (length run.names) MOST_LANES then with_sight (record run { names = run.names ++ name ∷ [] }) told (Some (length run.names)) line else leave_out run
+    if nat_lt (length run.names) MOST_LANES
+    then with_sight (record run { names = run.names ++ name ∷ [] }) told (Some (length run.names)) line
+    else leave_out run
 
 -- a line of this name, or of a commit
 abbrev pub with_named : RunText → Told → List ℕ → Option Name → RunText
@@ -85,7 +97,8 @@ with_told run line told = if nat_lt told.tick run.tick then leave_out run else w
 abbrev pub with_answer : RunText → List ℕ → Option Answered → RunText
 with_answer run line None = leave_out run
 with_answer run line (Some answered) =
-    if nat_lt (length run.answers) MOST_ANSWERS then record run { answers = run.answers ++ record { answered = answered; line = line } ∷ [] } else leave_out run
+    if nat_lt (length run.answers) MOST_ANSWERS
+    then record run { answers = run.answers ++ record { answered = answered; line = line } ∷ [] } else leave_out run
 
 -- with a line by what it tells
 abbrev pub with_line : RunText → List ℕ → Option Told → RunText

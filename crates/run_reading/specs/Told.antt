@@ -41,11 +41,13 @@ commits_on tick (Some server) = Some (of_nobody tick Commits)
 
 -- the server of a commit, behind its number
 abbrev pub committed_on : List ℕ → Option Name
-committed_on words = option_and_then name_of (option_and_then (behind (codes "bytes on ")) (option_and_then behind_number (behind (codes "of ") words)))
+committed_on words = option_and_then name_of
+    (option_and_then (behind (codes "bytes on ")) (option_and_then behind_number (behind (codes "of ") words)))
 
 -- what is told of a commit behind its number
 abbrev pub told_of_commit : ℕ → List ℕ → Option Told
-told_of_commit tick words = if bytes_eq words (codes "is acknowledged") then Some (of_nobody tick IsAcknowledged) else commits_on tick (committed_on words)
+told_of_commit tick words = if bytes_eq words (codes "is acknowledged")
+    then Some (of_nobody tick IsAcknowledged) else commits_on tick (committed_on words)
 
 -- the name that ends at the first blank, where these words follow
 abbrev pub name_before : List ℕ → List ℕ × Option (List ℕ) → Option Name
@@ -67,15 +69,19 @@ behind_kind words = first_of (behind_of words) (option_and_then behind_of (cut_w
 
 -- what is told of the leader key
 abbrev pub told_of_key : ℕ → List ℕ → Option Told
-told_of_key tick words = option_and_then (λ rest. of_named tick KeyExpires (name_before (codes "expires") (cut_word rest))) (behind (codes "leader key of ") words)
+told_of_key tick words =
+    option_and_then (λ rest. of_named tick KeyExpires (name_before (codes "expires") (cut_word rest)))
+    (behind (codes "leader key of ") words)
 
 -- what is told of a request
 abbrev pub told_of_request : ℕ → List ℕ → Option Told
-told_of_request tick words = option_and_then (λ rest. of_named tick IsRefused (name_before (codes "is refused, ") (cut_word rest))) (behind_kind words)
+told_of_request tick words = option_and_then
+    (λ rest. of_named tick IsRefused (name_before (codes "is refused, ") (cut_word rest))) (behind_kind words)
 
 -- what words tell that begin with the number of a commit
 abbrev pub told_of_numbered : ℕ → List ℕ → Option Told
-told_of_numbered tick words = option_and_then (told_of_commit tick) (option_and_then behind_number (behind (codes "commit ") words))
+told_of_numbered tick words =
+    option_and_then (told_of_commit tick) (option_and_then behind_number (behind (codes "commit ") words))
 
 -- what words tell of the key store
 abbrev pub told_of_store : ℕ → List ℕ → Option Told
@@ -83,7 +89,8 @@ told_of_store tick words = first_of (told_of_key tick words) (told_of_request ti
 
 -- what words tell that begin with no name
 abbrev pub told_unnamed : ℕ → List ℕ → Option Told
-told_unnamed tick words = first_of (told_of_numbered tick words) (option_and_then (told_of_store tick) (behind (codes "the ") words))
+told_unnamed tick words =
+    first_of (told_of_numbered tick words) (option_and_then (told_of_store tick) (behind (codes "the ") words))
 
 -- what a name and the words behind it tell
 abbrev pub told_by_name : ℕ → List ℕ × Option (List ℕ) → Option Told

@@ -21,8 +21,10 @@ use Rattle.run_player.specs.Playing.{PrintsWholeSteps}
 use Rattle.run_model.specs.Run.{lines_of_run, text_of_run}
 use Rattle.run_model.specs.Visits.{after_steps, served_of}
 
--- a connection with these bytes, in this cluster: it asks what they say, unless a read failed, and this was sent of what was due
-pub record IsServed (cluster : Cluster) (id : MemberId) (bytes : List ℕ) (visitor : Connection) (sent : List ℕ) : Type 0 where
+-- a connection with these bytes, in this cluster: it asks what they
+-- say, unless a read failed, and this was sent of what was due
+pub record IsServed (cluster : Cluster) (id : MemberId) (bytes : List ℕ) (visitor : Connection) (sent : List ℕ) : Type
+    0 where
   pub asks : visitor.course ≢ Unread → IsRead bytes visitor.asks
   pub sends : IsSent visitor.course (bytes_due cluster id visitor) sent
 
@@ -30,29 +32,40 @@ pub record IsServed (cluster : Cluster) (id : MemberId) (bytes : List ℕ) (visi
 abbrev pub AreServed : Cluster → MemberId → List Connection → DoorFacts → DoorFacts → Type 0
 AreServed cluster id [] facts then = then ≡ facts
 AreServed cluster id (visitor ∷ more) facts then =
-    (bytes : List ℕ) × (coming : List (List ℕ)) × (sent : List ℕ) × (facts.coming ≡ bytes ∷ coming) × IsServed cluster id bytes visitor sent
-    × AreServed (after_steps cluster (steps_of_connection cluster id visitor)) id more (record { coming = coming; here = None; answered = facts.answered ++ sent ∷ [] }) then
+    (bytes : List ℕ) × (coming : List (List ℕ)) × (sent : List ℕ) × (facts.coming ≡ bytes ∷ coming)
+    × IsServed cluster id bytes visitor sent
+    × AreServed (after_steps cluster (steps_of_connection cluster id visitor)) id more
+    (record { coming = coming; here = None; answered = facts.answered ++ sent ∷ [] }) then
 
 -- no read or write of these connections failed
 abbrev pub AreWhole : List Connection → Type 0
 AreWhole visitors = All (λ visitor. visitor.course ≡ Whole) visitors
 
--- of connections that were to be so many these came to a door: where it tells that, they were its next ones, unless memory was wanting. None
--- of them failed where it counts no fault of theirs, and all came where it serves as many
-pub record Came {D X : Type 0} (door : DoorGhosts D) (was now : D) (result : Result X ServeError) (cluster : Cluster) (id : MemberId) (count : ℕ) (visitors : List Connection) : Type 0 where
-  pub told : result ≢ Err Memory → Tells (door.told was) (λ facts. (then : DoorFacts) × (door.told now ≡ Some then) × AreServed cluster id visitors facts then)
+-- of connections that were to be so many these came to a door: where it tells that, they were its next ones, unless
+-- memory was wanting. None of them failed where it counts no fault of theirs, and all came where it serves as many
+pub record Came {D X : Type 0} (door : DoorGhosts D) (was now : D) (result : Result X ServeError)
+    (cluster : Cluster) (id : MemberId) (count : ℕ) (visitors : List Connection) : Type 0 where
+  pub told : result ≢ Err Memory
+      → Tells (door.told was)
+      (λ facts. (then : DoorFacts) × (door.told now ≡ Some then) × AreServed cluster id visitors facts then)
   pub many : OnOk result (length visitors ≡ count)
   pub few : length visitors ≤ count
   pub halts : IsErrOf result Door → Rose (door.door_faults was) (door.door_faults now)
   pub door_grows : door.door_faults was ≤ door.door_faults now
   pub fails : AreWhole visitors ⊎ Rose (door.connection_faults was) (door.connection_faults now)
   pub grows : door.connection_faults was ≤ door.connection_faults now
-  pub serves : (more : ℕ) → door.serves was (count + more) → MatchResult result (λ _. door.serves now more) (λ error. error ≢ Door)
+  pub serves : (more : ℕ) → door.serves was (count + more)
+      → MatchResult result (λ _. door.serves now more) (λ error. error ≢ Door)
 
--- a script was played, and so many connections were to be served behind it: these were, and the run with them was printed
-pub record Serves {K D W : Type 0} (sink : SinkGhosts K) (door : DoorGhosts D) (facts : W → WorldFacts) (out then : K) (was now : D) (result : Result W ServeError) (script : ScriptText) (id : MemberId) (count : ℕ) (visitors : List Connection) : Type 0 where
+-- a script was played, and so many connections were to be served
+-- behind it: these were, and the run with them was printed
+pub record Serves {K D W : Type 0} (sink : SinkGhosts K) (door : DoorGhosts D) (facts : W → WorldFacts)
+    (out then : K) (was now : D) (result : Result W ServeError) (script : ScriptText) (id : MemberId)
+    (count : ℕ) (visitors : List Connection) : Type 0 where
   pub printed : Prints sink out then Write result (text_of_run (served_of script id visitors))
-  pub whole : IsErrOf result Memory → PrintsWholeSteps sink out then (cluster_of script.head) false (served_of script id visitors).steps
-  pub halted : IsErrOf result Door → Grew (sink.content out) (sink.content then) (lines_of_run (served_of script id visitors))
+  pub whole : IsErrOf result Memory
+      → PrintsWholeSteps sink out then (cluster_of script.head) false (served_of script id visitors).steps
+  pub halted : IsErrOf result Door
+      → Grew (sink.content out) (sink.content then) (lines_of_run (served_of script id visitors))
   pub world : IfOk result (λ world. IsLeftBy (served_of script id visitors) (facts world))
   pub came : Came door was now result (after_steps (cluster_of script.head) (steps_of script.body)) id count visitors

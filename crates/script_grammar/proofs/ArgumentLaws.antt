@@ -49,10 +49,12 @@ pub record IsNamed (members : List Name) (word : List ℕ) (m : MemberId) : Type
   pub text : member_text members m ≡ word
   pub member : IsMember members m
 
-member-named : (members : List Name) (word : List ℕ) (m : MemberId) (o : Option Name) → name_of word ≡ o → known_member members o ≡ Ok m → IsNamed members word m
+member-named : (members : List Name) (word : List ℕ) (m : MemberId) (o : Option Name) → name_of word ≡ o
+    → known_member members o ≡ Ok m → IsNamed members word m
 member-named members word m None is e = absurd (err_is _ m e)
 member-named members word m (Some name) is e =
-    let p = and_then-Some member_of (place_of members name) m (ok_or-Ok (member_named members name) faults.UnknownName m e) in
+    let p =
+    and_then-Some member_of (place_of members name) m (ok_or-Ok (member_named members name) faults.UnknownName m e) in
     let at : slice_get members p.0 ≡ Some name = place_of-Some members name p.0 p.1 in
     let n : m.number ≡ p.0 = number-member_of p.0 m p.2 in
     let inside : p.0 < length members = slice_get_within members p.0 name at in
@@ -61,7 +63,8 @@ member-named members word m (Some name) is e =
       member = omega (arith, n, inside);
     }
 
-pub member_in-Ok : (members : List Name) (word : List ℕ) (m : MemberId) → member_in members word ≡ Ok m → IsNamed members word m
+pub member_in-Ok : (members : List Name) (word : List ℕ) (m : MemberId) → member_in members word ≡ Ok m
+    → IsNamed members word m
 member_in-Ok members word m e = member-named members word m (name_of word) refl e
 
 -- an end that a word names
@@ -69,7 +72,9 @@ pub record IsEndNamed (members : List Name) (word : List ℕ) (x : End) : Type 0
   pub text : end_word members x ≡ word
   pub is_end : IsEnd members x
 
-end-named : (members : List Name) (word : List ℕ) (x : End) (t : Bool) → bytes_eq word (codes "store") ≡ t → cond t (Ok ends.Store) (on_ok (member_in members word) (λ m. Ok (ends.Member m))) ≡ Ok x → IsEndNamed members word x
+end-named : (members : List Name) (word : List ℕ) (x : End) (t : Bool) → bytes_eq word (codes "store") ≡ t
+    → cond t (Ok ends.Store) (on_ok (member_in members word) (λ m. Ok (ends.Member m))) ≡ Ok x
+    → IsEndNamed members word x
 end-named members word x true is e =
     let same : ends.Store ≡ x = ok_is ends.Store x e in
     let text : word ≡ codes "store" = (bytes_eq-Decides word (codes "store")).0 is in
@@ -82,7 +87,8 @@ end-named members word x false is e =
     subst (IsEndNamed members word) same (record { text = m.text; is_end = (m.member, other) })
   where
     other_word : (word : List ℕ) → bytes_eq word (codes "store") ≡ false → word ≡ codes "store" → ⊥
-    other_word word unequal equal = let t : bytes_eq word (codes "store") ≡ true = (bytes_eq-Decides word (codes "store")).1 equal in cc
+    other_word word unequal equal =
+        let t : bytes_eq word (codes "store") ≡ true = (bytes_eq-Decides word (codes "store")).1 equal in cc
 
 pub end_in-Ok : (members : List Name) (word : List ℕ) (x : End) → end_in members word ≡ Ok x → IsEndNamed members word x
 end_in-Ok members word x e = end-named members word x (bytes_eq word (codes "store")) refl e
@@ -93,7 +99,8 @@ no_more (m ∷ members) None u e = refl
 no_more (m ∷ members) (Some words) u e = absurd (err_is _ u e)
 
 -- the last word of a line
-pub last_word-Ok : {A : Type 0} (members : List Name) (r : Result A Fault) (rest : Option (List ℕ)) (x : A) → last_word members r rest ≡ Ok x → (r ≡ Ok x) × (rest ≡ None)
+pub last_word-Ok : {A : Type 0} (members : List Name) (r : Result A Fault) (rest : Option (List ℕ)) (x : A)
+    → last_word members r rest ≡ Ok x → (r ≡ Ok x) × (rest ≡ None)
 last_word-Ok members r rest x e =
     let p = on_ok-Ok r (λ x. on_ok (line_end members rest) (λ _. Ok x)) x e in
     let q = on_ok-Ok (line_end members rest) (λ _. Ok p.0) x p.2 in
@@ -106,7 +113,8 @@ pub record HasWord {A : Type 0} (read : List ℕ → Result A Fault) (rest : Opt
   pub is : rest ≡ Some word
   pub value : read word ≡ Ok x
 
-pub one_word-Ok : {A : Type 0} (members : List Name) (read : List ℕ → Result A Fault) (rest : Option (List ℕ)) (x : A) → one_word members read rest ≡ Ok x → HasWord read rest x
+pub one_word-Ok : {A : Type 0} (members : List Name) (read : List ℕ → Result A Fault) (rest : Option (List ℕ)) (x : A)
+    → one_word members read rest ≡ Ok x → HasWord read rest x
 one_word-Ok members read None x e = absurd (err_is _ x e)
 one_word-Ok members read (Some words) x e =
     let p = last_word-Ok members (read (cut_word words).0) (cut_word words).1 x e in
@@ -114,7 +122,9 @@ one_word-Ok members read (Some words) x e =
     record { word = words; is = refl; value = ap read (sym same) ∙ p.0 }
 
 -- the last word, behind what the words before it say
-word_behind-Ok : {A B : Type 0} (members : List Name) (before : Result A Fault) (read : List ℕ → Result B Fault) (rest : Option (List ℕ)) (p : A × B) → word_behind members before read rest ≡ Ok p → (before ≡ Ok p.0) × HasWord read rest p.1
+word_behind-Ok : {A B : Type 0} (members : List Name) (before : Result A Fault)
+    (read : List ℕ → Result B Fault) (rest : Option (List ℕ)) (p : A × B)
+    → word_behind members before read rest ≡ Ok p → (before ≡ Ok p.0) × HasWord read rest p.1
 word_behind-Ok members before read None p e = absurd (err_is _ p e)
 word_behind-Ok members before read (Some words) p e =
     let l = last_word-Ok members (both before (read (cut_word words).0)) (cut_word words).1 p e in
@@ -123,29 +133,49 @@ word_behind-Ok members before read (Some words) p e =
     (b.0, record { word = words; is = refl; value = ap read (sym same) ∙ b.1 })
 
 -- two words behind the first
-pub record HasTwoWords {A B : Type 0} (first : List ℕ → Result A Fault) (second : List ℕ → Result B Fault) (rest : Option (List ℕ)) (x : A) (y : B) : Type 0 where
+pub record HasTwoWords {A B : Type 0} (first : List ℕ → Result A Fault) (second : List ℕ → Result B Fault)
+    (rest : Option (List ℕ)) (x : A) (y : B) : Type 0 where
   pub word : List ℕ
   pub other : List ℕ
   pub is : rest ≡ Some (two_texts word other)
   pub value : first word ≡ Ok x
   pub other_value : second other ≡ Ok y
 
-pub two_words-Ok : {A B : Type 0} (members : List Name) (first : List ℕ → Result A Fault) (second : List ℕ → Result B Fault) (rest : Option (List ℕ)) (p : A × B) → two_words members first second rest ≡ Ok p → HasTwoWords first second rest p.0 p.1
+pub two_words-Ok : {A B : Type 0} (members : List Name) (first : List ℕ → Result A Fault)
+    (second : List ℕ → Result B Fault) (rest : Option (List ℕ)) (p : A × B)
+    → two_words members first second rest ≡ Ok p → HasTwoWords first second rest p.0 p.1
 two_words-Ok members first second None p e = absurd (err_is _ p e)
 two_words-Ok members first second (Some words) p e =
     let b = word_behind-Ok members (first (cut_word words).0) second (cut_word words).1 p e in
-    record { word = (cut_word words).0; other = b.1.word; is = ap Some (cut_word-Some words b.1.word b.1.is); value = b.0; other_value = b.1.value }
+    record {
+      word = (cut_word words).0;
+      other = b.1.word;
+      is = ap Some (cut_word-Some words b.1.word b.1.is);
+      value = b.0;
+      other_value = b.1.value;
+    }
 
-words_behind-Ok : {A B C : Type 0} (members : List Name) (before : Result A Fault) (read : List ℕ → Result B Fault) (last : List ℕ → Result C Fault) (rest : Option (List ℕ)) (p : (A × B) × C) → words_behind members before read last rest ≡ Ok p
+words_behind-Ok : {A B C : Type 0} (members : List Name) (before : Result A Fault)
+    (read : List ℕ → Result B Fault) (last : List ℕ → Result C Fault) (rest : Option (List ℕ)) (p : (A × B) × C)
+    → words_behind members before read last rest ≡ Ok p
     → (before ≡ Ok p.0.0) × HasTwoWords read last rest p.0.1 p.1
 words_behind-Ok members before read last None p e = absurd (err_is _ p e)
 words_behind-Ok members before read last (Some words) p e =
     let b = word_behind-Ok members (both before (read (cut_word words).0)) last (cut_word words).1 p e in
-    let c = both-Ok before (read (cut_word words).0) p.0 b.0 in
-    (c.0, record { word = (cut_word words).0; other = b.1.word; is = ap Some (cut_word-Some words b.1.word b.1.is); value = c.1; other_value = b.1.value })
+    let c = both-Ok before (read (cut_word words).0) p.0 b.0 in (
+      c.0,
+      record {
+        word = (cut_word words).0;
+        other = b.1.word;
+        is = ap Some (cut_word-Some words b.1.word b.1.is);
+        value = c.1;
+        other_value = b.1.value;
+      },
+    )
 
 -- three words behind the first
-pub record HasThreeWords {A B C : Type 0} (first : List ℕ → Result A Fault) (second : List ℕ → Result B Fault) (third : List ℕ → Result C Fault) (rest : Option (List ℕ)) (x : A) (y : B) (z : C) : Type 0 where
+pub record HasThreeWords {A B C : Type 0} (first : List ℕ → Result A Fault) (second : List ℕ → Result B Fault)
+    (third : List ℕ → Result C Fault) (rest : Option (List ℕ)) (x : A) (y : B) (z : C) : Type 0 where
   pub word : List ℕ
   pub middle : List ℕ
   pub last : List ℕ
@@ -154,7 +184,9 @@ pub record HasThreeWords {A B C : Type 0} (first : List ℕ → Result A Fault) 
   pub middle_value : second middle ≡ Ok y
   pub last_value : third last ≡ Ok z
 
-pub three_words-Ok : {A B C : Type 0} (members : List Name) (first : List ℕ → Result A Fault) (second : List ℕ → Result B Fault) (third : List ℕ → Result C Fault) (rest : Option (List ℕ)) (p : (A × B) × C) → three_words members first second third rest ≡ Ok p
+pub three_words-Ok : {A B C : Type 0} (members : List Name) (first : List ℕ → Result A Fault)
+    (second : List ℕ → Result B Fault) (third : List ℕ → Result C Fault) (rest : Option (List ℕ)) (p : (A × B) × C)
+    → three_words members first second third rest ≡ Ok p
     → HasThreeWords first second third rest p.0.0 p.0.1 p.1
 three_words-Ok members first second third None p e = absurd (err_is _ p e)
 three_words-Ok members first second third (Some words) p e =
@@ -181,9 +213,11 @@ same_end-refl ends.Store = refl
 same_end-refl (ends.Member m) = eq-eqb m.number m.number refl
 
 different : (x y : End) → same_end x y ≡ false → x ≡ y → ⊥
-different x y unequal equal = let t : same_end x y ≡ true = subst (λ (z : End). same_end x z ≡ true) equal (same_end-refl x) in cc
+different x y unequal equal =
+    let t : same_end x y ≡ true = subst (λ (z : End). same_end x z ≡ true) equal (same_end-refl x) in cc
 
-pub two_ends-Ok : (members : List Name) (rest : Option (List ℕ)) (p : End × End) → two_ends members rest ≡ Ok p → HasLink members rest p.0 p.1
+pub two_ends-Ok : (members : List Name) (rest : Option (List ℕ)) (p : End × End)
+    → two_ends members rest ≡ Ok p → HasLink members rest p.0 p.1
 two_ends-Ok members rest p e =
     let q = on_ok-Ok (two_words members (end_in members) (end_in members) rest) apart p e in
     let w = two_words-Ok members (end_in members) (end_in members) rest q.0 q.1 in
@@ -205,7 +239,8 @@ number_in-Ok word n e = ok_or-Ok (number word) faults.BadNumber n e
 commit_size_in-Ok : (word : List ℕ) (size : CommitSize) → commit_size_in word ≡ Ok size → decimal size.bytes ≡ word
 commit_size_in-Ok word size e =
     let p = on_ok-Ok (number_in word) (λ n. ok_or (commit_size_of n) faults.BadNumber) size e in
-    let same : size.bytes ≡ p.0 = commit_size_of-bytes p.0 size (ok_or-Ok (commit_size_of p.0) faults.BadNumber size p.2) in
+    let same : size.bytes ≡ p.0 =
+    commit_size_of-bytes p.0 size (ok_or-Ok (commit_size_of p.0) faults.BadNumber size p.2) in
     ap decimal same ∙ sym (number-is word p.0 (number_in-Ok word p.0 p.1))
 
 delay_in-Ok : (word : List ℕ) (delay : Delay) → delay_in word ≡ Ok delay → decimal delay.ticks ≡ word
@@ -215,30 +250,37 @@ delay_in-Ok word delay e =
     ap decimal same ∙ sym (number-is word p.0 (number_in-Ok word p.0 p.1))
 
 -- 'stop' and 'start'
-start-Ok : (word : List ℕ) (slowed : SlowedCall) (t : Bool) → bytes_eq word (codes "start") ≡ t → cond t (Ok slowed_calls.Start) (Err faults.BadOption) ≡ Ok slowed → slowed_call_text slowed ≡ word
+start-Ok : (word : List ℕ) (slowed : SlowedCall) (t : Bool) → bytes_eq word (codes "start") ≡ t
+    → cond t (Ok slowed_calls.Start) (Err faults.BadOption) ≡ Ok slowed → slowed_call_text slowed ≡ word
 start-Ok word slowed true is e =
     let same : slowed_calls.Start ≡ slowed = ok_is slowed_calls.Start slowed e in
     ap slowed_call_text (sym same) ∙ sym ((bytes_eq-Decides word (codes "start")).0 is)
 start-Ok word slowed false is e = absurd (err_is _ slowed e)
 
-stop-Ok : (word : List ℕ) (slowed : SlowedCall) (t : Bool) → bytes_eq word (codes "stop") ≡ t → cond t (Ok slowed_calls.Stop) (cond (bytes_eq word (codes "start")) (Ok slowed_calls.Start) (Err faults.BadOption)) ≡ Ok slowed
+stop-Ok : (word : List ℕ) (slowed : SlowedCall) (t : Bool) → bytes_eq word (codes "stop") ≡ t
+    → cond t (Ok slowed_calls.Stop)
+    (cond (bytes_eq word (codes "start")) (Ok slowed_calls.Start) (Err faults.BadOption)) ≡ Ok slowed
     → slowed_call_text slowed ≡ word
 stop-Ok word slowed true is e =
     let same : slowed_calls.Stop ≡ slowed = ok_is slowed_calls.Stop slowed e in
     ap slowed_call_text (sym same) ∙ sym ((bytes_eq-Decides word (codes "stop")).0 is)
 stop-Ok word slowed false is e = start-Ok word slowed (bytes_eq word (codes "start")) refl e
 
-slowed_call_in-Ok : (word : List ℕ) (slowed : SlowedCall) → slowed_call_in word ≡ Ok slowed → slowed_call_text slowed ≡ word
+slowed_call_in-Ok : (word : List ℕ) (slowed : SlowedCall) → slowed_call_in word ≡ Ok slowed
+    → slowed_call_text slowed ≡ word
 slowed_call_in-Ok word slowed e = stop-Ok word slowed (bytes_eq word (codes "stop")) refl e
 
 -- 'on' and 'off'
-off-Ok : (word : List ℕ) (on : Bool) (t : Bool) → bytes_eq word (codes "off") ≡ t → cond t (Ok false) (Err faults.BadOption) ≡ Ok on → switch_text on ≡ word
+off-Ok : (word : List ℕ) (on : Bool) (t : Bool) → bytes_eq word (codes "off") ≡ t
+    → cond t (Ok false) (Err faults.BadOption) ≡ Ok on → switch_text on ≡ word
 off-Ok word on true is e =
     let same : false ≡ on = ok_is false on e in
     ap switch_text (sym same) ∙ sym ((bytes_eq-Decides word (codes "off")).0 is)
 off-Ok word on false is e = absurd (err_is _ on e)
 
-on-Ok : (word : List ℕ) (on : Bool) (t : Bool) → bytes_eq word (codes "on") ≡ t → cond t (Ok true) (cond (bytes_eq word (codes "off")) (Ok false) (Err faults.BadOption)) ≡ Ok on → switch_text on ≡ word
+on-Ok : (word : List ℕ) (on : Bool) (t : Bool) → bytes_eq word (codes "on") ≡ t
+    → cond t (Ok true) (cond (bytes_eq word (codes "off")) (Ok false) (Err faults.BadOption)) ≡ Ok on
+    → switch_text on ≡ word
 on-Ok word on true is e =
     let same : true ≡ on = ok_is true on e in
     ap switch_text (sym same) ∙ sym ((bytes_eq-Decides word (codes "on")).0 is)
@@ -254,8 +296,11 @@ pub record Says (members : List Name) (keyword : Keyword) (rest : Option (List �
   pub text : line_text members line ≡ spelled keyword words
   pub fits : IsLine members line
 
-number-line : (members : List Name) (keyword : Keyword) (make : ℕ → Line) → ((n : ℕ) → line_text members (make n) ≡ spelled keyword (decimal n)) → ((n : ℕ) → n < 2 ^ 64 → IsLine members (make n))
-    → (rest : Option (List ℕ)) (line : Line) → on_ok (one_word members number_in rest) (λ n. Ok (make n)) ≡ Ok line → Says members keyword rest line
+number-line : (members : List Name) (keyword : Keyword) (make : ℕ → Line)
+    → ((n : ℕ) → line_text members (make n) ≡ spelled keyword (decimal n))
+    → ((n : ℕ) → n < 2 ^ 64 → IsLine members (make n))
+    → (rest : Option (List ℕ)) (line : Line)
+    → on_ok (one_word members number_in rest) (λ n. Ok (make n)) ≡ Ok line → Says members keyword rest line
 number-line members keyword make text is_line rest line e =
     on_ok-made (Says members keyword rest) (one_word members number_in rest) make line e (λ n is.
     let w = one_word-Ok members number_in rest n is in
@@ -267,92 +312,141 @@ number-line members keyword make text is_line rest line e =
       fits = is_line n (number-below w.word n value);
     })
 
-member-line : (members : List Name) (keyword : Keyword) (make : MemberId → Line) → ((m : MemberId) → line_text members (make m) ≡ spelled keyword (member_text members m)) → ((m : MemberId) → IsMember members m → IsLine members (make m))
-    → (rest : Option (List ℕ)) (line : Line) → on_ok (one_word members (member_in members) rest) (λ m. Ok (make m)) ≡ Ok line → Says members keyword rest line
+member-line : (members : List Name) (keyword : Keyword) (make : MemberId → Line)
+    → ((m : MemberId) → line_text members (make m) ≡ spelled keyword (member_text members m))
+    → ((m : MemberId) → IsMember members m → IsLine members (make m))
+    → (rest : Option (List ℕ)) (line : Line)
+    → on_ok (one_word members (member_in members) rest) (λ m. Ok (make m)) ≡ Ok line → Says members keyword rest line
 member-line members keyword make text is_line rest line e =
     on_ok-made (Says members keyword rest) (one_word members (member_in members) rest) make line e (λ member is.
     let w = one_word-Ok members (member_in members) rest member is in
     let m = member_in-Ok members w.word member w.value in
-    record { words = w.word; is = w.is; text = text member ∙ ap (spelled keyword) m.text; fits = is_line member m.member })
+    record {
+      words = w.word;
+      is = w.is;
+      text = text member ∙ ap (spelled keyword) m.text;
+      fits = is_line member m.member;
+    })
 
-link-line : (members : List Name) (keyword : Keyword) (make : End → End → Line) → ((x y : End) → line_text members (make x y) ≡ spelled keyword (two_texts (end_word members x) (end_word members y))) → ((x y : End) → IsLink members x y → IsLine members (make x y))
-    → (rest : Option (List ℕ)) (line : Line) → on_ok (two_ends members rest) (λ link. Ok (make link.0 link.1)) ≡ Ok line → Says members keyword rest line
+link-line : (members : List Name) (keyword : Keyword) (make : End → End → Line)
+    → ((x y : End) →
+    line_text members (make x y) ≡ spelled keyword (two_texts (end_word members x) (end_word members y)))
+    → ((x y : End) → IsLink members x y → IsLine members (make x y))
+    → (rest : Option (List ℕ)) (line : Line)
+    → on_ok (two_ends members rest) (λ link. Ok (make link.0 link.1)) ≡ Ok line → Says members keyword rest line
 link-line members keyword make text is_line rest line e =
     on_ok-made (Says members keyword rest) (two_ends members rest) (λ link. make link.0 link.1) line e (λ link is.
     let l = two_ends-Ok members rest link is in
-    record { words = l.words; is = l.is; text = text link.0 link.1 ∙ ap (spelled keyword) l.text; fits = is_line link.0 link.1 l.link })
+    record {
+      words = l.words;
+      is = l.is;
+      text = text link.0 link.1 ∙ ap (spelled keyword) l.text;
+      fits = is_line link.0 link.1 l.link;
+    })
 
-trace-line : (members : List Name) (rest : Option (List ℕ)) (line : Line) → on_ok (one_word members switch_in rest) (λ on. command (commands.Trace on)) ≡ Ok line → Says members words.Trace rest line
+trace-line : (members : List Name) (rest : Option (List ℕ)) (line : Line)
+    → on_ok (one_word members switch_in rest) (λ on. command (commands.Trace on)) ≡ Ok line
+    → Says members words.Trace rest line
 trace-line members rest line e =
-    on_ok-made (Says members words.Trace rest) (one_word members switch_in rest) (λ on. lines.Command (commands.Trace on)) line e (λ on is.
+    on_ok-made (Says members words.Trace rest) (one_word members switch_in rest)
+    (λ on. lines.Command (commands.Trace on)) line e (λ on is.
     let w = one_word-Ok members switch_in rest on is in
     record { words = w.word; is = w.is; text = ap (spelled words.Trace) (switch_in-Ok w.word on w.value); fits = tt })
 
 -- a command that is read is its line
-command-line : (members : List Name) (keyword : Keyword) (rest : Option (List ℕ)) {A : Type 0} (r : Result A Fault) (make : A → Command) (line : Line) → on_ok (on_ok r (λ said. Ok (make said))) command ≡ Ok line
-    → ((said : A) → r ≡ Ok said → Says members keyword rest (lines.Command (make said))) → Says members keyword rest line
+command-line : (members : List Name) (keyword : Keyword) (rest : Option (List ℕ)) {A : Type 0} (r : Result A Fault)
+    (make : A → Command) (line : Line) → on_ok (on_ok r (λ said. Ok (make said))) command ≡ Ok line
+    → ((said : A) → r ≡ Ok said → Says members keyword rest (lines.Command (make said)))
+    → Says members keyword rest line
 command-line members keyword rest r make line e each =
     on_ok-made (Says members keyword rest) (on_ok r (λ said. Ok (make said))) lines.Command line e (λ c is.
     on_ok-made (λ c. Says members keyword rest (lines.Command c)) r make c is each)
 
-commit-line : (members : List Name) (rest : Option (List ℕ)) (line : Line) → on_ok (commit_in members rest) command ≡ Ok line → Says members words.Commit rest line
+commit-line : (members : List Name) (rest : Option (List ℕ)) (line : Line)
+    → on_ok (commit_in members rest) command ≡ Ok line → Says members words.Commit rest line
 commit-line members rest line e =
-    command-line members words.Commit rest (two_words members (member_in members) commit_size_in rest) (λ said. commands.Commit said.0 said.1) line e (λ said is.
+    command-line members words.Commit rest (two_words members (member_in members) commit_size_in rest)
+    (λ said. commands.Commit said.0 said.1) line e (λ said is.
     let w = two_words-Ok members (member_in members) commit_size_in rest said is in
     let m = member_in-Ok members w.word said.0 w.value in
     record {
       words = two_texts w.word w.other;
       is = w.is;
-      text = ap (λ t. spelled words.Commit (two_texts t (decimal said.1.bytes))) m.text ∙ ap (λ t. spelled words.Commit (two_texts w.word t)) (commit_size_in-Ok w.other said.1 w.other_value);
+      text = ap (λ t. spelled words.Commit (two_texts t (decimal said.1.bytes))) m.text
+          ∙ ap (λ t. spelled words.Commit (two_texts w.word t)) (commit_size_in-Ok w.other said.1 w.other_value);
       fits = m.member;
     })
 
-stream-line : (members : List Name) (rest : Option (List ℕ)) (line : Line) → on_ok (stream_in members rest) command ≡ Ok line → Says members words.Stream rest line
+stream-line : (members : List Name) (rest : Option (List ℕ)) (line : Line)
+    → on_ok (stream_in members rest) command ≡ Ok line → Says members words.Stream rest line
 stream-line members rest line e =
-    command-line members words.Stream rest (two_words members (member_in members) number_in rest) (λ said. commands.Stream said.0 said.1) line e (λ said is.
+    command-line members words.Stream rest (two_words members (member_in members) number_in rest)
+    (λ said. commands.Stream said.0 said.1) line e (λ said is.
     let w = two_words-Ok members (member_in members) number_in rest said is in
     let m = member_in-Ok members w.word said.0 w.value in
     let n : number w.other ≡ Some said.1 = number_in-Ok w.other said.1 w.other_value in
     record {
       words = two_texts w.word w.other;
       is = w.is;
-      text = ap (λ t. spelled words.Stream (two_texts t (decimal said.1))) m.text ∙ ap (λ t. spelled words.Stream (two_texts w.word t)) (sym (number-is w.other said.1 n));
+      text = ap (λ t. spelled words.Stream (two_texts t (decimal said.1))) m.text
+          ∙ ap (λ t. spelled words.Stream (two_texts w.word t)) (sym (number-is w.other said.1 n));
       fits = (m.member, number-below w.other said.1 n);
     })
 
-slow-line : (members : List Name) (rest : Option (List ℕ)) (line : Line) → on_ok (slow_in members rest) command ≡ Ok line → Says members words.Slow rest line
+slow-line : (members : List Name) (rest : Option (List ℕ)) (line : Line)
+    → on_ok (slow_in members rest) command ≡ Ok line → Says members words.Slow rest line
 slow-line members rest line e =
-    command-line members words.Slow rest (three_words members (member_in members) slowed_call_in delay_in rest) (λ said. commands.Slow said.0.0 said.0.1 said.1) line e (λ said is.
+    command-line members words.Slow rest (three_words members (member_in members) slowed_call_in delay_in rest)
+    (λ said. commands.Slow said.0.0 said.0.1 said.1) line e (λ said is.
     let w = three_words-Ok members (member_in members) slowed_call_in delay_in rest said is in
     let m = member_in-Ok members w.word said.0.0 w.value in
     record {
       words = two_texts w.word (two_texts w.middle w.last);
       is = w.is;
-      text = ap (λ t. spelled words.Slow (two_texts t (two_texts (slowed_call_text said.0.1) (decimal said.1.ticks)))) m.text
-          ∙ ap (λ t. spelled words.Slow (two_texts w.word (two_texts t (decimal said.1.ticks)))) (slowed_call_in-Ok w.middle said.0.1 w.middle_value)
-          ∙ ap (λ t. spelled words.Slow (two_texts w.word (two_texts w.middle t))) (delay_in-Ok w.last said.1 w.last_value);
+      text = ap (λ t. spelled words.Slow (two_texts t (two_texts (slowed_call_text said.0.1) (decimal said.1.ticks))))
+          m.text
+          ∙ ap (λ t. spelled words.Slow (two_texts w.word (two_texts t (decimal said.1.ticks))))
+          (slowed_call_in-Ok w.middle said.0.1 w.middle_value)
+          ∙ ap (λ t. spelled words.Slow (two_texts w.word (two_texts w.middle t)))
+          (delay_in-Ok w.last said.1 w.last_value);
       fits = m.member;
     })
 
-plain_line-Ok : (members : List Name) (keyword : Keyword) (rest : Option (List ℕ)) (line : Line) → plain_line members keyword rest ≡ Ok line → Says members keyword rest line
-plain_line-Ok members words.Tick rest line e = number-line members words.Tick (λ n. lines.Tick n) (λ n. refl) (λ n h. h) rest line e
-plain_line-Ok members words.Deliver rest line e = number-line members words.Deliver (λ n. lines.Command (commands.Deliver n)) (λ n. refl) (λ n h. h) rest line e
-plain_line-Ok members words.Lose rest line e = number-line members words.Lose (λ n. lines.Command (commands.Lose n)) (λ n. refl) (λ n h. h) rest line e
-plain_line-Ok members words.Run rest line e = number-line members words.Run (λ n. lines.Run n) (λ n. refl) (λ n h. h) rest line e
-plain_line-Ok members words.Turn rest line e = member-line members words.Turn (λ m. lines.Command (commands.Turn m)) (λ m. refl) (λ m h. h) rest line e
-plain_line-Ok members words.Hold rest line e = member-line members words.Hold (λ m. lines.Command (commands.Suspend m)) (λ m. refl) (λ m h. h) rest line e
-plain_line-Ok members words.Resume rest line e = member-line members words.Resume (λ m. lines.Command (commands.Resume m)) (λ m. refl) (λ m h. h) rest line e
-plain_line-Ok members words.Kill rest line e = member-line members words.Kill (λ m. lines.Command (commands.Kill m)) (λ m. refl) (λ m h. h) rest line e
-plain_line-Ok members words.Restart rest line e = member-line members words.Restart (λ m. lines.Command (commands.StartAgent m)) (λ m. refl) (λ m h. h) rest line e
-plain_line-Ok members words.Promote rest line e = member-line members words.Promote (λ m. lines.Command (commands.Promote m)) (λ m. refl) (λ m h. h) rest line e
-plain_line-Ok members words.Crash rest line e = member-line members words.Crash (λ m. lines.Command (commands.Crash m)) (λ m. refl) (λ m h. h) rest line e
-plain_line-Ok members words.Freeze rest line e = member-line members words.Freeze (λ m. lines.Command (commands.Freeze m)) (λ m. refl) (λ m h. h) rest line e
-plain_line-Ok members words.Thaw rest line e = member-line members words.Thaw (λ m. lines.Command (commands.Thaw m)) (λ m. refl) (λ m h. h) rest line e
+plain_line-Ok : (members : List Name) (keyword : Keyword) (rest : Option (List ℕ)) (line : Line)
+    → plain_line members keyword rest ≡ Ok line → Says members keyword rest line
+plain_line-Ok members words.Tick rest line e =
+    number-line members words.Tick (λ n. lines.Tick n) (λ n. refl) (λ n h. h) rest line e
+plain_line-Ok members words.Deliver rest line e =
+    number-line members words.Deliver (λ n. lines.Command (commands.Deliver n)) (λ n. refl) (λ n h. h) rest line e
+plain_line-Ok members words.Lose rest line e =
+    number-line members words.Lose (λ n. lines.Command (commands.Lose n)) (λ n. refl) (λ n h. h) rest line e
+plain_line-Ok members words.Run rest line e =
+    number-line members words.Run (λ n. lines.Run n) (λ n. refl) (λ n h. h) rest line e
+plain_line-Ok members words.Turn rest line e =
+    member-line members words.Turn (λ m. lines.Command (commands.Turn m)) (λ m. refl) (λ m h. h) rest line e
+plain_line-Ok members words.Hold rest line e =
+    member-line members words.Hold (λ m. lines.Command (commands.Suspend m)) (λ m. refl) (λ m h. h) rest line e
+plain_line-Ok members words.Resume rest line e =
+    member-line members words.Resume (λ m. lines.Command (commands.Resume m)) (λ m. refl) (λ m h. h) rest line e
+plain_line-Ok members words.Kill rest line e =
+    member-line members words.Kill (λ m. lines.Command (commands.Kill m)) (λ m. refl) (λ m h. h) rest line e
+plain_line-Ok members words.Restart rest line e =
+    member-line members words.Restart (λ m. lines.Command (commands.StartAgent m)) (λ m. refl) (λ m h. h) rest line e
+plain_line-Ok members words.Promote rest line e =
+    member-line members words.Promote (λ m. lines.Command (commands.Promote m)) (λ m. refl) (λ m h. h) rest line e
+plain_line-Ok members words.Crash rest line e =
+    member-line members words.Crash (λ m. lines.Command (commands.Crash m)) (λ m. refl) (λ m h. h) rest line e
+plain_line-Ok members words.Freeze rest line e =
+    member-line members words.Freeze (λ m. lines.Command (commands.Freeze m)) (λ m. refl) (λ m h. h) rest line e
+plain_line-Ok members words.Thaw rest line e =
+    member-line members words.Thaw (λ m. lines.Command (commands.Thaw m)) (λ m. refl) (λ m h. h) rest line e
 plain_line-Ok members words.Commit rest line e = commit-line members rest line e
 plain_line-Ok members words.Stream rest line e = stream-line members rest line e
 plain_line-Ok members words.Slow rest line e = slow-line members rest line e
-plain_line-Ok members words.Cut rest line e = link-line members words.Cut (λ x y. lines.Command (commands.Cut x y)) (λ x y. refl) (λ x y h. h) rest line e
-plain_line-Ok members words.Join rest line e = link-line members words.Join (λ x y. lines.Command (commands.Join x y)) (λ x y. refl) (λ x y h. h) rest line e
+plain_line-Ok members words.Cut rest line e =
+    link-line members words.Cut (λ x y. lines.Command (commands.Cut x y)) (λ x y. refl) (λ x y h. h) rest line e
+plain_line-Ok members words.Join rest line e =
+    link-line members words.Join (λ x y. lines.Command (commands.Join x y)) (λ x y. refl) (λ x y h. h) rest line e
 plain_line-Ok members words.Trace rest line e = trace-line members rest line e
 plain_line-Ok members _ rest line e = absurd (err_is _ line e)
 
@@ -363,28 +457,44 @@ pub record SaysLine (members : List Name) (keyword : Keyword) (rest : Option (Li
   pub text : SpellsLine members (spelled keyword words) line
   pub fits : IsWholeLine (spelled keyword words) → IsLine members line
 
-own : (members : List Name) (keyword : Keyword) (rest : Option (List ℕ)) (line : Line) → Says members keyword rest line → SaysLine members keyword rest line
-own members keyword rest line says = record { words = says.words; is = says.is; text = OwnText (sym says.text); fits = λ _. says.fits }
+own : (members : List Name) (keyword : Keyword) (rest : Option (List ℕ)) (line : Line)
+    → Says members keyword rest line → SaysLine members keyword rest line
+own members keyword rest line says =
+    record { words = says.words; is = says.is; text = OwnText (sym says.text); fits = λ _. says.fits }
 
-rest_line-Ok : (members : List Name) (rest : Option (List ℕ)) (line : Line) → rest_line members rest ≡ Ok line → SaysLine members words.Rest rest line
+rest_line-Ok : (members : List Name) (rest : Option (List ℕ)) (line : Line) → rest_line members rest ≡ Ok line
+    → SaysLine members words.Rest rest line
 rest_line-Ok members rest line e =
-    on_ok-made (SaysLine members words.Rest rest) (asked_member members rest) (λ said. lines.Command (commands.Rest said.0 (request_behind (behind_word rest)))) line e (λ said is.
+    on_ok-made (SaysLine members words.Rest rest) (asked_member members rest)
+    (λ said. lines.Command (commands.Rest said.0 (request_behind (behind_word rest)))) line e (λ said is.
     let r = asked_member-Ok members rest said is in
     let m = member_in-Ok members r.word said.0 r.value in
-    subst (λ (request : RequestWords). SaysLine members words.Rest rest (lines.Command (commands.Rest said.0 request))) (sym r.request) (record {
+    subst (λ (request : RequestWords). SaysLine members words.Rest rest (lines.Command (commands.Rest said.0 request)))
+    (sym r.request) (record {
       words = two_texts (member_text members said.0) (words_with r.method r.target r.behind);
       is = r.is ∙ ap (λ t. Some (two_texts t (words_with r.method r.target r.behind))) (sym m.text);
       text = request-SpellsLine members said.0 r.method r.target r.behind;
       fits = λ line. request-IsRequest members said.0 r.method r.target r.behind m.member r.token r.target_is line;
     }))
 
-ctl_line-Ok : (members : List Name) (rest : Option (List ℕ)) (line : Line) → ctl_line members rest ≡ Ok line → SaysLine members words.Ctl rest line
+ctl_line-Ok : (members : List Name) (rest : Option (List ℕ)) (line : Line) → ctl_line members rest ≡ Ok line
+    → SaysLine members words.Ctl rest line
 ctl_line-Ok members None line e = absurd (err_is _ line e)
 ctl_line-Ok members (Some said) line e =
-    on_ok-made (SaysLine members words.Ctl (Some said)) (line_end members None) (λ _. lines.Command (commands.Ctl said)) line e (λ none is.
-    record { words = said; is = refl; text = OwnText refl; fits = λ whole. record { text = text-behind (word_of words.Ctl) said (IsUtf8-from_is_utf8 (ctl_text said) whole.form.text); line = whole } })
+    on_ok-made (SaysLine members words.Ctl (Some said)) (line_end members None)
+    (λ _. lines.Command (commands.Ctl said)) line e (λ none is.
+    record {
+      words = said;
+      is = refl;
+      text = OwnText refl;
+      fits = λ whole. record {
+        text = text-behind (word_of words.Ctl) said (IsUtf8-from_is_utf8 (ctl_text said) whole.form.text);
+        line = whole;
+      };
+    })
 
-pub line_of_words-Ok : (members : List Name) (keyword : Keyword) (rest : Option (List ℕ)) (line : Line) → line_of_words members keyword rest ≡ Ok line → SaysLine members keyword rest line
+pub line_of_words-Ok : (members : List Name) (keyword : Keyword) (rest : Option (List ℕ)) (line : Line)
+    → line_of_words members keyword rest ≡ Ok line → SaysLine members keyword rest line
 line_of_words-Ok members words.Rest rest line e = rest_line-Ok members rest line e
 line_of_words-Ok members words.Ctl rest line e = ctl_line-Ok members rest line e
 line_of_words-Ok members keyword rest line e = own members keyword rest line (plain_line-Ok members keyword rest line e)

@@ -23,7 +23,9 @@ first_at-all p (b ∷ bs) none h =
     rw (not-blank p b (b == 32) refl none both.0, first_at-all p bs none both.1) refl
 
 -- a word that is cut off has no blank
-before-first : (t : Bool) (b : ℕ) (bs : List ℕ) (o : Option ℕ) (n : ℕ) → (b == 32) ≡ t → ((m : ℕ) → o ≡ Some m → first_at 32 (take m bs) ≡ None) → cond t (Some 0) (one_more o) ≡ Some n → first_at 32 (take n (b ∷ bs)) ≡ None
+before-first : (t : Bool) (b : ℕ) (bs : List ℕ) (o : Option ℕ) (n : ℕ) → (b == 32) ≡ t
+    → ((m : ℕ) → o ≡ Some m → first_at 32 (take m bs) ≡ None) → cond t (Some 0) (one_more o) ≡ Some n
+    → first_at 32 (take n (b ∷ bs)) ≡ None
 before-first true b bs o n is rest e = let z : n ≡ 0 = sym (some_is 0 n e) in rw z refl
 before-first false b bs None n is rest e = absurd (none_is n e)
 before-first false b bs (Some m) n is rest e =
@@ -46,18 +48,24 @@ blank-within : (xs ys : List ℕ) → length xs < length (xs ++ (32 ∷ ys))
 blank-within xs ys = omega (arith, length-append xs (32 ∷ ys))
 
 blank-ascii : (xs ys : List ℕ) → get_or (xs ++ (32 ∷ ys)) (length xs) 0 < 128
-blank-ascii xs ys = let at : get_or (xs ++ (32 ∷ ys)) (length xs) 0 ≡ 32 = get_or-append_seam xs 32 ys 0 in omega (arith, at)
+blank-ascii xs ys =
+    let at : get_or (xs ++ (32 ∷ ys)) (length xs) 0 ≡ 32 = get_or-append_seam xs 32 ys 0 in omega (arith, at)
 
 pub text-before : (xs ys : List ℕ) → IsUtf8 (xs ++ (32 ∷ ys)) → IsUtf8 xs
 text-before xs ys text =
-    subst IsUtf8 (take-append_seam xs (32 ∷ ys)) (IsUtf8-take (xs ++ (32 ∷ ys)) (length xs) text (IsCharBoundary-before_ascii (xs ++ (32 ∷ ys)) (length xs) (blank-within xs ys) (blank-ascii xs ys)))
+    subst IsUtf8 (take-append_seam xs (32 ∷ ys))
+    (IsUtf8-take (xs ++ (32 ∷ ys)) (length xs) text
+    (IsCharBoundary-before_ascii (xs ++ (32 ∷ ys)) (length xs) (blank-within xs ys) (blank-ascii xs ys)))
 
 pub text-behind : (xs ys : List ℕ) → IsUtf8 (xs ++ (32 ∷ ys)) → IsUtf8 ys
 text-behind xs ys text =
     let rest : drop (length xs + 1) (xs ++ (32 ∷ ys)) ≡ ys =
-    ap (drop (length xs + 1)) (sym (append_assoc xs (32 ∷ []) ys)) ∙ drop_at (xs ++ 32 ∷ []) ys (length xs + 1) (omega (arith, length-append xs (32 ∷ [])))
+    ap (drop (length xs + 1)) (sym (append_assoc xs (32 ∷ []) ys))
+    ∙ drop_at (xs ++ 32 ∷ []) ys (length xs + 1) (omega (arith, length-append xs (32 ∷ [])))
     in
-    subst IsUtf8 rest (IsUtf8-drop (xs ++ (32 ∷ ys)) (length xs + 1) text (IsCharBoundary-after_ascii (xs ++ (32 ∷ ys)) (length xs) text (blank-within xs ys) (blank-ascii xs ys)))
+    subst IsUtf8 rest
+    (IsUtf8-drop (xs ++ (32 ∷ ys)) (length xs + 1) text
+    (IsCharBoundary-after_ascii (xs ++ (32 ∷ ys)) (length xs) text (blank-within xs ys) (blank-ascii xs ys)))
 
 -- what stands before a blank of a line may be a line
 pub line-before : (xs ys : List ℕ) → IsWholeLine (xs ++ (32 ∷ ys)) → IsWholeLine xs
@@ -66,5 +74,7 @@ line-before xs ys line = record {
     text = is_utf8-from_IsUtf8 xs (text-before xs ys (IsUtf8-from_is_utf8 (xs ++ (32 ∷ ys)) line.form.text));
     short = omega (arith, line.form.short, length-append xs (32 ∷ ys));
   };
-  one_line = (and_parts (list_all is_in_line xs) (list_all is_in_line (32 ∷ ys)) (sym (list_all-append is_in_line xs (32 ∷ ys)) ∙ line.one_line)).0;
+  one_line =
+      (and_parts (list_all is_in_line xs) (list_all is_in_line (32 ∷ ys))
+      (sym (list_all-append is_in_line xs (32 ∷ ys)) ∙ line.one_line)).0;
 }

@@ -12,7 +12,8 @@ use Rattle.script_model.specs.declared.keyword.Keyword.TheVariants.{Cluster}
 use Rattle.script_grammar.specs.FirstWords.{keywords, keyword_of}
 
 pub keyword_of-is : (word : List ℕ) (keyword : Keyword) → keyword_of word ≡ Some keyword → word ≡ word_of keyword
-keyword_of-is word keyword e = (bytes_eq-Decides word (word_of keyword)).0 (find-passes (λ k. bytes_eq word (word_of k)) keywords keyword e)
+keyword_of-is word keyword e =
+    (bytes_eq-Decides word (word_of keyword)).0 (find-passes (λ k. bytes_eq word (word_of k)) keywords keyword e)
 
 pub some_name-IsPlain : (o : Option Name) → IsPlain (text_of_name o) 32
 some_name-IsPlain None = record { plain = refl; short = omega arith }

@@ -33,11 +33,13 @@ number_in word = ok_or (number word) faults.BadNumber
 
 -- 'on' or 'off'
 abbrev pub switch_in : List ℕ → Result Bool Fault
-switch_in word = if bytes_eq word (codes "on") then Ok true else if bytes_eq word (codes "off") then Ok false else Err faults.BadOption
+switch_in word = if bytes_eq word (codes "on") then Ok true else if bytes_eq word (codes "off") then Ok false
+    else Err faults.BadOption
 
 -- 'stop' or 'start'
 abbrev pub slowed_call_in : List ℕ → Result SlowedCall Fault
-slowed_call_in word = if bytes_eq word (codes "stop") then Ok slowed_calls.Stop else if bytes_eq word (codes "start") then Ok slowed_calls.Start else Err faults.BadOption
+slowed_call_in word = if bytes_eq word (codes "stop") then Ok slowed_calls.Stop
+    else if bytes_eq word (codes "start") then Ok slowed_calls.Start else Err faults.BadOption
 
 -- a number in the range of commits
 abbrev pub commit_size_in : List ℕ → Result CommitSize Fault
@@ -58,7 +60,8 @@ member_in members word = known_member members (name_of word)
 
 -- an end of a link: 'store', or the name of a member
 abbrev pub end_in : List Name → List ℕ → Result End Fault
-end_in members word = if bytes_eq word (codes "store") then Ok ends.Store else on_ok (member_in members word) (λ member. Ok (ends.Member member))
+end_in members word = if bytes_eq word (codes "store") then Ok ends.Store
+    else on_ok (member_in members word) (λ member. Ok (ends.Member member))
 
 -- a word of a body line is missing
 abbrev pub missing_word : List Name → Fault
@@ -86,24 +89,31 @@ one_word members read None = Err (missing_word members)
 one_word members read (Some words) = last_word members (read (cut_word words).0) (cut_word words).1
 
 -- the last word, read so, behind what the words before it say
-abbrev pub word_behind : {A B : Type 0} → List Name → Result A Fault → (List ℕ → Result B Fault) → Option (List ℕ) → Result (A × B) Fault
+abbrev pub word_behind : {A B : Type 0} → List Name → Result A Fault → (List ℕ → Result B Fault)
+    → Option (List ℕ) → Result (A × B) Fault
 word_behind members before read None = Err (missing_behind members before)
-word_behind members before read (Some words) = last_word members (both before (read (cut_word words).0)) (cut_word words).1
+word_behind members before read (Some words) =
+    last_word members (both before (read (cut_word words).0)) (cut_word words).1
 
 -- two words, each read so
-abbrev pub two_words : {A B : Type 0} → List Name → (List ℕ → Result A Fault) → (List ℕ → Result B Fault) → Option (List ℕ) → Result (A × B) Fault
+abbrev pub two_words : {A B : Type 0} → List Name → (List ℕ → Result A Fault) → (List ℕ → Result B Fault)
+    → Option (List ℕ) → Result (A × B) Fault
 two_words members first second None = Err (missing_word members)
 two_words members first second (Some words) = word_behind members (first (cut_word words).0) second (cut_word words).1
 
 -- the last two words, each read so, behind what the words before them say
-abbrev pub words_behind : {A B C : Type 0} → List Name → Result A Fault → (List ℕ → Result B Fault) → (List ℕ → Result C Fault) → Option (List ℕ) → Result ((A × B) × C) Fault
+abbrev pub words_behind : {A B C : Type 0} → List Name → Result A Fault → (List ℕ → Result B Fault)
+    → (List ℕ → Result C Fault) → Option (List ℕ) → Result ((A × B) × C) Fault
 words_behind members before read last None = Err (missing_behind members before)
-words_behind members before read last (Some words) = word_behind members (both before (read (cut_word words).0)) last (cut_word words).1
+words_behind members before read last (Some words) =
+    word_behind members (both before (read (cut_word words).0)) last (cut_word words).1
 
 -- three words, each read so
-abbrev pub three_words : {A B C : Type 0} → List Name → (List ℕ → Result A Fault) → (List ℕ → Result B Fault) → (List ℕ → Result C Fault) → Option (List ℕ) → Result ((A × B) × C) Fault
+abbrev pub three_words : {A B C : Type 0} → List Name → (List ℕ → Result A Fault) → (List ℕ → Result B Fault)
+    → (List ℕ → Result C Fault) → Option (List ℕ) → Result ((A × B) × C) Fault
 three_words members first second third None = Err (missing_word members)
-three_words members first second third (Some words) = words_behind members (first (cut_word words).0) second third (cut_word words).1
+three_words members first second third (Some words) =
+    words_behind members (first (cut_word words).0) second third (cut_word words).1
 
 -- two members are one
 abbrev pub same_member : MemberId → MemberId → Bool
@@ -126,15 +136,18 @@ two_ends members rest = on_ok (two_words members (end_in members) (end_in member
 
 -- a member and how long its commit is
 abbrev pub commit_in : List Name → Option (List ℕ) → Result Command Fault
-commit_in members rest = on_ok (two_words members (member_in members) commit_size_in rest) (λ said. Ok (commands.Commit said.0 said.1))
+commit_in members rest =
+    on_ok (two_words members (member_in members) commit_size_in rest) (λ said. Ok (commands.Commit said.0 said.1))
 
 -- a member and a number
 abbrev pub stream_in : List Name → Option (List ℕ) → Result Command Fault
-stream_in members rest = on_ok (two_words members (member_in members) number_in rest) (λ said. Ok (commands.Stream said.0 said.1))
+stream_in members rest =
+    on_ok (two_words members (member_in members) number_in rest) (λ said. Ok (commands.Stream said.0 said.1))
 
 -- a member, what is delayed, and by how long
 abbrev pub slow_in : List Name → Option (List ℕ) → Result Command Fault
-slow_in members rest = on_ok (three_words members (member_in members) slowed_call_in delay_in rest) (λ said. Ok (commands.Slow said.0.0 said.0.1 said.1))
+slow_in members rest = on_ok (three_words members (member_in members) slowed_call_in delay_in rest)
+    (λ said. Ok (commands.Slow said.0.0 said.0.1 said.1))
 
 -- a method: any token of HTTP
 abbrev pub method_in : List ℕ → Result (Unit {0}) Fault
@@ -145,14 +158,16 @@ abbrev pub target_in : List Name → Result (MemberId × Unit {0}) Fault → Lis
 target_in members before target = if length target == 0 then Err (missing_behind members before) else before
 
 -- the same, from what stands behind the method
-abbrev pub target_behind : List Name → Result (MemberId × Unit {0}) Fault → Option (List ℕ) → Result (MemberId × Unit {0}) Fault
+abbrev pub target_behind : List Name → Result (MemberId × Unit {0}) Fault → Option (List ℕ)
+    → Result (MemberId × Unit {0}) Fault
 target_behind members before None = Err (missing_behind members before)
 target_behind members before (Some words) = target_in members before (cut_word words).0
 
 -- the method and the target, behind the member
 abbrev pub method_behind : List Name → Result MemberId Fault → Option (List ℕ) → Result (MemberId × Unit {0}) Fault
 method_behind members before None = Err (missing_behind members before)
-method_behind members before (Some words) = target_behind members (both before (method_in (cut_word words).0)) (cut_word words).1
+method_behind members before (Some words) =
+    target_behind members (both before (method_in (cut_word words).0)) (cut_word words).1
 
 -- the member that a request is for, where its words are in form
 abbrev pub asked_member : List Name → Option (List ℕ) → Result (MemberId × Unit {0}) Fault
@@ -174,13 +189,19 @@ abbrev pub bytes_or_none : Option (List ℕ) → List ℕ
 bytes_or_none None = []
 bytes_or_none (Some bytes) = bytes
 
--- a request, from what stands behind the member: its method, its target, and as its body all that stands behind the target's blank
+-- a request, from what stands behind the member: its method, its
+-- target, and as its body all that stands behind the target's blank
 abbrev pub request_behind : Option (List ℕ) → RequestWords
-request_behind rest = record { method = next_word rest; target = next_word (behind_word rest); body = bytes_or_none (behind_word (behind_word rest)) }
+request_behind rest = record {
+  method = next_word rest;
+  target = next_word (behind_word rest);
+  body = bytes_or_none (behind_word (behind_word rest));
+}
 
 -- the line of a request
 abbrev pub rest_line : List Name → Option (List ℕ) → Result Line Fault
-rest_line members rest = on_ok (asked_member members rest) (λ said. Ok (lines.Command (commands.Rest said.0 (request_behind (behind_word rest)))))
+rest_line members rest = on_ok (asked_member members rest)
+    (λ said. Ok (lines.Command (commands.Rest said.0 (request_behind (behind_word rest)))))
 
 -- a line that is a command
 abbrev pub command : Command → Result Line Fault
@@ -197,15 +218,24 @@ plain_line members words.Tick rest = on_ok (one_word members number_in rest) (λ
 plain_line members words.Deliver rest = on_ok (one_word members number_in rest) (λ n. command (commands.Deliver n))
 plain_line members words.Lose rest = on_ok (one_word members number_in rest) (λ n. command (commands.Lose n))
 plain_line members words.Run rest = on_ok (one_word members number_in rest) (λ n. Ok (lines.Run n))
-plain_line members words.Turn rest = on_ok (one_word members (member_in members) rest) (λ member. command (commands.Turn member))
-plain_line members words.Hold rest = on_ok (one_word members (member_in members) rest) (λ member. command (commands.Suspend member))
-plain_line members words.Resume rest = on_ok (one_word members (member_in members) rest) (λ member. command (commands.Resume member))
-plain_line members words.Kill rest = on_ok (one_word members (member_in members) rest) (λ member. command (commands.Kill member))
-plain_line members words.Restart rest = on_ok (one_word members (member_in members) rest) (λ member. command (commands.StartAgent member))
-plain_line members words.Promote rest = on_ok (one_word members (member_in members) rest) (λ member. command (commands.Promote member))
-plain_line members words.Crash rest = on_ok (one_word members (member_in members) rest) (λ member. command (commands.Crash member))
-plain_line members words.Freeze rest = on_ok (one_word members (member_in members) rest) (λ member. command (commands.Freeze member))
-plain_line members words.Thaw rest = on_ok (one_word members (member_in members) rest) (λ member. command (commands.Thaw member))
+plain_line members words.Turn rest =
+    on_ok (one_word members (member_in members) rest) (λ member. command (commands.Turn member))
+plain_line members words.Hold rest =
+    on_ok (one_word members (member_in members) rest) (λ member. command (commands.Suspend member))
+plain_line members words.Resume rest =
+    on_ok (one_word members (member_in members) rest) (λ member. command (commands.Resume member))
+plain_line members words.Kill rest =
+    on_ok (one_word members (member_in members) rest) (λ member. command (commands.Kill member))
+plain_line members words.Restart rest =
+    on_ok (one_word members (member_in members) rest) (λ member. command (commands.StartAgent member))
+plain_line members words.Promote rest =
+    on_ok (one_word members (member_in members) rest) (λ member. command (commands.Promote member))
+plain_line members words.Crash rest =
+    on_ok (one_word members (member_in members) rest) (λ member. command (commands.Crash member))
+plain_line members words.Freeze rest =
+    on_ok (one_word members (member_in members) rest) (λ member. command (commands.Freeze member))
+plain_line members words.Thaw rest =
+    on_ok (one_word members (member_in members) rest) (λ member. command (commands.Thaw member))
 plain_line members words.Commit rest = on_ok (commit_in members rest) command
 plain_line members words.Stream rest = on_ok (stream_in members rest) command
 plain_line members words.Slow rest = on_ok (slow_in members rest) command

@@ -18,14 +18,25 @@ pub record DraftText : Type 0 where
 -- nothing stands before the cluster's line
 abbrev pub draft_of : Option Name → Option Settings → Option ℕ → List MemberText → List Line → Option DraftText
 draft_of None config base members body = None
-draft_of (Some cluster) config base members body = Some (record { cluster = cluster; config = config; base = base; members = members; body = body })
+draft_of (Some cluster) config base members body =
+    Some (record { cluster = cluster; config = config; base = base; members = members; body = body })
 
 -- the script that these lines are, if no more follow
 abbrev pub script_so_far : DraftText → ScriptText
-script_so_far d = record { head = record { cluster = d.cluster; config = config_or_default d.config; base = base_or_default d.base; members = d.members }; body = d.body }
+script_so_far d = record {
+  head = record {
+    cluster = d.cluster;
+    config = config_or_default d.config;
+    base = base_or_default d.base;
+    members = d.members;
+  };
+  body = d.body;
+}
 
--- no more members than there may be, a configuration that is what its text says, and nothing before the line of the cluster
-pub record IsDraft (cluster : Option Name) (config : Option Settings) (base : Option ℕ) (members : List MemberText) (body : List Line) : Type 0 where
+-- no more members than there may be, a configuration that is what its
+-- text says, and nothing before the line of the cluster
+pub record IsDraft (cluster : Option Name) (config : Option Settings) (base : Option ℕ)
+    (members : List MemberText) (body : List Line) : Type 0 where
   pub few : length members ≤ MOST_MEMBERS
   pub configured : IfSome config IsConfiguration
   pub no_config : cluster ≡ None → config ≡ None

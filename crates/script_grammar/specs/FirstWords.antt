@@ -8,7 +8,8 @@ use Rattle.script_model.specs.declared.keyword.Keyword.TheVariants.{Cluster, Con
 
 -- all first words
 abbrev pub keywords : List Keyword
-keywords = Cluster ∷ Config ∷ Base ∷ Member ∷ Tick ∷ Run ∷ Turn ∷ Deliver ∷ Lose ∷ Hold ∷ Resume ∷ Kill ∷ Restart ∷ Crash ∷ Promote ∷ Commit ∷ Stream ∷ Freeze ∷ Thaw ∷ Cut ∷ Join ∷ Slow ∷ Rest ∷ Ctl ∷ Trace ∷ []
+keywords = Cluster ∷ Config ∷ Base ∷ Member ∷ Tick ∷ Run ∷ Turn ∷ Deliver ∷ Lose ∷ Hold ∷ Resume ∷ Kill
+    ∷ Restart ∷ Crash ∷ Promote ∷ Commit ∷ Stream ∷ Freeze ∷ Thaw ∷ Cut ∷ Join ∷ Slow ∷ Rest ∷ Ctl ∷ Trace ∷ []
 
 -- the first word that these bytes are
 abbrev pub keyword_of : List ℕ → Option Keyword

@@ -68,8 +68,11 @@ ticks_in lines = min (sum_by ticks_in_line lines) (2 ^ 64 - 1)
 
 -- the first limit that lines pass, if they pass any, where so many ticks come beside those of the lines
 abbrev pub limit_of_lines : ℕ → List (List ℕ) → Option Limit
-limit_of_lines waited lines = if nat_lt most_lines (length lines) then Some limits.Lines else if nat_lt MOST_MEMBERS (member_line_count lines) then Some limits.Members else if nat_lt most_ticks (ticks_in lines + waited) then Some limits.Ticks else None
+limit_of_lines waited lines =
+    if nat_lt most_lines (length lines) then Some limits.Lines else if nat_lt MOST_MEMBERS (member_line_count lines)
+    then Some limits.Members else if nat_lt most_ticks (ticks_in lines + waited) then Some limits.Ticks else None
 
 -- the first limit that the bytes pass, if they pass any, where so many ticks come beside those of their lines
 abbrev pub limit_of : ℕ → List ℕ → Option Limit
-limit_of waited bytes = if nat_lt most_bytes (length bytes) then Some limits.Bytes else limit_of_lines waited (lines_in bytes)
+limit_of waited bytes =
+    if nat_lt most_bytes (length bytes) then Some limits.Bytes else limit_of_lines waited (lines_in bytes)

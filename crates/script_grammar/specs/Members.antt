@@ -11,7 +11,8 @@ use Rattle.script_words.specs.Lines.{one_more}
 -- the place of the member of this name
 abbrev pub place_of : List Name → Name → Option ℕ
 place_of [] name = None
-place_of (member ∷ members) name = if bytes_eq (name_bytes member) (name_bytes name) then Some 0 else one_more (place_of members name)
+place_of (member ∷ members) name =
+    if bytes_eq (name_bytes member) (name_bytes name) then Some 0 else one_more (place_of members name)
 
 -- the member of this name
 abbrev pub member_named : List Name → Name → Option MemberId

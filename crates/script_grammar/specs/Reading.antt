@@ -55,11 +55,13 @@ name_in word = ok_or (name_of word) faults.BadName
 -- a line 'member': a name, and options behind it
 abbrev pub new_member : List Name → List Line → Option (List ℕ) → Result (Name × MemberOptions) Fault
 new_member members body None = Err (in_head body faults.WordCount)
-new_member members body (Some words) = on_ok (both (name_in (cut_word words).0) (options_in (cut_word words).1)) (named_member members body)
+new_member members body (Some words) =
+    on_ok (both (name_in (cut_word words).0) (options_in (cut_word words).1)) (named_member members body)
 
 -- the seventeenth line 'member' is unknown
 abbrev pub next_member : List Name → List Line → Option (List ℕ) → Result (Name × MemberOptions) Fault
-next_member members body rest = if nat_le MOST_MEMBERS (length members) then Err faults.BadWord else new_member members body rest
+next_member members body rest =
+    if nat_le MOST_MEMBERS (length members) then Err faults.BadWord else new_member members body rest
 
 -- how many bytes a log may begin with: 1 to 2 ^ 40
 abbrev pub ranged_base : ℕ → Result ℕ Fault
@@ -88,7 +90,8 @@ base_missing None body = in_head body faults.WordCount
 -- a line 'base', behind the base that is said already
 abbrev pub next_base : Option ℕ → List Line → Option (List ℕ) → Result ℕ Fault
 next_base said body None = Err (base_missing said body)
-next_base said body (Some words) = on_ok (base_in (cut_word words).0) (λ n. on_ok (base_end said body (cut_word words).1) (λ _. Ok n))
+next_base said body (Some words) =
+    on_ok (base_in (cut_word words).0) (λ n. on_ok (base_end said body (cut_word words).1) (λ _. Ok n))
 
 -- the fault of a cluster that is declared again
 abbrev pub named_twice : Option Name → Fault
@@ -106,7 +109,8 @@ base_addition base body rest = on_ok (next_base base body rest) (λ n. Ok (addit
 
 -- what a line 'member' adds
 abbrev pub member_addition : List Name → List Line → Option (List ℕ) → Result Addition Fault
-member_addition members body rest = on_ok (next_member members body rest) (λ member. Ok (additions.Member member.0 member.1))
+member_addition members body rest =
+    on_ok (next_member members body rest) (λ member. Ok (additions.Member member.0 member.1))
 
 -- what a line of the body adds
 abbrev pub body_addition : List Name → Keyword → Option (List ℕ) → Result Addition Fault
@@ -144,7 +148,13 @@ body_after body (additions.Body line) = body ++ line ∷ []
 
 -- what the lines say with one more
 abbrev pub with_addition : DraftText → Addition → DraftText
-with_addition d added = record { cluster = d.cluster; config = d.config; base = base_after d.base added; members = members_after d.members added; body = body_after d.body added }
+with_addition d added = record {
+  cluster = d.cluster;
+  config = d.config;
+  base = base_after d.base added;
+  members = members_after d.members added;
+  body = body_after d.body added;
+}
 
 -- a configuration that is read, or refused for whatever reason
 abbrev pub config_if_read : Result Settings ConfigFault → Result Settings Fault
@@ -177,7 +187,8 @@ with_config d rest = on_ok (next_config d.config d.body rest) (λ config. Ok (re
 
 -- what the lines say with one more line of another first word
 abbrev pub with_other : DraftText → Option Keyword → Option (List ℕ) → Result DraftText Fault
-with_other d keyword rest = on_ok (known_addition d.base (member_names d.members) d.body keyword rest) (λ added. Ok (with_addition d added))
+with_other d keyword rest =
+    on_ok (known_addition d.base (member_names d.members) d.body keyword rest) (λ added. Ok (with_addition d added))
 
 -- what the lines say with one more, of this first word
 abbrev pub with_keyword : DraftText → Option Keyword → Option (List ℕ) → Result DraftText Fault
@@ -226,11 +237,13 @@ after_text d line = if is_skipped line then Ok d else after_counted d line
 
 -- a line, behind those before it
 abbrev pub after_line : Option DraftText → List ℕ → Result (Option DraftText) Fault
-after_line d line = if is_utf8 line then (if nat_le (length line) longest_line then after_text d line else Err faults.TooLong) else Err faults.NotUtf8
+after_line d line = if is_utf8 line
+    then (if nat_le (length line) longest_line then after_text d line else Err faults.TooLong) else Err faults.NotUtf8
 
 -- a member that a line adds is one of no more than there may be, and no other has its name
 abbrev pub IsNew : List MemberText → Addition → Type 0
-IsNew members (additions.Member name options) = (length members < MOST_MEMBERS) × (place_of (member_names members) name ≡ None)
+IsNew members (additions.Member name options) =
+    (length members < MOST_MEMBERS) × (place_of (member_names members) name ≡ None)
 IsNew members (additions.Base n) = Unit {0}
 IsNew members (additions.Body line) = Unit {0}
 

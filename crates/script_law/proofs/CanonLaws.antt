@@ -58,13 +58,23 @@ end-IsPlain members (ends.Member m) = some_name-IsPlain (slice_get members m.num
 
 spelled-IsLineText : (keyword : Keyword) (rest : List ℕ) → IsPlain rest 500 → IsLineText (spelled keyword rest)
 spelled-IsLineText keyword rest h =
-    let p : IsPlain (spelled keyword rest) (longest_word + (500 + 1)) = IsPlain-append (word_of keyword) (32 ∷ rest) longest_word (500 + 1) (word-IsPlain keyword) (blank-IsPlain rest 500 h) in
-    record { text = plain-is_utf8 (spelled keyword rest) p.plain; alone = no-feeds (spelled keyword rest) p.plain; short = omega (arith, p.short); counts = spelled-counts keyword rest }
+    let p : IsPlain (spelled keyword rest) (longest_word + (500 + 1)) = IsPlain-append (word_of keyword)
+    (32 ∷ rest) longest_word (500 + 1) (word-IsPlain keyword) (blank-IsPlain rest 500 h) in
+    record {
+      text = plain-is_utf8 (spelled keyword rest) p.plain;
+      alone = no-feeds (spelled keyword rest) p.plain;
+      short = omega (arith, p.short);
+      counts = spelled-counts keyword rest;
+    }
 
 -- the line of a configuration, whose text is as it was written
-config-IsLineText : (config : Settings) → IsConfiguration config → IsShort (config_text config.text) → IsLineText (config_text config.text)
+config-IsLineText : (config : Settings) → IsConfiguration config → IsShort (config_text config.text)
+    → IsLineText (config_text config.text)
 config-IsLineText config is short = record {
-  text = is_utf8-from_IsUtf8 (config_text config.text) (IsUtf8-append (codes "config ") config.text (IsUtf8-from_is_utf8 (codes "config ") (plain-is_utf8 (codes "config ") refl)) (IsUtf8-from_is_utf8 config.text (config_read-utf8 config.text config is.reads_back)));
+  text = is_utf8-from_IsUtf8 (config_text config.text)
+      (IsUtf8-append (codes "config ") config.text
+      (IsUtf8-from_is_utf8 (codes "config ") (plain-is_utf8 (codes "config ") refl))
+      (IsUtf8-from_is_utf8 config.text (config_read-utf8 config.text config is.reads_back)));
   alone = list_all-append is_in_line (codes "config ") config.text ∙ config_read-line config.text config is.reads_back;
   short = short;
   counts = spelled-counts words.Config config.text;
@@ -73,7 +83,8 @@ config-IsLineText config is short = record {
 link-IsPlain : (members : List Name) (x y : End) → IsPlain (two_texts (end_word members x) (end_word members y)) 500
 link-IsPlain members x y =
     IsPlain-most (two_texts (end_word members x) (end_word members y)) (32 + (32 + 1)) 500 (omega arith)
-    (IsPlain-append (end_word members x) (32 ∷ end_word members y) 32 (32 + 1) (end-IsPlain members x) (blank-IsPlain (end_word members y) 32 (end-IsPlain members y)))
+    (IsPlain-append (end_word members x) (32 ∷ end_word members y) 32 (32 + 1) (end-IsPlain members x)
+    (blank-IsPlain (end_word members y) 32 (end-IsPlain members y)))
 
 switch-IsPlain : (on : Bool) → IsPlain (switch_text on) 500
 switch-IsPlain true = record { plain = refl; short = omega arith }
@@ -83,50 +94,85 @@ number-IsPlain : (n : ℕ) → n < 2 ^ 64 → IsPlain (decimal n) 500
 number-IsPlain n fits = IsPlain-most (decimal n) 20 500 (omega arith) (decimal-IsPlain n fits)
 
 member-IsPlain : (members : List Name) (m : MemberId) → IsPlain (member_text members m) 500
-member-IsPlain members m = IsPlain-most (member_text members m) 32 500 (omega arith) (some_name-IsPlain (slice_get members m.number))
+member-IsPlain members m =
+    IsPlain-most (member_text members m) 32 500 (omega arith) (some_name-IsPlain (slice_get members m.number))
 
 slowed-IsPlain : (slowed : SlowedCall) → IsPlain (slowed_call_text slowed) 5
 slowed-IsPlain slowed_calls.Stop = record { plain = refl; short = omega arith }
 slowed-IsPlain slowed_calls.Start = record { plain = refl; short = omega arith }
 
 -- a member's name and a number
-member_number-IsPlain : (members : List Name) (m : MemberId) (n : ℕ) → n < 2 ^ 64 → IsPlain (two_texts (member_text members m) (decimal n)) 500
+member_number-IsPlain : (members : List Name) (m : MemberId) (n : ℕ) → n < 2 ^ 64
+    → IsPlain (two_texts (member_text members m) (decimal n)) 500
 member_number-IsPlain members m n fits =
     IsPlain-most (two_texts (member_text members m) (decimal n)) (32 + (20 + 1)) 500 (omega arith)
-    (IsPlain-append (member_text members m) (32 ∷ decimal n) 32 (20 + 1) (some_name-IsPlain (slice_get members m.number)) (blank-IsPlain (decimal n) 20 (decimal-IsPlain n fits)))
+    (IsPlain-append (member_text members m) (32 ∷ decimal n) 32 (20 + 1)
+    (some_name-IsPlain (slice_get members m.number)) (blank-IsPlain (decimal n) 20 (decimal-IsPlain n fits)))
 
 -- a member's name, what is delayed and a number
-delay-IsPlain : (members : List Name) (m : MemberId) (slowed : SlowedCall) (n : ℕ) → n < 2 ^ 64 → IsPlain (two_texts (member_text members m) (two_texts (slowed_call_text slowed) (decimal n))) 500
+delay-IsPlain : (members : List Name) (m : MemberId) (slowed : SlowedCall) (n : ℕ) → n < 2 ^ 64
+    → IsPlain (two_texts (member_text members m) (two_texts (slowed_call_text slowed) (decimal n))) 500
 delay-IsPlain members m slowed n fits =
     let behind : IsPlain (two_texts (slowed_call_text slowed) (decimal n)) (5 + (20 + 1)) =
-    IsPlain-append (slowed_call_text slowed) (32 ∷ decimal n) 5 (20 + 1) (slowed-IsPlain slowed) (blank-IsPlain (decimal n) 20 (decimal-IsPlain n fits))
+    IsPlain-append (slowed_call_text slowed) (32 ∷ decimal n) 5 (20 + 1) (slowed-IsPlain slowed)
+    (blank-IsPlain (decimal n) 20 (decimal-IsPlain n fits))
     in
-    IsPlain-most (two_texts (member_text members m) (two_texts (slowed_call_text slowed) (decimal n))) (32 + ((5 + (20 + 1)) + 1)) 500 (omega arith)
-    (IsPlain-append (member_text members m) (32 ∷ two_texts (slowed_call_text slowed) (decimal n)) 32 ((5 + (20 + 1)) + 1) (some_name-IsPlain (slice_get members m.number)) (blank-IsPlain (two_texts (slowed_call_text slowed) (decimal n)) (5 + (20 + 1)) behind))
+    IsPlain-most (two_texts (member_text members m) (two_texts (slowed_call_text slowed) (decimal n)))
+    (32 + ((5 + (20 + 1)) + 1)) 500 (omega arith)
+    (IsPlain-append (member_text members m) (32 ∷ two_texts (slowed_call_text slowed) (decimal n)) 32
+    ((5 + (20 + 1)) + 1) (some_name-IsPlain (slice_get members m.number))
+    (blank-IsPlain (two_texts (slowed_call_text slowed) (decimal n)) (5 + (20 + 1)) behind))
 
 -- the line of a request
-request-IsLineText : (members : List Name) (m : MemberId) (request : RequestWords) → IsRequest members m request → IsLineText (rest_text members m request)
-request-IsLineText members m request is = record { text = is.line.form.text; alone = is.line.one_line; short = is.line.form.short; counts = spelled-counts words.Rest (two_texts (member_text members m) (request_text request)) }
+request-IsLineText : (members : List Name) (m : MemberId) (request : RequestWords)
+    → IsRequest members m request → IsLineText (rest_text members m request)
+request-IsLineText members m request is = record {
+  text = is.line.form.text;
+  alone = is.line.one_line;
+  short = is.line.form.short;
+  counts = spelled-counts words.Rest (two_texts (member_text members m) (request_text request));
+}
 
 command-IsLineText : (members : List Name) (c : Command) → IsCommand members c → IsLineText (command_text members c)
-command-IsLineText members (commands.Turn m) is = spelled-IsLineText words.Turn (member_text members m) (member-IsPlain members m)
+command-IsLineText members (commands.Turn m) is =
+    spelled-IsLineText words.Turn (member_text members m) (member-IsPlain members m)
 command-IsLineText members (commands.Deliver n) is = spelled-IsLineText words.Deliver (decimal n) (number-IsPlain n is)
 command-IsLineText members (commands.Lose n) is = spelled-IsLineText words.Lose (decimal n) (number-IsPlain n is)
-command-IsLineText members (commands.Suspend m) is = spelled-IsLineText words.Hold (member_text members m) (member-IsPlain members m)
-command-IsLineText members (commands.Resume m) is = spelled-IsLineText words.Resume (member_text members m) (member-IsPlain members m)
-command-IsLineText members (commands.Kill m) is = spelled-IsLineText words.Kill (member_text members m) (member-IsPlain members m)
-command-IsLineText members (commands.StartAgent m) is = spelled-IsLineText words.Restart (member_text members m) (member-IsPlain members m)
-command-IsLineText members (commands.Promote m) is = spelled-IsLineText words.Promote (member_text members m) (member-IsPlain members m)
-command-IsLineText members (commands.Crash m) is = spelled-IsLineText words.Crash (member_text members m) (member-IsPlain members m)
-command-IsLineText members (commands.Commit m size) is = spelled-IsLineText words.Commit (two_texts (member_text members m) (decimal size.bytes)) (member_number-IsPlain members m size.bytes (size-fits size))
-command-IsLineText members (commands.Stream m n) is = spelled-IsLineText words.Stream (two_texts (member_text members m) (decimal n)) (member_number-IsPlain members m n is.1)
-command-IsLineText members (commands.Freeze m) is = spelled-IsLineText words.Freeze (member_text members m) (member-IsPlain members m)
-command-IsLineText members (commands.Thaw m) is = spelled-IsLineText words.Thaw (member_text members m) (member-IsPlain members m)
-command-IsLineText members (commands.Slow m slowed delay) is = spelled-IsLineText words.Slow (two_texts (member_text members m) (two_texts (slowed_call_text slowed) (decimal delay.ticks))) (delay-IsPlain members m slowed delay.ticks (delay-fits delay))
-command-IsLineText members (commands.Cut x y) is = spelled-IsLineText words.Cut (two_texts (end_word members x) (end_word members y)) (link-IsPlain members x y)
-command-IsLineText members (commands.Join x y) is = spelled-IsLineText words.Join (two_texts (end_word members x) (end_word members y)) (link-IsPlain members x y)
+command-IsLineText members (commands.Suspend m) is =
+    spelled-IsLineText words.Hold (member_text members m) (member-IsPlain members m)
+command-IsLineText members (commands.Resume m) is =
+    spelled-IsLineText words.Resume (member_text members m) (member-IsPlain members m)
+command-IsLineText members (commands.Kill m) is =
+    spelled-IsLineText words.Kill (member_text members m) (member-IsPlain members m)
+command-IsLineText members (commands.StartAgent m) is =
+    spelled-IsLineText words.Restart (member_text members m) (member-IsPlain members m)
+command-IsLineText members (commands.Promote m) is =
+    spelled-IsLineText words.Promote (member_text members m) (member-IsPlain members m)
+command-IsLineText members (commands.Crash m) is =
+    spelled-IsLineText words.Crash (member_text members m) (member-IsPlain members m)
+command-IsLineText members (commands.Commit m size) is =
+    spelled-IsLineText words.Commit (two_texts (member_text members m) (decimal size.bytes))
+    (member_number-IsPlain members m size.bytes (size-fits size))
+command-IsLineText members (commands.Stream m n) is = spelled-IsLineText words.Stream
+    (two_texts (member_text members m) (decimal n)) (member_number-IsPlain members m n is.1)
+command-IsLineText members (commands.Freeze m) is =
+    spelled-IsLineText words.Freeze (member_text members m) (member-IsPlain members m)
+command-IsLineText members (commands.Thaw m) is =
+    spelled-IsLineText words.Thaw (member_text members m) (member-IsPlain members m)
+command-IsLineText members (commands.Slow m slowed delay) is = spelled-IsLineText words.Slow
+    (two_texts (member_text members m) (two_texts (slowed_call_text slowed) (decimal delay.ticks)))
+    (delay-IsPlain members m slowed delay.ticks (delay-fits delay))
+command-IsLineText members (commands.Cut x y) is =
+    spelled-IsLineText words.Cut (two_texts (end_word members x) (end_word members y)) (link-IsPlain members x y)
+command-IsLineText members (commands.Join x y) is =
+    spelled-IsLineText words.Join (two_texts (end_word members x) (end_word members y)) (link-IsPlain members x y)
 command-IsLineText members (commands.Rest m request) is = request-IsLineText members m request is
-command-IsLineText members (commands.Ctl said) is = record { text = is.line.form.text; alone = is.line.one_line; short = is.line.form.short; counts = spelled-counts words.Ctl said }
+command-IsLineText members (commands.Ctl said) is = record {
+  text = is.line.form.text;
+  alone = is.line.one_line;
+  short = is.line.form.short;
+  counts = spelled-counts words.Ctl said;
+}
 command-IsLineText members (commands.Trace on) is = spelled-IsLineText words.Trace (switch_text on) (switch-IsPlain on)
 
 line-IsLineText : (members : List Name) (line : Line) → IsLine members line → IsLineText (line_text members line)
@@ -135,15 +181,18 @@ line-IsLineText members (lines.Tick n) is = spelled-IsLineText words.Tick (decim
 line-IsLineText members (lines.Command c) is = command-IsLineText members c is
 
 name-line : (keyword : Keyword) (name : Name) → IsLineText (spelled keyword (name_bytes name))
-name-line keyword name = spelled-IsLineText keyword (name_bytes name) (IsPlain-most (name_bytes name) 32 500 (omega arith) (name-IsPlain name))
+name-line keyword name = spelled-IsLineText keyword (name_bytes name)
+    (IsPlain-most (name_bytes name) 32 500 (omega arith) (name-IsPlain name))
 
 -- the line of a member with its options
 member-line : (m : MemberText) → IsLineText (shortest_line m)
 member-line m =
     let os : List MemberOption = options_to_say m.options in
     spelled-IsLineText words.Member (name_bytes m.name ++ behind_blanks (map option_text os))
-    (IsPlain-most (name_bytes m.name ++ behind_blanks (map option_text os)) (32 + length os * 46) 500 (omega (arith, few-options m.options))
-    (IsPlain-append (name_bytes m.name) (behind_blanks (map option_text os)) 32 (length os * 46) (name-IsPlain m.name) (options-IsPlain os)))
+    (IsPlain-most (name_bytes m.name ++ behind_blanks (map option_text os)) (32 + length os * 46) 500
+    (omega (arith, few-options m.options))
+    (IsPlain-append (name_bytes m.name) (behind_blanks (map option_text os)) 32 (length os * 46)
+    (name-IsPlain m.name) (options-IsPlain os)))
 
 -- a member's line with the options that have to be said
 canonical_line : MemberText → MemberLine
@@ -162,7 +211,8 @@ canonical-texts (m ∷ members) = ap (λ t. shortest_line m ∷ t) (canonical-te
 canonical-members : (members : List MemberText) → members_said (canonical_lines members) ≡ members
 unfolding canonical_line canonical_lines
 canonical-members [] = refl
-canonical-members (m ∷ members) = λ i. record { name = m.name; options = (options-enough m.options).is i } ∷ canonical-members members i
+canonical-members (m ∷ members) =
+    λ i. record { name = m.name; options = (options-enough m.options).is i } ∷ canonical-members members i
 
 no-bases : (members : List MemberText) → bases_said (canonical_lines members) ≡ []
 unfolding canonical_lines
@@ -198,7 +248,8 @@ base-to-say base false is = refl
 base-is-said : (base : ℕ) → base_or_default (base_to_say base) ≡ base
 base-is-said base = base-to-say base (base == default_base) refl
 
-body-AllLineTexts : (members : List Name) (body : List Line) → AllAreLines members body → AllLineTexts (body_lines members body)
+body-AllLineTexts : (members : List Name) (body : List Line) → AllAreLines members body
+    → AllLineTexts (body_lines members body)
 body-AllLineTexts members [] is = tt
 body-AllLineTexts members (line ∷ body) is = (line-IsLineText members line is.0, body-AllLineTexts members body is.1)
 
@@ -208,17 +259,25 @@ own-SpellBody members [] = tt
 own-SpellBody members (line ∷ body) = (OwnText refl, own-SpellBody members body)
 
 -- the line of a configuration, where it has to be said
-config-AllLineTexts : (config : Settings) (t : Bool) → IsConfiguration config → IsShort (config_text config.text) → AllLineTexts (config_lines (cond t None (Some config.text)))
+config-AllLineTexts : (config : Settings) (t : Bool) → IsConfiguration config
+    → IsShort (config_text config.text) → AllLineTexts (config_lines (cond t None (Some config.text)))
 config-AllLineTexts config true is short = tt
 config-AllLineTexts config false is short = (config-IsLineText config is short, tt)
 
-script-AllLineTexts : (s : ScriptText) → IsScript s → IsConfiguration s.head.config → IsShort (config_text s.head.config.text) → AllLineTexts (script_lines s)
+script-AllLineTexts : (s : ScriptText) → IsScript s → IsConfiguration s.head.config
+    → IsShort (config_text s.head.config.text) → AllLineTexts (script_lines s)
 script-AllLineTexts s h is short =
-    let fits : base_or_default (base_to_say s.head.base) < 2 ^ 64 = subst (λ (n : ℕ). n < 2 ^ 64) (sym (base-is-said s.head.base)) (base-fits s.head.base h.head.base_most) in (
+    let fits : base_or_default (base_to_say s.head.base) < 2 ^ 64 =
+    subst (λ (n : ℕ). n < 2 ^ 64) (sym (base-is-said s.head.base)) (base-fits s.head.base h.head.base_most) in (
       name-line words.Cluster s.head.cluster,
-      AllLineTexts-append (config_lines (config_to_say s.head.config) ++ (base_lines (base_to_say s.head.base) ++ map shortest_line s.head.members)) (body_lines (names_of s.head) s.body)
-          (AllLineTexts-append (config_lines (config_to_say s.head.config)) (base_lines (base_to_say s.head.base) ++ map shortest_line s.head.members) (config-AllLineTexts s.head.config (bytes_eq s.head.config.text default_settings.text) is short)
-          (AllLineTexts-append (base_lines (base_to_say s.head.base)) (map shortest_line s.head.members) (base-AllLineTexts (base_to_say s.head.base) fits) (members-AllLineTexts s.head.members)))
+      AllLineTexts-append (config_lines (config_to_say s.head.config)
+          ++ (base_lines (base_to_say s.head.base) ++ map shortest_line s.head.members))
+          (body_lines (names_of s.head) s.body)
+          (AllLineTexts-append (config_lines (config_to_say s.head.config))
+          (base_lines (base_to_say s.head.base) ++ map shortest_line s.head.members)
+          (config-AllLineTexts s.head.config (bytes_eq s.head.config.text default_settings.text) is short)
+          (AllLineTexts-append (base_lines (base_to_say s.head.base)) (map shortest_line s.head.members)
+          (base-AllLineTexts (base_to_say s.head.base) fits) (members-AllLineTexts s.head.members)))
           (body-AllLineTexts (names_of s.head) s.body h.body),
     )
 
@@ -248,16 +307,19 @@ record SaysConfig (config : Settings) (text : Option (List ℕ)) : Type 0 where
 same-settings : (r : Result Settings ConfigFault) (x y : Settings) → r ≡ Ok x → r ≡ Ok y → x ≡ y
 same-settings r x y e f = cc
 
-config-says : (config : Settings) (t : Bool) → bytes_eq config.text default_settings.text ≡ t → IsConfiguration config → SaysConfig config (cond t None (Some config.text))
+config-says : (config : Settings) (t : Bool) → bytes_eq config.text default_settings.text ≡ t
+    → IsConfiguration config → SaysConfig config (cond t None (Some config.text))
 config-says config true same is =
-    let empty : config.text ≡ default_settings.text = (bytes_eq-Decides config.text default_settings.text).0 same in record {
+    let empty : config.text ≡ default_settings.text = (bytes_eq-Decides config.text default_settings.text).0 same in
+    record {
       lines = [];
       settings = None;
       texts = refl;
       configs = refl;
       bases = refl;
       members = refl;
-      is = same-settings (config_read config.text) default_settings config (ap config_read empty ∙ config_read-empty) is.reads_back;
+      is = same-settings (config_read config.text) default_settings config
+          (ap config_read empty ∙ config_read-empty) is.reads_back;
     }
 config-says config false same is = record {
   lines = ConfigLine config.text ∷ [];
@@ -274,22 +336,26 @@ base_line : Option ℕ → List HeadLine
 base_line None = []
 base_line (Some n) = BaseLine n ∷ []
 
-base-texts : (base : Option ℕ) (rest : List HeadLine) → map head_line_text (base_line base ++ rest) ≡ base_lines base ++ map head_line_text rest
+base-texts : (base : Option ℕ) (rest : List HeadLine)
+    → map head_line_text (base_line base ++ rest) ≡ base_lines base ++ map head_line_text rest
 unfolding base_line
 base-texts None rest = refl
 base-texts (Some n) rest = refl
 
-base-bases : (base : Option ℕ) (members : List MemberText) → bases_said (base_line base ++ canonical_lines members) ≡ option_to_list base
+base-bases : (base : Option ℕ) (members : List MemberText)
+    → bases_said (base_line base ++ canonical_lines members) ≡ option_to_list base
 unfolding base_line
 base-bases None members = no-bases members
 base-bases (Some n) members = ap (λ ns. n ∷ ns) (no-bases members)
 
-base-configs : (base : Option ℕ) (members : List MemberText) → configs_said (base_line base ++ canonical_lines members) ≡ []
+base-configs : (base : Option ℕ) (members : List MemberText)
+    → configs_said (base_line base ++ canonical_lines members) ≡ []
 unfolding base_line
 base-configs None members = no-configs members
 base-configs (Some n) members = no-configs members
 
-base-members : (base : Option ℕ) (members : List MemberText) → members_said (base_line base ++ canonical_lines members) ≡ members
+base-members : (base : Option ℕ) (members : List MemberText)
+    → members_said (base_line base ++ canonical_lines members) ≡ members
 unfolding base_line
 base-members None members = canonical-members members
 base-members (Some n) members = canonical-members members
@@ -302,18 +368,25 @@ head-IsHeadLines head is =
       said = says.lines ++ rest;
       config = says.settings;
       base = base;
-      configs = flat_map-append config_said says.lines rest ∙ ap (λ t. configs_said says.lines ++ t) (base-configs base head.members) ∙ append-nil (configs_said says.lines) ∙ says.configs;
-      bases = flat_map-append base_said says.lines rest ∙ ap (λ t. t ++ bases_said rest) says.bases ∙ base-bases base head.members;
-      members = flat_map-append member_said says.lines rest ∙ ap (λ t. t ++ members_said rest) says.members ∙ base-members base head.members;
+      configs = flat_map-append config_said says.lines rest
+          ∙ ap (λ t. configs_said says.lines ++ t) (base-configs base head.members)
+          ∙ append-nil (configs_said says.lines) ∙ says.configs;
+      bases = flat_map-append base_said says.lines rest ∙ ap (λ t. t ++ bases_said rest) says.bases
+          ∙ base-bases base head.members;
+      members = flat_map-append member_said says.lines rest ∙ ap (λ t. t ++ members_said rest) says.members
+          ∙ base-members base head.members;
       config_is = says.is;
       base_is = base-is-said head.base;
       order = ap (λ t. cluster_text head.cluster ∷ t)
           (sym (map-append head_line_text says.lines rest
           ∙ ap (λ t. t ++ map head_line_text rest) says.texts
-          ∙ ap (λ t. config_lines (config_to_say head.config) ++ t) (base-texts base (canonical_lines head.members) ∙ ap (λ t. base_lines base ++ t) (canonical-texts head.members))));
+          ∙ ap (λ t. config_lines (config_to_say head.config) ++ t)
+          (base-texts base (canonical_lines head.members)
+          ∙ ap (λ t. base_lines base ++ t) (canonical-texts head.members))));
     }
 
-pub spelling-Spells : (s : ScriptText) → IsScript s → IsConfiguration s.head.config → IsShort (config_text s.head.config.text) → Spells (spelling_of s) s
+pub spelling-Spells : (s : ScriptText) → IsScript s → IsConfiguration s.head.config
+    → IsShort (config_text s.head.config.text) → Spells (spelling_of s) s
 spelling-Spells s h is short =
     let texts : AllLineTexts (script_lines s) = script-AllLineTexts s h is short in
     record {
@@ -325,5 +398,6 @@ spelling-Spells s h is short =
       lines = ap counted_lines (lines-again (script_lines s) texts) ∙ all-count (script_lines s) texts;
     }
 
-pub spelling-is-read : (s : ScriptText) → IsScript s → IsConfiguration s.head.config → IsShort (config_text s.head.config.text) → script_of (spelling_of s) ≡ Ok s
+pub spelling-is-read : (s : ScriptText) → IsScript s → IsConfiguration s.head.config
+    → IsShort (config_text s.head.config.text) → script_of (spelling_of s) ≡ Ok s
 spelling-is-read s h is short = spelled-is-read (spelling_of s) s h (spelling-Spells s h is short)

@@ -7,7 +7,8 @@ use Rattle.script_model.specs.declared.keyword.Keyword.{Keyword}
 use Rattle.script_model.specs.declared.keyword.Keyword.TheVariants.{Cluster}
 use Rattle.script_grammar.specs.FirstWords.{keyword_of}
 
-pub cut_word-spelled : (keyword : Keyword) (rest : List ℕ) → cut_word (spelled keyword rest) ≡ (word_of keyword, Some rest)
+pub cut_word-spelled : (keyword : Keyword) (rest : List ℕ)
+    → cut_word (spelled keyword rest) ≡ (word_of keyword, Some rest)
 cut_word-spelled Cluster rest = refl
 cut_word-spelled _ rest = refl
 

@@ -66,7 +66,8 @@ use Rattle.script_law.proofs.FirstWords.{cut_word-spelled, keyword_of-word_of}
 
 -- no blank stands in a name
 pub first_at-name : (name : Name) → first_at 32 (name_bytes name) ≡ None
-first_at-name name = first_at-all is_name_byte (name_bytes name) refl (is_text-bytes 32 is_name_byte (name_bytes name) name.legal)
+first_at-name name =
+    first_at-all is_name_byte (name_bytes name) refl (is_text-bytes 32 is_name_byte (name_bytes name) name.legal)
 
 first_at-some_name : (o : Option Name) → first_at 32 (text_of_name o) ≡ None
 first_at-some_name None = refl
@@ -77,7 +78,8 @@ first_at-end members ends.Store = refl
 first_at-end members (ends.Member m) = first_at-some_name (slice_get members m.number)
 
 -- a member that is declared has its name's place
-placed : (members : List Name) (name : Name) (i : ℕ) (o : Option ℕ) → AreDifferent members → slice_get members i ≡ Some name → place_of members name ≡ o → o ≡ Some i
+placed : (members : List Name) (name : Name) (i : ℕ) (o : Option ℕ) → AreDifferent members
+    → slice_get members i ≡ Some name → place_of members name ≡ o → o ≡ Some i
 placed members name i None h at e = absurd (place_of-None members name i e at)
 placed members name i (Some j) h at e = ap Some (h j i name (place_of-Some members name j e) at)
 
@@ -86,14 +88,17 @@ past [] i e = omega arith
 past (x ∷ xs) zero e = cc
 past (x ∷ xs) (suc i) e = omega (arith, past xs i e)
 
-named : (members : List Name) (m : MemberId) (o : Option Name) → AreDifferent members → m.number < length members → slice_get members m.number ≡ o → known_member members (name_of (text_of_name o)) ≡ Ok m
+named : (members : List Name) (m : MemberId) (o : Option Name) → AreDifferent members → m.number < length members
+    → slice_get members m.number ≡ o → known_member members (name_of (text_of_name o)) ≡ Ok m
 named members m None h small at = absurd (omega (arith, past members m.number at))
 named members m (Some name) h small at =
     ap (known_member members) (name_of-name_bytes name)
-    ∙ ap (λ o. ok_or (option_and_then member_of o) faults.UnknownName) (placed members name m.number (place_of members name) h at refl)
+    ∙ ap (λ o. ok_or (option_and_then member_of o) faults.UnknownName)
+    (placed members name m.number (place_of members name) h at refl)
     ∙ ap (λ o. ok_or o faults.UnknownName) (member_of-number m)
 
-pub member_in-again : (members : List Name) (m : MemberId) → AreDifferent members → IsMember members m → member_in members (member_text members m) ≡ Ok m
+pub member_in-again : (members : List Name) (m : MemberId) → AreDifferent members → IsMember members m
+    → member_in members (member_text members m) ≡ Ok m
 member_in-again members m h small = named members m (slice_get members m.number) h small refl
 
 -- a body line ends where its words end
@@ -104,7 +109,8 @@ line_end-again (m ∷ members) h = refl
 last_word-again : {A : Type 0} (members : List Name) (x : A) → 0 < length members → last_word members (Ok x) None ≡ Ok x
 last_word-again members x h = ap (λ r. on_ok r (λ _. Ok x)) (line_end-again members h)
 
-one_word-again : {A : Type 0} (members : List Name) (read : List ℕ → Result A Fault) (word : List ℕ) (x : A) → 0 < length members → first_at 32 word ≡ None → read word ≡ Ok x → one_word members read (Some word) ≡ Ok x
+one_word-again : {A : Type 0} (members : List Name) (read : List ℕ → Result A Fault) (word : List ℕ) (x : A)
+    → 0 < length members → first_at 32 word ≡ None → read word ≡ Ok x → one_word members read (Some word) ≡ Ok x
 one_word-again members read word x some plain value =
     ap (λ p. last_word members (read p.0) p.1) (cut_word-alone word plain)
     ∙ ap (λ r. last_word members r None) value
@@ -115,10 +121,12 @@ unequal : (word : List ℕ) (t : Bool) → bytes_eq word (codes "store") ≡ t �
 unequal word true is other = absurd (other ((bytes_eq-Decides word (codes "store")).0 is))
 unequal word false is other = refl
 
-end_in-again : (members : List Name) (x : End) → AreDifferent members → IsEnd members x → end_in members (end_word members x) ≡ Ok x
+end_in-again : (members : List Name) (x : End) → AreDifferent members → IsEnd members x
+    → end_in members (end_word members x) ≡ Ok x
 end_in-again members ends.Store h is = refl
 end_in-again members (ends.Member m) h is =
-    ap (λ t. cond t (Ok ends.Store) (on_ok (member_in members (member_text members m)) (λ m. Ok (ends.Member m)))) (unequal (member_text members m) (bytes_eq (member_text members m) (codes "store")) refl is.1)
+    ap (λ t. cond t (Ok ends.Store) (on_ok (member_in members (member_text members m)) (λ m. Ok (ends.Member m))))
+    (unequal (member_text members m) (bytes_eq (member_text members m) (codes "store")) refl is.1)
     ∙ ap (λ r. on_ok r (λ m. Ok (ends.Member m))) (member_in-again members m h is.0)
 
 same_end-is : (x y : End) → same_end x y ≡ true → x ≡ y
@@ -132,40 +140,54 @@ other_end x y true is other = absurd (other (same_end-is x y is))
 other_end x y false is other = refl
 
 -- words behind others
-word_behind-again : {A B : Type 0} (members : List Name) (x : A) (read : List ℕ → Result B Fault) (word : List ℕ) (y : B) → 0 < length members → first_at 32 word ≡ None → read word ≡ Ok y → word_behind members (Ok x) read (Some word) ≡ Ok (x, y)
+word_behind-again : {A B : Type 0} (members : List Name) (x : A) (read : List ℕ → Result B Fault)
+    (word : List ℕ) (y : B) → 0 < length members → first_at 32 word ≡ None → read word ≡ Ok y
+    → word_behind members (Ok x) read (Some word) ≡ Ok (x, y)
 word_behind-again members x read word y some plain value =
     ap (λ p. last_word members (both (Ok x) (read p.0)) p.1) (cut_word-alone word plain)
     ∙ ap (λ r. last_word members (both (Ok x) r) None) value
     ∙ last_word-again members (x, y) some
 
-two_words-again : {A B : Type 0} (members : List Name) (first : List ℕ → Result A Fault) (second : List ℕ → Result B Fault) (word other : List ℕ) (x : A) (y : B) → 0 < length members
-    → first_at 32 word ≡ None → first word ≡ Ok x → first_at 32 other ≡ None → second other ≡ Ok y → two_words members first second (Some (two_texts word other)) ≡ Ok (x, y)
+two_words-again : {A B : Type 0} (members : List Name) (first : List ℕ → Result A Fault)
+    (second : List ℕ → Result B Fault) (word other : List ℕ) (x : A) (y : B) → 0 < length members
+    → first_at 32 word ≡ None → first word ≡ Ok x → first_at 32 other ≡ None → second other ≡ Ok y
+    → two_words members first second (Some (two_texts word other)) ≡ Ok (x, y)
 two_words-again members first second word other x y some plain value other_plain other_value =
     ap (λ p. word_behind members (first p.0) second p.1) (cut_word-again word other plain)
     ∙ ap (λ r. word_behind members r second (Some other)) value
     ∙ word_behind-again members x second other y some other_plain other_value
 
-words_behind-again : {A B C : Type 0} (members : List Name) (x : A) (read : List ℕ → Result B Fault) (last : List ℕ → Result C Fault) (word other : List ℕ) (y : B) (z : C) → 0 < length members
-    → first_at 32 word ≡ None → read word ≡ Ok y → first_at 32 other ≡ None → last other ≡ Ok z → words_behind members (Ok x) read last (Some (two_texts word other)) ≡ Ok ((x, y), z)
+words_behind-again : {A B C : Type 0} (members : List Name) (x : A) (read : List ℕ → Result B Fault)
+    (last : List ℕ → Result C Fault) (word other : List ℕ) (y : B) (z : C) → 0 < length members
+    → first_at 32 word ≡ None → read word ≡ Ok y → first_at 32 other ≡ None → last other ≡ Ok z
+    → words_behind members (Ok x) read last (Some (two_texts word other)) ≡ Ok ((x, y), z)
 words_behind-again members x read last word other y z some plain value other_plain other_value =
     ap (λ p. word_behind members (both (Ok x) (read p.0)) last p.1) (cut_word-again word other plain)
     ∙ ap (λ r. word_behind members (both (Ok x) r) last (Some other)) value
     ∙ word_behind-again members (x, y) last other z some other_plain other_value
 
-two_ends-again : (members : List Name) (x y : End) → 0 < length members → AreDifferent members → IsLink members x y → two_ends members (Some (two_texts (end_word members x) (end_word members y))) ≡ Ok (x, y)
+two_ends-again : (members : List Name) (x y : End) → 0 < length members → AreDifferent members → IsLink members x y
+    → two_ends members (Some (two_texts (end_word members x) (end_word members y))) ≡ Ok (x, y)
 two_ends-again members x y some h link =
     ap (λ r. on_ok r apart)
-    (two_words-again members (end_in members) (end_in members) (end_word members x) (end_word members y) x y some (first_at-end members x) (end_in-again members x h link.first_is) (first_at-end members y) (end_in-again members y h link.second_is))
+    (two_words-again members (end_in members) (end_in members) (end_word members x)
+    (end_word members y) x y some (first_at-end members x) (end_in-again members x h link.first_is)
+    (first_at-end members y) (end_in-again members y h link.second_is))
     ∙ ap (λ t. cond t (Err faults.SameEnds) (Ok (x, y))) (other_end x y (same_end x y) refl link.apart)
 
 -- lines of the body
-number-again : (members : List Name) (n : ℕ) → 0 < length members → n < 2 ^ 64 → one_word members number_in (Some (decimal n)) ≡ Ok n
-number-again members n some fits = one_word-again members number_in (decimal n) n some (first_at-decimal 32 n (omega arith) fits) (ap (λ o. ok_or o faults.BadNumber) (number-decimal n fits))
+number-again : (members : List Name) (n : ℕ) → 0 < length members → n < 2 ^ 64
+    → one_word members number_in (Some (decimal n)) ≡ Ok n
+number-again members n some fits = one_word-again members number_in (decimal n) n some
+    (first_at-decimal 32 n (omega arith) fits) (ap (λ o. ok_or o faults.BadNumber) (number-decimal n fits))
 
-member-again : (members : List Name) (m : MemberId) → 0 < length members → AreDifferent members → IsMember members m → one_word members (member_in members) (Some (member_text members m)) ≡ Ok m
-member-again members m some h is = one_word-again members (member_in members) (member_text members m) m some (first_at-some_name (slice_get members m.number)) (member_in-again members m h is)
+member-again : (members : List Name) (m : MemberId) → 0 < length members → AreDifferent members
+    → IsMember members m → one_word members (member_in members) (Some (member_text members m)) ≡ Ok m
+member-again members m some h is = one_word-again members (member_in members) (member_text members m) m some
+    (first_at-some_name (slice_get members m.number)) (member_in-again members m h is)
 
-switch-again : (members : List Name) (on : Bool) → 0 < length members → one_word members switch_in (Some (switch_text on)) ≡ Ok on
+switch-again : (members : List Name) (on : Bool) → 0 < length members
+    → one_word members switch_in (Some (switch_text on)) ≡ Ok on
 switch-again members true some = one_word-again members switch_in (codes "on") true some refl refl
 switch-again members false some = one_word-again members switch_in (codes "off") false some refl refl
 
@@ -201,94 +223,249 @@ first_at-member : (members : List Name) (m : MemberId) → first_at 32 (member_t
 first_at-member members m = first_at-some_name (slice_get members m.number)
 
 -- a member and how long its commit is
-commit-again : (members : List Name) (m : MemberId) (size : CommitSize) → 0 < length members → AreDifferent members → IsMember members m → commit_in members (Some (two_texts (member_text members m) (decimal size.bytes))) ≡ Ok (commands.Commit m size)
+commit-again : (members : List Name) (m : MemberId) (size : CommitSize) → 0 < length members
+    → AreDifferent members → IsMember members m
+    → commit_in members (Some (two_texts (member_text members m) (decimal size.bytes))) ≡ Ok (commands.Commit m size)
 commit-again members m size some h is =
     ap (λ r. on_ok r (λ said. Ok (commands.Commit said.0 said.1)))
-    (two_words-again members (member_in members) commit_size_in (member_text members m) (decimal size.bytes) m size some (first_at-member members m) (member_in-again members m h is) (first_at-decimal 32 size.bytes (omega arith) (size-fits size)) (commit_size_in-again size))
+    (two_words-again members (member_in members) commit_size_in (member_text members m)
+    (decimal size.bytes) m size some (first_at-member members m) (member_in-again members m h is)
+    (first_at-decimal 32 size.bytes (omega arith) (size-fits size)) (commit_size_in-again size))
 
 -- a member and a number
-stream-again : (members : List Name) (m : MemberId) (n : ℕ) → 0 < length members → AreDifferent members → IsMember members m → n < 2 ^ 64 → stream_in members (Some (two_texts (member_text members m) (decimal n))) ≡ Ok (commands.Stream m n)
+stream-again : (members : List Name) (m : MemberId) (n : ℕ) → 0 < length members → AreDifferent members
+    → IsMember members m → n < 2 ^ 64
+    → stream_in members (Some (two_texts (member_text members m) (decimal n))) ≡ Ok (commands.Stream m n)
 stream-again members m n some h is fits =
     ap (λ r. on_ok r (λ said. Ok (commands.Stream said.0 said.1)))
-    (two_words-again members (member_in members) number_in (member_text members m) (decimal n) m n some (first_at-member members m) (member_in-again members m h is) (first_at-decimal 32 n (omega arith) fits) (number_in-again n fits))
+    (two_words-again members (member_in members) number_in (member_text members m) (decimal n) m n some
+    (first_at-member members m) (member_in-again members m h is) (first_at-decimal 32 n (omega arith) fits)
+    (number_in-again n fits))
 
 -- a member, what is delayed, and by how long
-slow-again : (members : List Name) (m : MemberId) (slowed : SlowedCall) (delay : Delay) → 0 < length members → AreDifferent members → IsMember members m
-    → slow_in members (Some (two_texts (member_text members m) (two_texts (slowed_call_text slowed) (decimal delay.ticks)))) ≡ Ok (commands.Slow m slowed delay)
+slow-again : (members : List Name) (m : MemberId) (slowed : SlowedCall) (delay : Delay) → 0 < length members
+    → AreDifferent members → IsMember members m
+    → slow_in members
+    (Some (two_texts (member_text members m) (two_texts (slowed_call_text slowed) (decimal delay.ticks))))
+    ≡ Ok (commands.Slow m slowed delay)
 slow-again members m slowed delay some h is =
     let words : List ℕ = two_texts (slowed_call_text slowed) (decimal delay.ticks) in
     ap (λ r. on_ok r (λ said. Ok (commands.Slow said.0.0 said.0.1 said.1)))
-    (ap (λ p. words_behind members (member_in members p.0) slowed_call_in delay_in p.1) (cut_word-again (member_text members m) words (first_at-member members m))
+    (ap (λ p. words_behind members (member_in members p.0) slowed_call_in delay_in p.1)
+    (cut_word-again (member_text members m) words (first_at-member members m))
     ∙ ap (λ r. words_behind members r slowed_call_in delay_in (Some words)) (member_in-again members m h is)
-    ∙ words_behind-again members m slowed_call_in delay_in (slowed_call_text slowed) (decimal delay.ticks) slowed delay some (first_at-slowed slowed) (slowed_call_in-again slowed) (first_at-decimal 32 delay.ticks (omega arith) (delay-fits delay)) (delay_in-again delay))
+    ∙ words_behind-again members m slowed_call_in delay_in (slowed_call_text slowed)
+    (decimal delay.ticks) slowed delay some (first_at-slowed slowed) (slowed_call_in-again slowed)
+    (first_at-decimal 32 delay.ticks (omega arith) (delay-fits delay)) (delay_in-again delay))
 
 -- a line with its first word and the words behind it
 record IsSaid (members : List Name) (line : Line) : Type 0 where
   pub keyword : Keyword
   pub words : List ℕ
   pub text : line_text members line ≡ spelled keyword words
-  pub in_body : (base : Option ℕ) (body : List Line) → addition_of base members body keyword (Some words) ≡ Ok (additions.Body line)
+  pub in_body : (base : Option ℕ) (body : List Line)
+      → addition_of base members body keyword (Some words) ≡ Ok (additions.Body line)
 
 -- a line that was read is added to the body
-added : (line : Line) (r : Result Line Fault) → r ≡ Ok line → on_ok r (λ l. Ok (additions.Body l)) ≡ Ok (additions.Body line)
+added : (line : Line) (r : Result Line Fault) → r ≡ Ok line
+    → on_ok r (λ l. Ok (additions.Body l)) ≡ Ok (additions.Body line)
 added line r e = ap (λ r. on_ok r (λ l. Ok (additions.Body l))) e
 
-command-IsSaid : (members : List Name) (c : Command) → 0 < length members → AreDifferent members → IsCommand members c → IsSaid members (lines.Command c)
-command-IsSaid members (commands.Turn m) some h is = record { keyword = words.Turn; words = member_text members m; text = refl; in_body = λ base body. added _ _ (ap (λ r. on_ok r (λ m. command (commands.Turn m))) (member-again members m some h is)) }
-command-IsSaid members (commands.Suspend m) some h is = record { keyword = words.Hold; words = member_text members m; text = refl; in_body = λ base body. added _ _ (ap (λ r. on_ok r (λ m. command (commands.Suspend m))) (member-again members m some h is)) }
-command-IsSaid members (commands.Resume m) some h is = record { keyword = words.Resume; words = member_text members m; text = refl; in_body = λ base body. added _ _ (ap (λ r. on_ok r (λ m. command (commands.Resume m))) (member-again members m some h is)) }
-command-IsSaid members (commands.Kill m) some h is = record { keyword = words.Kill; words = member_text members m; text = refl; in_body = λ base body. added _ _ (ap (λ r. on_ok r (λ m. command (commands.Kill m))) (member-again members m some h is)) }
-command-IsSaid members (commands.StartAgent m) some h is = record { keyword = words.Restart; words = member_text members m; text = refl; in_body = λ base body. added _ _ (ap (λ r. on_ok r (λ m. command (commands.StartAgent m))) (member-again members m some h is)) }
-command-IsSaid members (commands.Promote m) some h is = record { keyword = words.Promote; words = member_text members m; text = refl; in_body = λ base body. added _ _ (ap (λ r. on_ok r (λ m. command (commands.Promote m))) (member-again members m some h is)) }
-command-IsSaid members (commands.Crash m) some h is = record { keyword = words.Crash; words = member_text members m; text = refl; in_body = λ base body. added _ _ (ap (λ r. on_ok r (λ m. command (commands.Crash m))) (member-again members m some h is)) }
-command-IsSaid members (commands.Freeze m) some h is = record { keyword = words.Freeze; words = member_text members m; text = refl; in_body = λ base body. added _ _ (ap (λ r. on_ok r (λ m. command (commands.Freeze m))) (member-again members m some h is)) }
-command-IsSaid members (commands.Thaw m) some h is = record { keyword = words.Thaw; words = member_text members m; text = refl; in_body = λ base body. added _ _ (ap (λ r. on_ok r (λ m. command (commands.Thaw m))) (member-again members m some h is)) }
-command-IsSaid members (commands.Deliver n) some h is = record { keyword = words.Deliver; words = decimal n; text = refl; in_body = λ base body. added _ _ (ap (λ r. on_ok r (λ n. command (commands.Deliver n))) (number-again members n some is)) }
-command-IsSaid members (commands.Lose n) some h is = record { keyword = words.Lose; words = decimal n; text = refl; in_body = λ base body. added _ _ (ap (λ r. on_ok r (λ n. command (commands.Lose n))) (number-again members n some is)) }
-command-IsSaid members (commands.Commit m size) some h is = record { keyword = words.Commit; words = two_texts (member_text members m) (decimal size.bytes); text = refl; in_body = λ base body. added _ _ (ap (λ r. on_ok r command) (commit-again members m size some h is)) }
-command-IsSaid members (commands.Stream m n) some h is = record { keyword = words.Stream; words = two_texts (member_text members m) (decimal n); text = refl; in_body = λ base body. added _ _ (ap (λ r. on_ok r command) (stream-again members m n some h is.0 is.1)) }
-command-IsSaid members (commands.Slow m slowed delay) some h is = record { keyword = words.Slow; words = two_texts (member_text members m) (two_texts (slowed_call_text slowed) (decimal delay.ticks)); text = refl; in_body = λ base body. added _ _ (ap (λ r. on_ok r command) (slow-again members m slowed delay some h is)) }
-command-IsSaid members (commands.Cut x y) some h is = record { keyword = words.Cut; words = two_texts (end_word members x) (end_word members y); text = refl; in_body = λ base body. added _ _ (ap (λ r. on_ok r (λ link. command (commands.Cut link.0 link.1))) (two_ends-again members x y some h is)) }
-command-IsSaid members (commands.Join x y) some h is = record { keyword = words.Join; words = two_texts (end_word members x) (end_word members y); text = refl; in_body = λ base body. added _ _ (ap (λ r. on_ok r (λ link. command (commands.Join link.0 link.1))) (two_ends-again members x y some h is)) }
-command-IsSaid members (commands.Rest m request) some h is = record { keyword = words.Rest; words = two_texts (member_text members m) (request_text request); text = refl; in_body = λ base rest. added _ _ (own-again members (member_text members m) m (first_at-member members m) (member_in-again members m h is.declared) request.method request.target is.method is.target request.body) }
-command-IsSaid members (commands.Ctl said) some h is = record { keyword = words.Ctl; words = said; text = refl; in_body = λ base body. added _ _ (ap (λ r. on_ok r (λ _. command (commands.Ctl said))) (line_end-again members some)) }
-command-IsSaid members (commands.Trace on) some h is = record { keyword = words.Trace; words = switch_text on; text = refl; in_body = λ base body. added _ _ (ap (λ r. on_ok r (λ on. command (commands.Trace on))) (switch-again members on some)) }
+command-IsSaid : (members : List Name) (c : Command) → 0 < length members → AreDifferent members
+    → IsCommand members c → IsSaid members (lines.Command c)
+command-IsSaid members (commands.Turn m) some h is = record {
+  keyword = words.Turn;
+  words = member_text members m;
+  text = refl;
+  in_body =
+      λ base body. added _ _ (ap (λ r. on_ok r (λ m. command (commands.Turn m))) (member-again members m some h is));
+}
+command-IsSaid members (commands.Suspend m) some h is = record {
+  keyword = words.Hold;
+  words = member_text members m;
+  text = refl;
+  in_body =
+      λ base body. added _ _ (ap (λ r. on_ok r (λ m. command (commands.Suspend m))) (member-again members m some h is));
+}
+command-IsSaid members (commands.Resume m) some h is = record {
+  keyword = words.Resume;
+  words = member_text members m;
+  text = refl;
+  in_body =
+      λ base body. added _ _ (ap (λ r. on_ok r (λ m. command (commands.Resume m))) (member-again members m some h is));
+}
+command-IsSaid members (commands.Kill m) some h is = record {
+  keyword = words.Kill;
+  words = member_text members m;
+  text = refl;
+  in_body =
+      λ base body. added _ _ (ap (λ r. on_ok r (λ m. command (commands.Kill m))) (member-again members m some h is));
+}
+command-IsSaid members (commands.StartAgent m) some h is = record {
+  keyword = words.Restart;
+  words = member_text members m;
+  text = refl;
+  in_body = λ base body.
+      added _ _ (ap (λ r. on_ok r (λ m. command (commands.StartAgent m))) (member-again members m some h is));
+}
+command-IsSaid members (commands.Promote m) some h is = record {
+  keyword = words.Promote;
+  words = member_text members m;
+  text = refl;
+  in_body =
+      λ base body. added _ _ (ap (λ r. on_ok r (λ m. command (commands.Promote m))) (member-again members m some h is));
+}
+command-IsSaid members (commands.Crash m) some h is = record {
+  keyword = words.Crash;
+  words = member_text members m;
+  text = refl;
+  in_body =
+      λ base body. added _ _ (ap (λ r. on_ok r (λ m. command (commands.Crash m))) (member-again members m some h is));
+}
+command-IsSaid members (commands.Freeze m) some h is = record {
+  keyword = words.Freeze;
+  words = member_text members m;
+  text = refl;
+  in_body =
+      λ base body. added _ _ (ap (λ r. on_ok r (λ m. command (commands.Freeze m))) (member-again members m some h is));
+}
+command-IsSaid members (commands.Thaw m) some h is = record {
+  keyword = words.Thaw;
+  words = member_text members m;
+  text = refl;
+  in_body =
+      λ base body. added _ _ (ap (λ r. on_ok r (λ m. command (commands.Thaw m))) (member-again members m some h is));
+}
+command-IsSaid members (commands.Deliver n) some h is = record {
+  keyword = words.Deliver;
+  words = decimal n;
+  text = refl;
+  in_body =
+      λ base body. added _ _ (ap (λ r. on_ok r (λ n. command (commands.Deliver n))) (number-again members n some is));
+}
+command-IsSaid members (commands.Lose n) some h is = record {
+  keyword = words.Lose;
+  words = decimal n;
+  text = refl;
+  in_body =
+      λ base body. added _ _ (ap (λ r. on_ok r (λ n. command (commands.Lose n))) (number-again members n some is));
+}
+command-IsSaid members (commands.Commit m size) some h is = record {
+  keyword = words.Commit;
+  words = two_texts (member_text members m) (decimal size.bytes);
+  text = refl;
+  in_body = λ base body. added _ _ (ap (λ r. on_ok r command) (commit-again members m size some h is));
+}
+command-IsSaid members (commands.Stream m n) some h is = record {
+  keyword = words.Stream;
+  words = two_texts (member_text members m) (decimal n);
+  text = refl;
+  in_body = λ base body. added _ _ (ap (λ r. on_ok r command) (stream-again members m n some h is.0 is.1));
+}
+command-IsSaid members (commands.Slow m slowed delay) some h is = record {
+  keyword = words.Slow;
+  words = two_texts (member_text members m) (two_texts (slowed_call_text slowed) (decimal delay.ticks));
+  text = refl;
+  in_body = λ base body. added _ _ (ap (λ r. on_ok r command) (slow-again members m slowed delay some h is));
+}
+command-IsSaid members (commands.Cut x y) some h is = record {
+  keyword = words.Cut;
+  words = two_texts (end_word members x) (end_word members y);
+  text = refl;
+  in_body = λ base body. added _ _
+      (ap (λ r. on_ok r (λ link. command (commands.Cut link.0 link.1))) (two_ends-again members x y some h is));
+}
+command-IsSaid members (commands.Join x y) some h is = record {
+  keyword = words.Join;
+  words = two_texts (end_word members x) (end_word members y);
+  text = refl;
+  in_body = λ base body. added _ _
+      (ap (λ r. on_ok r (λ link. command (commands.Join link.0 link.1))) (two_ends-again members x y some h is));
+}
+command-IsSaid members (commands.Rest m request) some h is = record {
+  keyword = words.Rest;
+  words = two_texts (member_text members m) (request_text request);
+  text = refl;
+  in_body = λ base rest. added _ _
+      (own-again members (member_text members m) m (first_at-member members m)
+      (member_in-again members m h is.declared) request.method request.target is.method is.target request.body);
+}
+command-IsSaid members (commands.Ctl said) some h is = record {
+  keyword = words.Ctl;
+  words = said;
+  text = refl;
+  in_body = λ base body. added _ _ (ap (λ r. on_ok r (λ _. command (commands.Ctl said))) (line_end-again members some));
+}
+command-IsSaid members (commands.Trace on) some h is = record {
+  keyword = words.Trace;
+  words = switch_text on;
+  text = refl;
+  in_body =
+      λ base body. added _ _ (ap (λ r. on_ok r (λ on. command (commands.Trace on))) (switch-again members on some));
+}
 
-line-IsSaid : (members : List Name) (line : Line) → 0 < length members → AreDifferent members → IsLine members line → IsSaid members line
-line-IsSaid members (lines.Run n) some h is = record { keyword = words.Run; words = decimal n; text = refl; in_body = λ base body. added _ _ (ap (λ r. on_ok r (λ n. Ok (lines.Run n))) (number-again members n some is)) }
-line-IsSaid members (lines.Tick n) some h is = record { keyword = words.Tick; words = decimal n; text = refl; in_body = λ base body. added _ _ (ap (λ r. on_ok r (λ n. Ok (lines.Tick n))) (number-again members n some is)) }
+line-IsSaid : (members : List Name) (line : Line) → 0 < length members → AreDifferent members
+    → IsLine members line → IsSaid members line
+line-IsSaid members (lines.Run n) some h is = record {
+  keyword = words.Run;
+  words = decimal n;
+  text = refl;
+  in_body = λ base body. added _ _ (ap (λ r. on_ok r (λ n. Ok (lines.Run n))) (number-again members n some is));
+}
+line-IsSaid members (lines.Tick n) some h is = record {
+  keyword = words.Tick;
+  words = decimal n;
+  text = refl;
+  in_body = λ base body. added _ _ (ap (λ r. on_ok r (λ n. Ok (lines.Tick n))) (number-again members n some is));
+}
 line-IsSaid members (lines.Command c) some h is = command-IsSaid members c some h is
 
 -- what is added to a draft by a line of this first word and these words
-spelled-again : (d : DraftText) (keyword : Keyword) (rest : List ℕ) → with_line d (spelled keyword rest) ≡ with_keyword d (Some keyword) (Some rest)
+spelled-again : (d : DraftText) (keyword : Keyword) (rest : List ℕ)
+    → with_line d (spelled keyword rest) ≡ with_keyword d (Some keyword) (Some rest)
 spelled-again d keyword rest =
     ap (λ p. with_keyword d (keyword_of p.0) p.1) (cut_word-spelled keyword rest)
     ∙ ap (λ k. with_keyword d k (Some rest)) (keyword_of-word_of keyword)
 
-keyword-again : (d : DraftText) (keyword : Keyword) (rest : Option (List ℕ)) (a : Addition) → addition_of d.base (member_names d.members) d.body keyword rest ≡ Ok a → with_keyword d (Some keyword) rest ≡ Ok (with_addition d a)
+keyword-again : (d : DraftText) (keyword : Keyword) (rest : Option (List ℕ)) (a : Addition)
+    → addition_of d.base (member_names d.members) d.body keyword rest ≡ Ok a
+    → with_keyword d (Some keyword) rest ≡ Ok (with_addition d a)
 keyword-again d words.Config rest a is = absurd (err_is _ a is)
 keyword-again d _ rest a is = ap (λ r. on_ok r (λ added. Ok (with_addition d added))) is
 
-addition-again : (d : DraftText) (keyword : Keyword) (rest : List ℕ) (a : Addition) → addition_of d.base (member_names d.members) d.body keyword (Some rest) ≡ Ok a → with_line d (spelled keyword rest) ≡ Ok (with_addition d a)
+addition-again : (d : DraftText) (keyword : Keyword) (rest : List ℕ) (a : Addition)
+    → addition_of d.base (member_names d.members) d.body keyword (Some rest) ≡ Ok a
+    → with_line d (spelled keyword rest) ≡ Ok (with_addition d a)
 addition-again d keyword rest a is = spelled-again d keyword rest ∙ keyword-again d keyword (Some rest) a is
 
-line-again : (d : DraftText) (line : Line) → 0 < length (member_names d.members) → AreDifferent (member_names d.members) → IsLine (member_names d.members) line → with_line d (line_text (member_names d.members) line) ≡ Ok (record d { body = d.body ++ line ∷ [] })
+line-again : (d : DraftText) (line : Line) → 0 < length (member_names d.members)
+    → AreDifferent (member_names d.members) → IsLine (member_names d.members) line
+    → with_line d (line_text (member_names d.members) line) ≡ Ok (record d { body = d.body ++ line ∷ [] })
 line-again d line some h is =
     let said = line-IsSaid (member_names d.members) line some h is in
-    ap (with_line d) said.text ∙ addition-again d said.keyword said.words (additions.Body line) (said.in_body d.base d.body)
+    ap (with_line d) said.text
+    ∙ addition-again d said.keyword said.words (additions.Body line) (said.in_body d.base d.body)
 
 -- so is each text that spells the line
-line_text-again : (d : DraftText) (text : List ℕ) (line : Line) → 0 < length (member_names d.members) → AreDifferent (member_names d.members) → IsLine (member_names d.members) line → SpellsLine (member_names d.members) text line
+line_text-again : (d : DraftText) (text : List ℕ) (line : Line) → 0 < length (member_names d.members)
+    → AreDifferent (member_names d.members) → IsLine (member_names d.members) line
+    → SpellsLine (member_names d.members) text line
     → with_line d text ≡ Ok (record d { body = d.body ++ line ∷ [] })
 line_text-again d text line some h is (OwnText own) = ap (with_line d) own ∙ line-again d line some h is
 line_text-again d text line some h is (BlankBehind m request empty asks blank) =
     let members : List Name = member_names d.members in
     let asked : IsRequest members m request = subst (IsLine members) asks is in
     let behind : List ℕ = two_texts (member_text members m) (words_with request.method request.target (Some [])) in
-    let bare : request_with request.method request.target None ≡ request = ap (λ (body : List ℕ). record request { body = body }) (sym empty) in
-    let read = request-again members (member_text members m) m (first_at-member members m) (member_in-again members m h asked.declared) request.method request.target asked.method asked.target (Some []) in
-    ap (with_line d) (blank ∙ ap (λ (r : RequestWords). rest_text members m r ++ 32 ∷ []) (sym bare) ∙ sym (blank-text members m request.method request.target))
-    ∙ addition-again d words.Rest behind (additions.Body (lines.Command (commands.Rest m (request_with request.method request.target None)))) (added _ _ read)
+    let bare : request_with request.method request.target None ≡ request =
+    ap (λ (body : List ℕ). record request { body = body }) (sym empty) in
+    let read = request-again members (member_text members m) m (first_at-member members m)
+    (member_in-again members m h asked.declared) request.method request.target asked.method asked.target (Some []) in
+    ap (with_line d)
+    (blank ∙ ap (λ (r : RequestWords). rest_text members m r ++ 32 ∷ []) (sym bare)
+    ∙ sym (blank-text members m request.method request.target))
+    ∙ addition-again d words.Rest behind
+    (additions.Body (lines.Command (commands.Rest m (request_with request.method request.target None))))
+    (added _ _ read)
     ∙ ap (λ (r : RequestWords). Ok (record d { body = d.body ++ lines.Command (commands.Rest m r) ∷ [] })) bare
     ∙ ap (λ (l : Line). Ok (record d { body = d.body ++ l ∷ [] })) (sym asks)
 
@@ -296,16 +473,20 @@ line_text-again d text line some h is (BlankBehind m request empty asks blank) =
 few : (n : ℕ) → n < MOST_MEMBERS → nat_le MOST_MEMBERS n ≡ false
 few n h = grind (arith, nat_tests)
 
-new-again : (members : List Name) (line : MemberLine) → length members < MOST_MEMBERS → place_of members line.name ≡ None
-    → next_member members [] (Some (name_bytes line.name ++ behind_blanks (map option_text line.words))) ≡ Ok (line.name, options_or_default line.said)
+new-again : (members : List Name) (line : MemberLine) → length members < MOST_MEMBERS
+    → place_of members line.name ≡ None
+    → next_member members [] (Some (name_bytes line.name ++ behind_blanks (map option_text line.words)))
+    ≡ Ok (line.name, options_or_default line.said)
 new-again members line small absent =
     let text : List ℕ = name_bytes line.name ++ behind_blanks (map option_text line.words) in
     let declared : MemberOptions = options_or_default line.said in
     let cut = options-cut (name_bytes line.name) line.words (first_at-name line.name) in
     ap (λ t. cond t (Err faults.BadWord) (new_member members [] (Some text))) (few (length members) small)
-    ∙ ap (λ r. on_ok (both (name_in (cut_word text).0) r) (named_member members [])) (options_in-again (cut_word text).1 line.words line.said cut.words_are line.once)
+    ∙ ap (λ r. on_ok (both (name_in (cut_word text).0) r) (named_member members []))
+    (options_in-again (cut_word text).1 line.words line.said cut.words_are line.once)
     ∙ ap (λ w. on_ok (both (name_in w) (Ok declared)) (named_member members [])) cut.name_is
-    ∙ ap (λ o. on_ok (both (ok_or o faults.BadName) (Ok declared)) (named_member members [])) (name_of-name_bytes line.name)
+    ∙ ap (λ o. on_ok (both (ok_or o faults.BadName) (Ok declared)) (named_member members []))
+    (name_of-name_bytes line.name)
     ∙ ap (declared_once (line.name, declared) []) absent
 
 -- a base is read again
@@ -317,28 +498,42 @@ base-fits n most = omega arith
 
 next_base-again : (n : ℕ) → 1 ≤ n → n ≤ greatest_base → next_base None [] (Some (decimal n)) ≡ Ok n
 next_base-again n least most =
-    ap (λ p. on_ok (base_in p.0) (λ k. on_ok (base_end None [] p.1) (λ _. Ok k))) (cut_word-alone (decimal n) (first_at-decimal 32 n (omega arith) (base-fits n most)))
-    ∙ ap (λ r. on_ok (on_ok r ranged_base) (λ k. on_ok (base_end None [] None) (λ _. Ok k))) (number_in-again n (base-fits n most))
-    ∙ ap (λ t. on_ok (cond t (Ok n) (Err faults.BadNumber)) (λ k. on_ok (base_end None [] None) (λ _. Ok k))) (in_range n least most)
+    ap (λ p. on_ok (base_in p.0) (λ k. on_ok (base_end None [] p.1) (λ _. Ok k)))
+    (cut_word-alone (decimal n) (first_at-decimal 32 n (omega arith) (base-fits n most)))
+    ∙ ap (λ r. on_ok (on_ok r ranged_base) (λ k. on_ok (base_end None [] None) (λ _. Ok k)))
+    (number_in-again n (base-fits n most))
+    ∙ ap (λ t. on_ok (cond t (Ok n) (Err faults.BadNumber)) (λ k. on_ok (base_end None [] None) (λ _. Ok k)))
+    (in_range n least most)
 
 -- a head alone
 start : Name → Option Settings → Option ℕ → List MemberText → DraftText
-start cluster config base members = record { cluster = cluster; config = config; base = base; members = members; body = [] }
+start cluster config base members =
+    record { cluster = cluster; config = config; base = base; members = members; body = [] }
 
-member_line-again : (cluster : Name) (line : MemberLine) (config : Option Settings) (base : Option ℕ) (members : List MemberText) → length (member_names members) < MOST_MEMBERS → place_of (member_names members) line.name ≡ None
-    → with_line (start cluster config base members) (member_line_text line) ≡ Ok (start cluster config base (members ++ member_of_line line ∷ []))
+member_line-again : (cluster : Name) (line : MemberLine) (config : Option Settings) (base : Option ℕ)
+    (members : List MemberText) → length (member_names members) < MOST_MEMBERS
+    → place_of (member_names members) line.name ≡ None
+    → with_line (start cluster config base members) (member_line_text line)
+    ≡ Ok (start cluster config base (members ++ member_of_line line ∷ []))
 unfolding start
 member_line-again cluster line config base members small absent =
-    addition-again (start cluster config base members) words.Member (name_bytes line.name ++ behind_blanks (map option_text line.words)) (additions.Member line.name (options_or_default line.said))
-    (ap (λ r. on_ok r (λ member. Ok (additions.Member member.0 member.1))) (new-again (member_names members) line small absent))
+    addition-again (start cluster config base members) words.Member
+    (name_bytes line.name ++ behind_blanks (map option_text line.words))
+    (additions.Member line.name (options_or_default line.said))
+    (ap (λ r. on_ok r (λ member. Ok (additions.Member member.0 member.1)))
+    (new-again (member_names members) line small absent))
 
-base_line-again : (cluster : Name) (n : ℕ) (config : Option Settings) (members : List MemberText) → 1 ≤ n → n ≤ greatest_base → with_line (start cluster config None members) (base_text n) ≡ Ok (start cluster config (Some n) members)
+base_line-again : (cluster : Name) (n : ℕ) (config : Option Settings) (members : List MemberText) → 1 ≤ n
+    → n ≤ greatest_base
+    → with_line (start cluster config None members) (base_text n) ≡ Ok (start cluster config (Some n) members)
 unfolding start
 base_line-again cluster n config members least most =
     addition-again (start cluster config None members) words.Base (decimal n) (additions.Base n)
     (ap (λ r. on_ok r (λ n. Ok (additions.Base n))) (next_base-again n least most))
 
-config_line-again : (cluster : Name) (bytes : List ℕ) (config : Settings) (base : Option ℕ) (members : List MemberText) → config_read bytes ≡ Ok config → with_line (start cluster None base members) (config_text bytes) ≡ Ok (start cluster (Some config) base members)
+config_line-again : (cluster : Name) (bytes : List ℕ) (config : Settings) (base : Option ℕ) (members : List MemberText)
+    → config_read bytes ≡ Ok config
+    → with_line (start cluster None base members) (config_text bytes) ≡ Ok (start cluster (Some config) base members)
 unfolding start
 config_line-again cluster bytes config base members is =
     spelled-again (start cluster None base members) words.Config bytes
@@ -349,29 +544,35 @@ Chain : Option DraftText → List (List ℕ) → Option DraftText → Type 0
 Chain o [] p = o ≡ p
 Chain o (line ∷ lines) p = (m : Option DraftText) × (after_counted o line ≡ Ok m) × Chain m lines p
 
-chain-append : (o m p : Option DraftText) (front back : List (List ℕ)) → Chain o front m → Chain m back p → Chain o (front ++ back) p
+chain-append : (o m p : Option DraftText) (front back : List (List ℕ)) → Chain o front m → Chain m back p
+    → Chain o (front ++ back) p
 unfolding Chain
 chain-append o m p [] back a b = subst (λ (x : Option DraftText). Chain x back p) (sym a) b
 chain-append o m p (line ∷ front) back a b = (a.0, a.1, chain-append a.0 m p front back a.2 b)
 
-slice_get-seam : {X : Type 0} (front : List X) (x : X) (back : List X) → slice_get (front ++ x ∷ back) (length front) ≡ Some x
+slice_get-seam : {X : Type 0} (front : List X) (x : X) (back : List X)
+    → slice_get (front ++ x ∷ back) (length front) ≡ Some x
 slice_get-seam [] x back = refl
 slice_get-seam (y ∷ front) x back = slice_get-seam front x back
 
-slice_get-front : {X : Type 0} (front back : List X) (i : ℕ) (x : X) → slice_get front i ≡ Some x → slice_get (front ++ back) i ≡ Some x
+slice_get-front : {X : Type 0} (front back : List X) (i : ℕ) (x : X) → slice_get front i ≡ Some x
+    → slice_get (front ++ back) i ≡ Some x
 slice_get-front [] back i x e = cc
 slice_get-front (y ∷ front) back zero x e = e
 slice_get-front (y ∷ front) back (suc i) x e = slice_get-front front back i x e
 
 -- a name of different ones isn't among those before it
-new_name : (front : List Name) (name : Name) (back : List Name) (o : Option ℕ) → AreDifferent (front ++ name ∷ back) → place_of front name ≡ o → o ≡ None
+new_name : (front : List Name) (name : Name) (back : List Name) (o : Option ℕ)
+    → AreDifferent (front ++ name ∷ back) → place_of front name ≡ o → o ≡ None
 new_name front name back None h e = refl
 new_name front name back (Some i) h e =
     let at : slice_get front i ≡ Some name = place_of-Some front name i e in
-    let same : i ≡ length front = h i (length front) name (slice_get-front front (name ∷ back) i name at) (slice_get-seam front name back) in
+    let same : i ≡ length front =
+    h i (length front) name (slice_get-front front (name ∷ back) i name at) (slice_get-seam front name back) in
     absurd (omega (arith, slice_get_within front i name at))
 
-member_names-append : (front back : List MemberText) → member_names (front ++ back) ≡ member_names front ++ member_names back
+member_names-append : (front back : List MemberText)
+    → member_names (front ++ back) ≡ member_names front ++ member_names back
 member_names-append front back = map-append (λ (m : MemberText). m.name) front back
 
 count-names : (members : List MemberText) → length (member_names members) ≡ length members
@@ -396,39 +597,49 @@ record IsOnlyBase (before : Option ℕ) (n : ℕ) (behind : List ℕ) (base : Op
   pub is : Some n ≡ base
   pub last : behind ≡ []
 
-only-base : (before : Option ℕ) (n : ℕ) (behind : List ℕ) (base : Option ℕ) → option_to_list before ++ n ∷ behind ≡ option_to_list base → IsOnlyBase before n behind base
+only-base : (before : Option ℕ) (n : ℕ) (behind : List ℕ) (base : Option ℕ)
+    → option_to_list before ++ n ∷ behind ≡ option_to_list base → IsOnlyBase before n behind base
 only-base None n behind None e = cc
 only-base None n behind (Some k) e = record { first = refl; is = cc; last = cc }
 only-base (Some m) n behind None e = cc
 only-base (Some m) n behind (Some k) e = cc
 
 -- so is a configuration
-record IsOnlyConfig (before : Option Settings) (r : Result Settings ConfigFault) (behind : List (Result Settings ConfigFault)) (config : Option Settings) : Type 0 where
+record IsOnlyConfig (before : Option Settings) (r : Result Settings ConfigFault)
+    (behind : List (Result Settings ConfigFault)) (config : Option Settings) : Type 0 where
   pub settings : Settings
   pub first : before ≡ None
   pub is : Some settings ≡ config
   pub read : r ≡ Ok settings
   pub last : behind ≡ []
 
-only-config : (before : Option Settings) (r : Result Settings ConfigFault) (behind : List (Result Settings ConfigFault)) (config : Option Settings) → read_at_most_once before ++ r ∷ behind ≡ read_at_most_once config → IsOnlyConfig before r behind config
+only-config : (before : Option Settings) (r : Result Settings ConfigFault)
+    (behind : List (Result Settings ConfigFault)) (config : Option Settings)
+    → read_at_most_once before ++ r ∷ behind ≡ read_at_most_once config → IsOnlyConfig before r behind config
 only-config None r behind None e = cc
-only-config None r behind (Some settings) e = record { settings = settings; first = refl; is = refl; read = cc; last = cc }
+only-config None r behind (Some settings) e =
+    record { settings = settings; first = refl; is = refl; read = cc; last = cc }
 only-config (Some x) r behind None e = cc
 only-config (Some x) r behind (Some y) e = cc
 
 -- what the lines of a head are to say in the end, behind those that are read
-record IsLeft (config : Option Settings) (base : Option ℕ) (members : List MemberText) (back : List HeadLine) (all_config : Option Settings) (all_base : Option ℕ) : Type 0 where
+record IsLeft (config : Option Settings) (base : Option ℕ) (members : List MemberText) (back : List HeadLine)
+    (all_config : Option Settings) (all_base : Option ℕ) : Type 0 where
   pub configs : read_at_most_once config ++ configs_said back ≡ read_at_most_once all_config
   pub bases : option_to_list base ++ bases_said back ≡ option_to_list all_base
   pub different : AreDifferent (member_names (members ++ members_said back))
   pub few : length (members ++ members_said back) ≤ MOST_MEMBERS
 
-module _ (cluster : Name) (all_config : Option Settings) (all_base : Option ℕ) (least : 1 ≤ base_or_default all_base) (most : base_or_default all_base ≤ greatest_base) where
-  said-again : (config : Option Settings) (base : Option ℕ) (members : List MemberText) (back : List HeadLine) → IsLeft config base members back all_config all_base
-      → Chain (Some (start cluster config base members)) (map head_line_text back) (Some (start cluster all_config all_base (members ++ members_said back)))
+module _ (cluster : Name) (all_config : Option Settings) (all_base : Option ℕ)
+    (least : 1 ≤ base_or_default all_base) (most : base_or_default all_base ≤ greatest_base) where
+  said-again : (config : Option Settings) (base : Option ℕ) (members : List MemberText) (back : List HeadLine)
+      → IsLeft config base members back all_config all_base
+      → Chain (Some (start cluster config base members)) (map head_line_text back)
+      (Some (start cluster all_config all_base (members ++ members_said back)))
   unfolding Chain start
   said-again config base members [] h =
-      rw (configuration-again config all_config h.configs, one-again base all_base h.bases) (ap (λ m. Some (start cluster all_config all_base m)) (sym (append-nil members)))
+      rw (configuration-again config all_config h.configs, one-again base all_base h.bases)
+      (ap (λ m. Some (start cluster all_config all_base m)) (sym (append-nil members)))
   said-again config base members (ConfigLine bytes ∷ back) h =
       let only = only-config config (config_read bytes) (configs_said back) all_config h.configs in
       let left : IsLeft (Some only.settings) base members back all_config all_base = record {
@@ -438,8 +649,11 @@ module _ (cluster : Name) (all_config : Option Settings) (all_base : Option ℕ)
         few = h.few;
       } in (
         Some (start cluster (Some only.settings) base members),
-        subst (λ (c : Option Settings). after_counted (Some (start cluster c base members)) (config_text bytes) ≡ Ok (Some (start cluster (Some only.settings) base members))) (sym only.first)
-            (ap (λ r. on_ok r (λ t. Ok (Some t))) (config_line-again cluster bytes only.settings base members only.read)),
+        subst (λ (c : Option Settings). after_counted (Some (start cluster c base members)) (config_text bytes)
+            ≡ Ok (Some (start cluster (Some only.settings) base members)))
+            (sym only.first)
+            (ap (λ r. on_ok r (λ t. Ok (Some t)))
+            (config_line-again cluster bytes only.settings base members only.read)),
         said-again (Some only.settings) base members back left,
       )
   said-again config base members (BaseLine n ∷ back) h =
@@ -452,14 +666,21 @@ module _ (cluster : Name) (all_config : Option Settings) (all_base : Option ℕ)
       } in
       let is : n ≡ base_or_default all_base = ap base_or_default only.is in (
         Some (start cluster config (Some n) members),
-        subst (λ (b : Option ℕ). after_counted (Some (start cluster config b members)) (base_text n) ≡ Ok (Some (start cluster config (Some n) members))) (sym only.first)
-            (ap (λ r. on_ok r (λ t. Ok (Some t))) (base_line-again cluster n config members (rw is least) (rw is most))),
+        subst (λ (b : Option ℕ). after_counted (Some (start cluster config b members)) (base_text n)
+            ≡ Ok (Some (start cluster config (Some n) members)))
+            (sym only.first)
+            (ap (λ r. on_ok r (λ t. Ok (Some t)))
+            (base_line-again cluster n config members (rw is least) (rw is most))),
         said-again config (Some n) members back left,
       )
   said-again config base members (MembersLine line ∷ back) h =
-      let next : (members ++ member_of_line line ∷ []) ++ members_said back ≡ members ++ member_of_line line ∷ members_said back = append_assoc members (member_of_line line ∷ []) (members_said back) in
-      let fits : length (member_names members) < MOST_MEMBERS = omega (arith, h.few, length-append members (member_of_line line ∷ members_said back), count-names members) in
-      let apart : AreDifferent (member_names members ++ line.name ∷ member_names (members_said back)) = subst AreDifferent (member_names-append members (member_of_line line ∷ members_said back)) h.different in
+      let next : (members ++ member_of_line line ∷ []) ++ members_said back
+      ≡ members ++ member_of_line line ∷ members_said back =
+      append_assoc members (member_of_line line ∷ []) (members_said back) in
+      let fits : length (member_names members) < MOST_MEMBERS =
+      omega (arith, h.few, length-append members (member_of_line line ∷ members_said back), count-names members) in
+      let apart : AreDifferent (member_names members ++ line.name ∷ member_names (members_said back)) =
+      subst AreDifferent (member_names-append members (member_of_line line ∷ members_said back)) h.different in
       let left : IsLeft config base (members ++ member_of_line line ∷ []) back all_config all_base = record {
         configs = h.configs;
         bases = h.bases;
@@ -467,12 +688,19 @@ module _ (cluster : Name) (all_config : Option Settings) (all_base : Option ℕ)
         few = rw next h.few;
       } in (
         Some (start cluster config base (members ++ member_of_line line ∷ [])),
-        ap (λ r. on_ok r (λ t. Ok (Some t))) (member_line-again cluster line config base members fits (new_name (member_names members) line.name (member_names (members_said back)) (place_of (member_names members) line.name) apart refl)),
-        subst (λ (m : List MemberText). Chain (Some (start cluster config base (members ++ member_of_line line ∷ []))) (map head_line_text back) (Some (start cluster all_config all_base m))) next
+        ap (λ r. on_ok r (λ t. Ok (Some t)))
+            (member_line-again cluster line config base members fits
+            (new_name (member_names members) line.name (member_names (members_said back))
+            (place_of (member_names members) line.name) apart refl)),
+        subst (λ (m : List MemberText). Chain (Some (start cluster config base (members ++ member_of_line line ∷ [])))
+            (map head_line_text back) (Some (start cluster all_config all_base m)))
+            next
             (said-again config base (members ++ member_of_line line ∷ []) back left),
       )
 
-body-again : (d : DraftText) (front back : List Line) (texts : List (List ℕ)) → 0 < length (member_names d.members) → AreDifferent (member_names d.members) → AllAreLines (member_names d.members) back → SpellBody (member_names d.members) texts back
+body-again : (d : DraftText) (front back : List Line) (texts : List (List ℕ))
+    → 0 < length (member_names d.members) → AreDifferent (member_names d.members)
+    → AllAreLines (member_names d.members) back → SpellBody (member_names d.members) texts back
     → Chain (Some (record d { body = front })) texts (Some (record d { body = front ++ back }))
 unfolding Chain
 body-again d front [] [] some h is spell = ap (λ (b : List Line). Some (record d { body = b })) (sym (append-nil front))
@@ -481,7 +709,8 @@ body-again d front (line ∷ back) [] some h is spell = absurd spell
 body-again d front (line ∷ back) (text ∷ texts) some h is spell = (
   Some (record d { body = front ++ line ∷ [] }),
   ap (λ r. on_ok r (λ t. Ok (Some t))) (line_text-again (record d { body = front }) text line some h is.0 spell.0),
-  subst (λ (b : List Line). Chain (Some (record d { body = front ++ line ∷ [] })) texts (Some (record d { body = b }))) (append_assoc front (line ∷ []) back)
+  subst (λ (b : List Line). Chain (Some (record d { body = front ++ line ∷ [] })) texts (Some (record d { body = b })))
+      (append_assoc front (line ∷ []) back)
       (body-again d (front ++ line ∷ []) back texts some h is.1 spell.1),
 )
 
@@ -494,24 +723,40 @@ first-again cluster =
 
 -- what the lines of a script say, where they say this configuration and this base
 draft : ScriptText → Option Settings → Option ℕ → DraftText
-draft s config base = record { cluster = s.head.cluster; config = config; base = base; members = s.head.members; body = s.body }
+draft s config base =
+    record { cluster = s.head.cluster; config = config; base = base; members = s.head.members; body = s.body }
 
-head-again : (s : ScriptText) (head : List (List ℕ)) (says : IsHeadLines s.head head) → IsScript s → Chain None (head_with s.head.cluster says.said) (Some (start s.head.cluster says.config says.base (members_said says.said)))
+head-again : (s : ScriptText) (head : List (List ℕ)) (says : IsHeadLines s.head head) → IsScript s
+    → Chain None (head_with s.head.cluster says.said)
+    (Some (start s.head.cluster says.config says.base (members_said says.said)))
 unfolding Chain start
 head-again s head says h =
-    let left : IsLeft None None [] says.said says.config says.base = record { configs = says.configs; bases = says.bases; different = rw says.members h.head.different; few = rw says.members h.head.few } in (
+    let left : IsLeft None None [] says.said says.config says.base = record {
+      configs = says.configs;
+      bases = says.bases;
+      different = rw says.members h.head.different;
+      few = rw says.members h.head.few;
+    } in (
       Some (start s.head.cluster None None []),
       ap (λ r. on_ok r (λ name. Ok (Some (first_draft name)))) (first-again s.head.cluster),
-      said-again s.head.cluster says.config says.base (rw says.base_is h.head.base_least) (rw says.base_is h.head.base_most) None None [] says.said left,
+      said-again s.head.cluster says.config says.base (rw says.base_is h.head.base_least)
+          (rw says.base_is h.head.base_most) None None [] says.said left,
     )
 
-all-again : (s : ScriptText) (head : List (List ℕ)) (says : IsHeadLines s.head head) (body : List (List ℕ)) → SpellBody (names_of s.head) body s.body → IsScript s → Chain None (head ++ body) (Some (draft s says.config says.base))
+all-again : (s : ScriptText) (head : List (List ℕ)) (says : IsHeadLines s.head head) (body : List (List ℕ))
+    → SpellBody (names_of s.head) body s.body → IsScript s
+    → Chain None (head ++ body) (Some (draft s says.config says.base))
 unfolding start draft
 all-again s head says body spell h =
-    chain-append None (Some (start s.head.cluster says.config says.base s.head.members)) (Some (draft s says.config says.base)) head body
-    (subst (λ (ls : List (List ℕ)). Chain None ls (Some (start s.head.cluster says.config says.base s.head.members))) (sym says.order)
-    (subst (λ (m : List MemberText). Chain None (head_with s.head.cluster says.said) (Some (start s.head.cluster says.config says.base m))) says.members (head-again s head says h)))
-    (body-again (draft s says.config says.base) [] s.body body (omega (arith, h.head.some, count-names s.head.members)) h.head.different h.body spell)
+    chain-append None (Some (start s.head.cluster says.config says.base s.head.members))
+    (Some (draft s says.config says.base)) head body
+    (subst (λ (ls : List (List ℕ)). Chain None ls (Some (start s.head.cluster says.config says.base s.head.members)))
+    (sym says.order)
+    (subst (λ (m : List MemberText).
+    Chain None (head_with s.head.cluster says.said) (Some (start s.head.cluster says.config says.base m)))
+    says.members (head-again s head says h)))
+    (body-again (draft s says.config says.base) [] s.body body
+    (omega (arith, h.head.some, count-names s.head.members)) h.head.different h.body spell)
 
 -- lines among empty lines and comments
 short-true : (line : List ℕ) → length line ≤ longest_line → nat_le (length line) longest_line ≡ true
@@ -519,40 +764,59 @@ short-true line h = grind (arith, nat_tests)
 
 in-form : (o : Option DraftText) (line : List ℕ) → IsInForm line → after_line o line ≡ after_text o line
 in-form o line h =
-    ap (λ t. cond t (cond (nat_le (length line) longest_line) (after_text o line) (Err faults.TooLong)) (Err faults.NotUtf8)) h.text
+    ap (λ t.
+    cond t (cond (nat_le (length line) longest_line) (after_text o line) (Err faults.TooLong)) (Err faults.NotUtf8))
+    h.text
     ∙ ap (λ t. cond t (after_text o line) (Err faults.TooLong)) (short-true line h.short)
 
-lines-step : (number : ℕ) (o p : Option DraftText) (line : List ℕ) (rest : List (List ℕ)) (t : Bool) → is_skipped line ≡ t → IsInForm line
+lines-step : (number : ℕ) (o p : Option DraftText) (line : List ℕ) (rest : List (List ℕ)) (t : Bool)
+    → is_skipped line ≡ t → IsInForm line
     → ((m : Option DraftText) → Chain m (counted_lines rest) p → after_lines (number + 1) m rest ≡ Ok p)
     → Chain o (cond t (counted_lines rest) (line ∷ counted_lines rest)) p → after_lines number o (line ∷ rest) ≡ Ok p
 unfolding Chain
 lines-step number o p line rest true is form step chain =
-    ap (λ r. on_ok (at_line number r) (λ t. after_lines (number + 1) t rest)) (in-form o line form ∙ ap (λ t. cond t (Ok o) (after_counted o line)) is)
+    ap (λ r. on_ok (at_line number r) (λ t. after_lines (number + 1) t rest))
+    (in-form o line form ∙ ap (λ t. cond t (Ok o) (after_counted o line)) is)
     ∙ step o chain
 lines-step number o p line rest false is form step chain =
-    ap (λ r. on_ok (at_line number r) (λ t. after_lines (number + 1) t rest)) (in-form o line form ∙ ap (λ t. cond t (Ok o) (after_counted o line)) is ∙ chain.1)
+    ap (λ r. on_ok (at_line number r) (λ t. after_lines (number + 1) t rest))
+    (in-form o line form ∙ ap (λ t. cond t (Ok o) (after_counted o line)) is ∙ chain.1)
     ∙ step chain.0 chain.2
 
-lines-again : (number : ℕ) (o p : Option DraftText) (lines : List (List ℕ)) → AllInForm lines → Chain o (counted_lines lines) p → after_lines number o lines ≡ Ok p
+lines-again : (number : ℕ) (o p : Option DraftText) (lines : List (List ℕ)) → AllInForm lines
+    → Chain o (counted_lines lines) p → after_lines number o lines ≡ Ok p
 unfolding Chain
 lines-again number o p [] form chain = ap Ok chain
 lines-again number o p (line ∷ rest) form chain =
-    lines-step number o p line rest (is_skipped line) refl form.0 (λ m c. lines-again (number + 1) m p rest form.1 c) chain
+    lines-step number o p line rest (is_skipped line) refl form.0
+    (λ m c. lines-again (number + 1) m p rest form.1 c) chain
 
 with_some-again : (s : ScriptText) (members : List MemberText) → 0 < length members → with_some s members ≡ Ok s
 with_some-again s [] h = absurd (omega arith)
 with_some-again s (m ∷ members) h = refl
 
-finished-again : (s : ScriptText) (config : Option Settings) (base : Option ℕ) → 0 < length s.head.members → config_or_default config ≡ s.head.config → base_or_default base ≡ s.head.base → finished (Some (draft s config base)) ≡ Ok s
+finished-again : (s : ScriptText) (config : Option Settings) (base : Option ℕ) → 0 < length s.head.members
+    → config_or_default config ≡ s.head.config → base_or_default base ≡ s.head.base
+    → finished (Some (draft s config base)) ≡ Ok s
 unfolding draft
 finished-again s config base some config_is base_is =
     with_some-again (script_so_far (draft s config base)) s.head.members some
-    ∙ ap (λ (c : Settings). Ok (record { head = record { cluster = s.head.cluster; config = c; base = base_or_default base; members = s.head.members }; body = s.body })) config_is
-    ∙ ap (λ b. Ok (record { head = record { cluster = s.head.cluster; config = s.head.config; base = b; members = s.head.members }; body = s.body })) base_is
+    ∙ ap (λ (c : Settings). Ok (record {
+      head = record { cluster = s.head.cluster; config = c; base = base_or_default base; members = s.head.members };
+      body = s.body;
+    })) config_is
+    ∙ ap (λ b. Ok (record {
+      head = record { cluster = s.head.cluster; config = s.head.config; base = b; members = s.head.members };
+      body = s.body;
+    })) base_is
 
-pub spelled-is-read : (bytes : List ℕ) (text : ScriptText) → IsScript text → Spells bytes text → script_of bytes ≡ Ok text
+pub spelled-is-read : (bytes : List ℕ) (text : ScriptText) → IsScript text → Spells bytes text
+    → script_of bytes ≡ Ok text
 spelled-is-read bytes text h spells =
     let d : Option DraftText = Some (draft text spells.says.config spells.says.base) in
     ap (λ r. on_ok r (λ d. at_line (length (lines_in bytes) + 1) (finished d)))
-    (lines-again 1 None d (lines_in bytes) spells.form (subst (λ (ls : List (List ℕ)). Chain None ls d) (sym spells.lines) (all-again text spells.head spells.says spells.body spells.spells h)))
-    ∙ ap (at_line (length (lines_in bytes) + 1)) (finished-again text spells.says.config spells.says.base h.head.some spells.says.config_is spells.says.base_is)
+    (lines-again 1 None d (lines_in bytes) spells.form
+    (subst (λ (ls : List (List ℕ)). Chain None ls d) (sym spells.lines)
+    (all-again text spells.head spells.says spells.body spells.spells h)))
+    ∙ ap (at_line (length (lines_in bytes) + 1))
+    (finished-again text spells.says.config spells.says.base h.head.some spells.says.config_is spells.says.base_is)

@@ -6,8 +6,10 @@ use Rattle.script_model.specs.declared.ranges.CommitSize.{CommitSize}
 use Rattle.script_model.specs.declared.ranges.Delay.{Delay}
 
 -- a commit, by the tests of its range
-unfoldable pub commit_size_by : (number : ℕ) (some few : Bool) → nat_le 1 number ≡ some → nat_le number longest_commit ≡ few → Option CommitSize
-commit_size_by number true true some few = Some (record { bytes = number; least = leb-true 1 number some; most = leb-true number longest_commit few })
+unfoldable pub commit_size_by : (number : ℕ) (some few : Bool) → nat_le 1 number ≡ some
+    → nat_le number longest_commit ≡ few → Option CommitSize
+commit_size_by number true true some few =
+    Some (record { bytes = number; least = leb-true 1 number some; most = leb-true number longest_commit few })
 commit_size_by number true false some few = None
 commit_size_by number false many some few = None
 

@@ -31,7 +31,8 @@ pub record MemberText : Type 0 where
   pub name : Name
   pub options : MemberOptions
 
--- the head of a script: the cluster's name, its configuration, the bytes of data that each server's log begins with, and the members in order
+-- the head of a script: the cluster's name, its configuration, the bytes
+-- of data that each server's log begins with, and the members in order
 pub record HeadText : Type 0 where
   pub cluster : Name
   pub config : Settings
@@ -135,13 +136,18 @@ command_text members (commands.Kill member) = spelled words.Kill (member_text me
 command_text members (commands.StartAgent member) = spelled words.Restart (member_text members member)
 command_text members (commands.Promote member) = spelled words.Promote (member_text members member)
 command_text members (commands.Crash member) = spelled words.Crash (member_text members member)
-command_text members (commands.Commit member size) = spelled words.Commit (two_texts (member_text members member) (decimal size.bytes))
-command_text members (commands.Stream member n) = spelled words.Stream (two_texts (member_text members member) (decimal n))
+command_text members (commands.Commit member size) =
+    spelled words.Commit (two_texts (member_text members member) (decimal size.bytes))
+command_text members (commands.Stream member n) =
+    spelled words.Stream (two_texts (member_text members member) (decimal n))
 command_text members (commands.Freeze member) = spelled words.Freeze (member_text members member)
 command_text members (commands.Thaw member) = spelled words.Thaw (member_text members member)
-command_text members (commands.Slow member slowed delay) = spelled words.Slow (two_texts (member_text members member) (two_texts (slowed_call_text slowed) (decimal delay.ticks)))
-command_text members (commands.Cut first second) = spelled words.Cut (two_texts (end_word members first) (end_word members second))
-command_text members (commands.Join first second) = spelled words.Join (two_texts (end_word members first) (end_word members second))
+command_text members (commands.Slow member slowed delay) = spelled words.Slow
+    (two_texts (member_text members member) (two_texts (slowed_call_text slowed) (decimal delay.ticks)))
+command_text members (commands.Cut first second) =
+    spelled words.Cut (two_texts (end_word members first) (end_word members second))
+command_text members (commands.Join first second) =
+    spelled words.Join (two_texts (end_word members first) (end_word members second))
 command_text members (commands.Rest member request) = rest_text members member request
 command_text members (commands.Ctl said) = ctl_text said
 command_text members (commands.Trace on) = spelled words.Trace (switch_text on)
@@ -184,9 +190,12 @@ config_lines (Some bytes) = config_text bytes ∷ []
 abbrev pub config_to_say : Settings → Option (List ℕ)
 config_to_say config = if bytes_eq config.text default_settings.text then None else Some config.text
 
--- all lines of a head, in order: the configuration, the base, the members; of configuration, base and options only what isn't the default
+-- all lines of a head, in order: the configuration, the base, the
+-- members; of configuration, base and options only what isn't the default
 abbrev pub head_lines : HeadText → List (List ℕ)
-head_lines head = cluster_text head.cluster ∷ (config_lines (config_to_say head.config) ++ (base_lines (base_to_say head.base) ++ map shortest_line head.members))
+head_lines head = cluster_text head.cluster
+    ∷ (config_lines (config_to_say head.config)
+    ++ (base_lines (base_to_say head.base) ++ map shortest_line head.members))
 
 -- all lines of a body, in order
 abbrev pub body_lines : List Name → List Line → List (List ℕ)
@@ -216,7 +225,8 @@ pub record IsWholeLine (line : List ℕ) : Type 0 where
 
 -- no name stands at two places
 abbrev pub AreDifferent : List Name → Type 0
-AreDifferent members = (i j : ℕ) (name : Name) → slice_get members i ≡ Some name → slice_get members j ≡ Some name → i ≡ j
+AreDifferent members =
+    (i j : ℕ) (name : Name) → slice_get members i ≡ Some name → slice_get members j ≡ Some name → i ≡ j
 
 -- a head that a script may have
 pub record IsHead (head : HeadText) : Type 0 where
@@ -246,7 +256,8 @@ pub record IsWord (word : List ℕ) : Type 0 where
   pub some : 0 < length word
   pub unbroken : first_at 32 word ≡ None
 
--- a request that a line may be: to the agent of a declared member, by a token of HTTP as its method and a word of text as its target, all of it on one line, which is in form
+-- a request that a line may be: to the agent of a declared member, by a token of HTTP as
+-- its method and a word of text as its target, all of it on one line, which is in form
 pub record IsRequest (members : List Name) (member : MemberId) (request : RequestWords) : Type 0 where
   pub declared : IsMember members member
   pub method : is_token request.method ≡ true

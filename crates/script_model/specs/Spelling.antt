@@ -1,4 +1,5 @@
--- Bytes that spell a script: the lines of a head and their options in any order, and among them empty lines and comments.
+-- Bytes that spell a script: the lines of a head and their options in
+-- any order, and among them empty lines and comments.
 use Rattle.std.specs.Prelude.{ℕ, ◌≡◌, List, [], ◌∷◌, ◌++◌, Option, Some, None, Result, Ok, map}
 use Rattle.std.specs.List.{flat_map}
 use Rattle.std.specs.Option.{option_to_list}
@@ -83,7 +84,8 @@ read_at_most_once (Some config) = Ok config ∷ []
 abbrev pub head_with : Name → List HeadLine → List (List ℕ)
 head_with cluster lines = cluster_text cluster ∷ map head_line_text lines
 
--- lines that say a head: behind its cluster its members in order, and among them at most one configuration and at most one base, in any places
+-- lines that say a head: behind its cluster its members in order, and
+-- among them at most one configuration and at most one base, in any places
 pub record IsHeadLines (head : HeadText) (lines : List (List ℕ)) : Type 0 where
   pub said : List HeadLine
   pub config : Option Settings
@@ -100,10 +102,13 @@ abbrev pub AllInForm : List (List ℕ) → Type 0
 AllInForm [] = Unit {0}
 AllInForm (line ∷ lines) = IsInForm line × AllInForm lines
 
--- a text that spells a line of a body: the line's own, or, of a request with the empty body, that with one blank behind it
+-- a text that spells a line of a body: the line's own, or, of a
+-- request with the empty body, that with one blank behind it
 pub data SpellsLine (members : List Name) (text : List ℕ) (line : Line) : Type 0 where
   OwnText : (is : text ≡ line_text members line) → SpellsLine members text line
-  BlankBehind : (member : MemberId) → (request : RequestWords) → (empty : request.body ≡ []) → (asks : line ≡ lines.Command (commands.Rest member request)) → (is : text ≡ rest_text members member request ++ 32 ∷ []) → SpellsLine members text line
+  BlankBehind : (member : MemberId) → (request : RequestWords) → (empty : request.body ≡ [])
+      → (asks : line ≡ lines.Command (commands.Rest member request))
+      → (is : text ≡ rest_text members member request ++ 32 ∷ []) → SpellsLine members text line
 
 -- texts that spell the lines of a body, one for each, in order
 abbrev pub SpellBody : List Name → List (List ℕ) → List Line → Type 0
@@ -112,7 +117,8 @@ SpellBody members [] (line ∷ body) = ⊥
 SpellBody members (text ∷ texts) [] = ⊥
 SpellBody members (text ∷ texts) (line ∷ body) = SpellsLine members text line × SpellBody members texts body
 
--- bytes that spell a script: behind its empty lines and comments are lines that say its head, and then those that spell its body; the last may lack its line feed
+-- bytes that spell a script: behind its empty lines and comments are lines that say
+-- its head, and then those that spell its body; the last may lack its line feed
 pub record Spells (bytes : List ℕ) (s : ScriptText) : Type 0 where
   pub form : AllInForm (lines_in bytes)
   pub head : List (List ℕ)

@@ -11,20 +11,28 @@ use Rattle.script_printing.specs.OptionWords.{words_of}
 
 pub words_of-append : (front back : List MemberOption) → words_of (front ++ back) ≡ words_of front ++ words_of back
 words_of-append [] back = refl
-words_of-append (o ∷ os) back = ap (λ (t : List ℕ). 32 ∷ t) (ap (λ (t : List ℕ). option_text o ++ t) (words_of-append os back) ∙ sym (append_assoc (option_text o) (words_of os) (words_of back)))
+words_of-append (o ∷ os) back = ap (λ (t : List ℕ). 32 ∷ t)
+    (ap (λ (t : List ℕ). option_text o ++ t) (words_of-append os back)
+    ∙ sym (append_assoc (option_text o) (words_of os) (words_of back)))
 
 -- the test of the default priority
-default-test : (number unsaid : ℤ) → mag number < 2 ^ 63 → unsaid ≡ pos 1 → nat_eq (of_z w64 number) (of_z w64 unsaid) ≡ is_default_priority number
+default-test : (number unsaid : ℤ) → mag number < 2 ^ 63 → unsaid ≡ pos 1
+    → nat_eq (of_z w64 number) (of_z w64 unsaid) ≡ is_default_priority number
 default-test (pos n) unsaid fits is = ap (λ (z : ℤ). nat_eq n (of_z w64 z)) is
-default-test (negsuc m) unsaid fits is = ap (λ (z : ℤ). nat_eq (of_z w64 (negsuc m)) (of_z w64 z)) is ∙ grind (arith, nat_tests)
+default-test (negsuc m) unsaid fits is =
+    ap (λ (z : ℤ). nat_eq (of_z w64 (negsuc m)) (of_z w64 z)) is ∙ grind (arith, nat_tests)
 
-pub priority-test : (number : ℤ) (unsaid : Priority) → mag number < 2 ^ 63 → unsaid ≡ default_priority → nat_eq (of_z w64 number) (of_z w64 unsaid.number) ≡ is_default_priority number
-priority-test number unsaid fits is = default-test number unsaid.number fits (ap (λ (p : Priority). p.number) is ∙ default-number)
+pub priority-test : (number : ℤ) (unsaid : Priority) → mag number < 2 ^ 63 → unsaid ≡ default_priority
+    → nat_eq (of_z w64 number) (of_z w64 unsaid.number) ≡ is_default_priority number
+priority-test number unsaid fits is =
+    default-test number unsaid.number fits (ap (λ (p : Priority). p.number) is ∙ default-number)
 
 -- some options behind one that was written
-one-behind : (before after : List ℕ) (written rest : List MemberOption) → after ≡ before ++ words_of written → after ++ words_of rest ≡ before ++ words_of (written ++ rest)
+one-behind : (before after : List ℕ) (written rest : List MemberOption) → after ≡ before ++ words_of written
+    → after ++ words_of rest ≡ before ++ words_of (written ++ rest)
 one-behind before after written rest is =
-    ap (λ (t : List ℕ). t ++ words_of rest) is ∙ append_assoc before (words_of written) (words_of rest) ∙ sym (ap (λ (t : List ℕ). before ++ t) (words_of-append written rest))
+    ap (λ (t : List ℕ). t ++ words_of rest) is ∙ append_assoc before (words_of written) (words_of rest)
+    ∙ sym (ap (λ (t : List ℕ). before ++ t) (words_of-append written rest))
 
 -- one behind another, they are the words of all
 pub written-in-turn : (t0 t1 t2 t3 t4 t5 t6 t7 t8 : List ℕ) (o1 o2 o3 o4 o5 o6 o7 o8 : List MemberOption)

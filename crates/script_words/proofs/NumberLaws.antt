@@ -19,14 +19,20 @@ big n h e = omega arith
 digit-ok : (n d : ℕ) → d < 10 → n * 10 + d < 2 ^ 64 → digit_on n (48 + d) ≡ Some (n * 10 + d)
 digit-ok n d small fits =
     let back : (48 + d) - 48 ≡ d = omega arith in
-    let test : (is_ascii_digit (48 + d) && nat_lt (n * 10 + ((48 + d) - 48)) (2 ^ 64)) ≡ true = rw back (test-ok (48 + d) (n * 10 + d) (omega arith) (omega arith) fits) in
+    let test : (is_ascii_digit (48 + d) && nat_lt (n * 10 + ((48 + d) - 48)) (2 ^ 64)) ≡ true =
+    rw back (test-ok (48 + d) (n * 10 + d) (omega arith) (omega arith) fits) in
     rw (test, back) refl
 
-digits-on : (o : Option ℕ) (ds : List ℕ) (d m : ℕ) → ((k : ℕ) → o ≡ Some k → option_and_then (λ m'. digits_from m' ds) (Some k) ≡ Some m → digits_from k (ds ++ ((48 + d) ∷ [])) ≡ Some (m * 10 + d)) → option_and_then (λ m'. digits_from m' ds) o ≡ Some m → option_and_then (λ m'. digits_from m' (ds ++ ((48 + d) ∷ []))) o ≡ Some (m * 10 + d)
+digits-on : (o : Option ℕ) (ds : List ℕ) (d m : ℕ)
+    → ((k : ℕ) → o ≡ Some k → option_and_then (λ m'. digits_from m' ds) (Some k) ≡ Some m →
+    digits_from k (ds ++ ((48 + d) ∷ [])) ≡ Some (m * 10 + d))
+    → option_and_then (λ m'. digits_from m' ds) o ≡ Some m
+    → option_and_then (λ m'. digits_from m' (ds ++ ((48 + d) ∷ []))) o ≡ Some (m * 10 + d)
 digits-on None ds d m step e = cc
 digits-on (Some k) ds d m step e = step k refl e
 
-digits-more : (n m : ℕ) (ds : List ℕ) (d : ℕ) → digits_from n ds ≡ Some m → d < 10 → m * 10 + d < 2 ^ 64 → digits_from n (ds ++ ((48 + d) ∷ [])) ≡ Some (m * 10 + d)
+digits-more : (n m : ℕ) (ds : List ℕ) (d : ℕ) → digits_from n ds ≡ Some m → d < 10 → m * 10 + d < 2 ^ 64
+    → digits_from n (ds ++ ((48 + d) ∷ [])) ≡ Some (m * 10 + d)
 digits-more n m [] d e small fits =
     let same : n ≡ m = some_is n m e in
     rw (same, digit-ok m d small fits) refl
@@ -51,11 +57,13 @@ one n h fits = record {
   short = λ _. refl;
 }
 
-more : (n : ℕ) (ds : List ℕ) → 10 ≤ n → (n / 10 < 2 ^ 64 → Digits (n / 10) ds) → n < 2 ^ 64 → Digits n (ds ++ ((48 + n % 10) ∷ []))
+more : (n : ℕ) (ds : List ℕ) → 10 ≤ n → (n / 10 < 2 ^ 64 → Digits (n / 10) ds) → n < 2 ^ 64
+    → Digits n (ds ++ ((48 + n % 10) ∷ []))
 more n ds h front fits =
     let p = front (omega arith) in
     let whole : (n / 10) * 10 + n % 10 ≡ n = omega arith in
-    let value : digits_from 0 (ds ++ ((48 + n % 10) ∷ [])) ≡ Some ((n / 10) * 10 + n % 10) = digits-more 0 (n / 10) ds (n % 10) p.value (omega arith) (omega arith) in
+    let value : digits_from 0 (ds ++ ((48 + n % 10) ∷ [])) ≡ Some ((n / 10) * 10 + n % 10) =
+    digits-more 0 (n / 10) ds (n % 10) p.value (omega arith) (omega arith) in
     record {
       first = p.first;
       others = p.others ++ ((48 + n % 10) ∷ []);
@@ -89,7 +97,12 @@ record IsDigit (n b m : ℕ) : Type 0 where
   pub fits : m < 2 ^ 64
 
 digit : (n b m v : ℕ) → v ≡ n * 10 + (b - 48) → (is_ascii_digit b && nat_lt v (2 ^ 64)) ≡ true → v ≡ m → IsDigit n b m
-digit n b m v is test e = record { low = grind (arith, nat_tests); high = grind (arith, nat_tests); value = omega arith; fits = grind (arith, nat_tests) }
+digit n b m v is test e = record {
+  low = grind (arith, nat_tests);
+  high = grind (arith, nat_tests);
+  value = omega arith;
+  fits = grind (arith, nat_tests);
+}
 
 digit_on-IsDigit : (n b m : ℕ) → digit_on n b ≡ Some m → IsDigit n b m
 digit_on-IsDigit n b m e =
@@ -107,9 +120,11 @@ digits n m [] some e = ap decimal (sym (some_is n m e)) ∙ sym (append-nil (dec
 digits n m (b ∷ bs) some e =
     let p = and_then-Some (λ k. digits_from k bs) (digit_on n b) m e in
     let d = digit_on-IsDigit n b p.0 p.1 in
-    digits p.0 m bs (omega (arith, d.value)) p.2 ∙ ap (λ t. t ++ bs) (one-more n b p.0 some d) ∙ append_assoc (decimal n) (b ∷ []) bs
+    digits p.0 m bs (omega (arith, d.value)) p.2 ∙ ap (λ t. t ++ bs) (one-more n b p.0 some d)
+    ∙ append_assoc (decimal n) (b ∷ []) bs
 
-first : (b d m : ℕ) (bs : List ℕ) → ((b == 48) && nat_lt 0 (length bs)) ≡ false → IsDigit 0 b d → digits_from d bs ≡ Some m → b ∷ bs ≡ decimal m
+first : (b d m : ℕ) (bs : List ℕ) → ((b == 48) && nat_lt 0 (length bs)) ≡ false → IsDigit 0 b d
+    → digits_from d bs ≡ Some m → b ∷ bs ≡ decimal m
 first b zero m [] test is e =
     let z : m ≡ 0 = sym (some_is 0 m e) in
     let same : b ≡ 48 + 0 = omega (arith, is.low, is.value) in
@@ -119,7 +134,8 @@ first b zero m (c ∷ cs) test is e =
     absurd (grind (arith, nat_tests))
 first b (suc k) m bs test is e =
     let same : 48 + suc k ≡ b = omega (arith, is.low, is.value) in
-    sym (digits (suc k) m bs (omega arith) e ∙ ap (λ t. t ++ bs) (decimal_digit (suc k) (omega (arith, is.high, is.value)) ∙ ap (λ t. t ∷ []) same))
+    sym (digits (suc k) m bs (omega arith) e
+    ∙ ap (λ t. t ++ bs) (decimal_digit (suc k) (omega (arith, is.high, is.value)) ∙ ap (λ t. t ∷ []) same))
 
 -- what is read is written so
 pub number-is : (bytes : List ℕ) (n : ℕ) → number bytes ≡ Some n → bytes ≡ decimal n
@@ -142,7 +158,8 @@ number-below (b ∷ bs) n e =
     below 0 n (b ∷ bs) (omega arith) p.1
 
 -- a byte that is no digit is in no number
-pub first_at-append : (c : ℕ) (xs ys : List ℕ) → first_at c xs ≡ None → first_at c ys ≡ None → first_at c (xs ++ ys) ≡ None
+pub first_at-append : (c : ℕ) (xs ys : List ℕ) → first_at c xs ≡ None → first_at c ys ≡ None
+    → first_at c (xs ++ ys) ≡ None
 first_at-append c [] ys h k = k
 first_at-append c (x ∷ xs) ys h k =
     let p = passed (x == c) (first_at c xs) h in
@@ -153,4 +170,5 @@ a_digit c d h = let other : ((48 + d) == c) ≡ false = grind (arith, nat_tests)
 
 pub first_at-decimal : (c n : ℕ) → c < 48 → n < 2 ^ 64 → first_at c (decimal n) ≡ None
 first_at-decimal c n h fits =
-    decimal_by_steps (λ n ds. first_at c ds ≡ None) (λ n k. a_digit c n h) (λ n ds k front. first_at-append c ds ((48 + n % 10) ∷ []) front (a_digit c (n % 10) h)) n fits
+    decimal_by_steps (λ n ds. first_at c ds ≡ None) (λ n k. a_digit c n h)
+    (λ n ds k front. first_at-append c ds ((48 + n % 10) ∷ []) front (a_digit c (n % 10) h)) n fits

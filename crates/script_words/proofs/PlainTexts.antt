@@ -23,11 +23,13 @@ pub record IsPlain (text : List ℕ) (most : ℕ) : Type 0 where
   pub plain : list_all is_plain text ≡ true
   pub short : length text ≤ most
 
-pub plain-append : (xs ys : List ℕ) → list_all is_plain xs ≡ true → list_all is_plain ys ≡ true → list_all is_plain (xs ++ ys) ≡ true
+pub plain-append : (xs ys : List ℕ) → list_all is_plain xs ≡ true → list_all is_plain ys ≡ true
+    → list_all is_plain (xs ++ ys) ≡ true
 plain-append xs ys h k = list_all-append is_plain xs ys ∙ and_from (list_all is_plain xs) (list_all is_plain ys) h k
 
 pub IsPlain-append : (xs ys : List ℕ) (m n : ℕ) → IsPlain xs m → IsPlain ys n → IsPlain (xs ++ ys) (m + n)
-IsPlain-append xs ys m n h k = record { plain = plain-append xs ys h.plain k.plain; short = omega (arith, length-append xs ys, h.short, k.short) }
+IsPlain-append xs ys m n h k =
+    record { plain = plain-append xs ys h.plain k.plain; short = omega (arith, length-append xs ys, h.short, k.short) }
 
 pub IsPlain-most : (xs : List ℕ) (m n : ℕ) → m ≤ n → IsPlain xs m → IsPlain xs n
 IsPlain-most xs m n le h = record { plain = h.plain; short = omega (arith, h.short) }
@@ -45,7 +47,8 @@ name-bytes (b ∷ bs) h =
     and_from (is_plain b) (list_all is_plain bs) (name-byte b both.0) (name-bytes bs both.1)
 
 text-IsPlain : (v : List ℕ) → is_name v ≡ true → IsPlain v 32
-text-IsPlain v h = record { plain = name-bytes v (is_text-bytes 32 is_name_byte v h); short = is_text-fits 32 is_name_byte v h }
+text-IsPlain v h =
+    record { plain = name-bytes v (is_text-bytes 32 is_name_byte v h); short = is_text-fits 32 is_name_byte v h }
 
 pub name-IsPlain : (name : Name) → IsPlain (name_bytes name) 32
 name-IsPlain name = text-IsPlain (name_bytes name) name.legal
@@ -55,7 +58,8 @@ a_digit d h = let t : is_plain (48 + d) ≡ true = grind (arith, nat_tests) in r
 
 pub decimal-IsPlain : (n : ℕ) → n < 2 ^ 64 → IsPlain (decimal n) 20
 decimal-IsPlain n fits = record {
-  plain = decimal_by_steps (λ n ds. list_all is_plain ds ≡ true) (λ n h. a_digit n h) (λ n ds h front. plain-append ds ((48 + n % 10) ∷ []) front (a_digit (n % 10) (omega arith))) n fits;
+  plain = decimal_by_steps (λ n ds. list_all is_plain ds ≡ true) (λ n h. a_digit n h)
+      (λ n ds h front. plain-append ds ((48 + n % 10) ∷ []) front (a_digit (n % 10) (omega arith))) n fits;
   short = length-decimal-le 20 n (omega arith) (omega arith) fits;
 }
 

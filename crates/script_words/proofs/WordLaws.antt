@@ -6,7 +6,9 @@ use Rattle.script_words.specs.Lines.{first_at, one_more}
 use Rattle.script_words.specs.Words.{cut_at, cut_word}
 use Rattle.script_words.proofs.Outcomes.{some_is, none_is}
 
-found : (t : Bool) (c b : ℕ) (bs : List ℕ) (o : Option ℕ) (n : ℕ) → (b == c) ≡ t → ((m : ℕ) → o ≡ Some m → bs ≡ take m bs ++ (c ∷ drop (m + 1) bs)) → cond t (Some 0) (one_more o) ≡ Some n → b ∷ bs ≡ take n (b ∷ bs) ++ (c ∷ drop (n + 1) (b ∷ bs))
+found : (t : Bool) (c b : ℕ) (bs : List ℕ) (o : Option ℕ) (n : ℕ) → (b == c) ≡ t
+    → ((m : ℕ) → o ≡ Some m → bs ≡ take m bs ++ (c ∷ drop (m + 1) bs)) → cond t (Some 0) (one_more o) ≡ Some n
+    → b ∷ bs ≡ take n (b ∷ bs) ++ (c ∷ drop (n + 1) (b ∷ bs))
 found true c b bs o n is rest e =
     let z : n ≡ 0 = sym (some_is 0 n e) in
     let same : b ≡ c = eqb-true b c is in
@@ -22,7 +24,8 @@ pub first_at-parts : (c : ℕ) (bs : List ℕ) (n : ℕ) → first_at c bs ≡ S
 first_at-parts c [] n e = absurd (none_is n e)
 first_at-parts c (b ∷ bs) n e = found (b == c) c b bs (first_at c bs) n refl (λ m h. first_at-parts c bs m h) e
 
-passes : {X : Type 0} (p : X → Bool) (t : Bool) (x : X) (xs : List X) (y : X) → p x ≡ t → (find p xs ≡ Some y → p y ≡ true) → cond t (Some x) (find p xs) ≡ Some y → p y ≡ true
+passes : {X : Type 0} (p : X → Bool) (t : Bool) (x : X) (xs : List X) (y : X) → p x ≡ t
+    → (find p xs ≡ Some y → p y ≡ true) → cond t (Some x) (find p xs) ≡ Some y → p y ≡ true
 passes p true x xs y is rest e = let same : x ≡ y = some_is x y e in rw (← same) is
 passes p false x xs y is rest e = rest e
 
@@ -39,9 +42,11 @@ pub cut_word-None : (bytes : List ℕ) → (cut_word bytes).1 ≡ None → (cut_
 cut_word-None bytes e = cut-None bytes (first_at 32 bytes) e
 
 -- a word, a blank and the rest
-pub cut-Some : (c : ℕ) (bytes rest : List ℕ) (o : Option ℕ) → first_at c bytes ≡ o → (cut_at bytes o).1 ≡ Some rest → bytes ≡ (cut_at bytes o).0 ++ (c ∷ rest)
+pub cut-Some : (c : ℕ) (bytes rest : List ℕ) (o : Option ℕ) → first_at c bytes ≡ o
+    → (cut_at bytes o).1 ≡ Some rest → bytes ≡ (cut_at bytes o).0 ++ (c ∷ rest)
 cut-Some c bytes rest None is e = absurd (none_is rest e)
-cut-Some c bytes rest (Some n) is e = first_at-parts c bytes n is ∙ ap (λ t. take n bytes ++ (c ∷ t)) (some_is (drop (n + 1) bytes) rest e)
+cut-Some c bytes rest (Some n) is e =
+    first_at-parts c bytes n is ∙ ap (λ t. take n bytes ++ (c ∷ t)) (some_is (drop (n + 1) bytes) rest e)
 
 pub cut_word-Some : (bytes rest : List ℕ) → (cut_word bytes).1 ≡ Some rest → bytes ≡ (cut_word bytes).0 ++ (32 ∷ rest)
 cut_word-Some bytes rest e = cut-Some 32 bytes rest (first_at 32 bytes) refl e
@@ -52,7 +57,8 @@ passed true o e = cc
 passed false None e = (refl, refl)
 passed false (Some n) e = cc
 
-pub first_at-behind : (c : ℕ) (word rest : List ℕ) → first_at c word ≡ None → (c == c) ≡ true → first_at c (word ++ (c ∷ rest)) ≡ Some (length word)
+pub first_at-behind : (c : ℕ) (word rest : List ℕ) → first_at c word ≡ None → (c == c) ≡ true
+    → first_at c (word ++ (c ∷ rest)) ≡ Some (length word)
 first_at-behind c [] rest e same = rw same refl
 first_at-behind c (b ∷ bs) rest e same =
     let p = passed (b == c) (first_at c bs) e in

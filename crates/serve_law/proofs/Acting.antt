@@ -61,15 +61,19 @@ record IsStanding (agent : Option AgentFacts) (machine : Option Machine) (stands
   machine_is : machine ≡ Some its_machine
   stands_so : outcome_from found.role found.knows its_machine [] ≡ stands
 
-is-standing : (agent : Option AgentFacts) (machine : Option Machine) (stands : Outcome) → standing agent machine ≡ Some stands → IsStanding agent machine stands
+is-standing : (agent : Option AgentFacts) (machine : Option Machine) (stands : Outcome)
+    → standing agent machine ≡ Some stands → IsStanding agent machine stands
 is-standing None machine stands e = absurd (none-some _ e)
 is-standing (Some agent) None stands e = absurd (none-some _ e)
-is-standing (Some agent) (Some machine) stands e = record { found = agent; its_machine = machine; agent_is = refl; machine_is = refl; stands_so = same_Some _ _ e }
+is-standing (Some agent) (Some machine) stands e =
+    record { found = agent; its_machine = machine; agent_is = refl; machine_is = refl; stands_so = same_Some _ _ e }
 
-after-input : (number : ℕ) (agent : AgentFacts) (outcome : Option Outcome) (found : Option (Option AgentFacts)) → option_and_then (λ a. a) found ≡ Some agent → OwesOf number (agent_after outcome (Some agent))
+after-input : (number : ℕ) (agent : AgentFacts) (outcome : Option Outcome) (found : Option (Option AgentFacts))
+    → option_and_then (λ a. a) found ≡ Some agent → OwesOf number (agent_after outcome (Some agent))
     → OwesOf number (option_and_then (λ a. a) (option_map (agent_after outcome) found))
 after-input number agent outcome None is owes = absurd (none-some _ is)
-after-input number agent outcome (Some a) is owes = subst (λ (x : Option AgentFacts). OwesOf number (agent_after outcome x)) (sym is) owes
+after-input number agent outcome (Some a) is owes =
+    subst (λ (x : Option AgentFacts). OwesOf number (agent_after outcome x)) (sym is) owes
 
 none-waits : (found : Option Operating) (waiting : Operating) → is_some found ≡ false → found ≡ Some waiting → ⊥
 none-waits None waiting none is = none-some _ is
@@ -78,8 +82,12 @@ none-waits (Some other) waiting none is = true-false none
     true-false : true ≡ false → ⊥
     true-false e = cc
 
-module _ (cluster : Cluster) (id : MemberId) (member : Member) (request : Request) (process : AgentProcess) (stands : Outcome) (asked : OperatorRequest) (found : declared cluster id ≡ Some member) (same : member.id.number ≡ id.number)
-    (runs : slice_get cluster.facts.processes member.id.number ≡ Some process) (may : may_act process ≡ true) (stand : standing_of cluster member ≡ Some stands) (answers : answer_at (moment_of cluster) stands (request_text request) ≡ Acts asked) where
+module _ (cluster : Cluster) (id : MemberId) (member : Member) (request : Request) (process : AgentProcess)
+    (stands : Outcome) (asked : OperatorRequest) (found : declared cluster id ≡ Some member)
+    (same : member.id.number ≡ id.number)
+    (runs : slice_get cluster.facts.processes member.id.number ≡ Some process) (may : may_act process ≡ true)
+    (stand : standing_of cluster member ≡ Some stands)
+    (answers : answer_at (moment_of cluster) stands (request_text request) ≡ Acts asked) where
   abbrev Action : OperatorAction
   Action = action_of stands asked
 
@@ -110,7 +118,9 @@ module _ (cluster : Cluster) (id : MemberId) (member : Member) (request : Reques
       let asks = request_text request in
       ap (λ (o : Option Member). for_some o (visit_events cluster Visited)) found
       ∙ ap (λ (o : Option AgentProcess). for_some o (request_events_if cluster askers.Connection asks member)) runs
-      ∙ ap (λ (b : Bool). cond b (for_some (standing_of cluster member) (request_events_of cluster asks member)) (event_of cluster (kinds.Note (silence askers.Connection member)))) may
+      ∙ ap (λ (b : Bool). cond b (for_some (standing_of cluster member) (request_events_of cluster asks member))
+      (event_of cluster (kinds.Note (silence askers.Connection member))))
+      may
       ∙ ap (λ (o : Option Outcome). for_some o (request_events_of cluster asks member)) stand
       ∙ ap (answered_events cluster member stands) answers
 
@@ -118,14 +128,16 @@ module _ (cluster : Cluster) (id : MemberId) (member : Member) (request : Reques
   first-events = ap (λ (es : List Event). events_then cluster es (Acknowledged Number id)) first-acts
 
   acknowledged-silent : (later : Cluster) → reply_in id (Acknowledged Number id later) ≡ None
-  acknowledged-silent later = apart-silent id (Acknowledged Number id later) (apart-each acknowledge_events acknowledge-apart later later.facts.members)
+  acknowledged-silent later = apart-silent id (Acknowledged Number id later)
+      (apart-each acknowledge_events acknowledge-apart later later.facts.members)
 
   -- what it replies in this step it told the request
   first-told : (reply : ReplyText) → reply_in id Events ≡ Some reply → IsTold Number id cluster Events reply
   first-told reply e =
       let acks = Acknowledged Number id (cluster_over cluster Input) in
       told-either Number id cluster Input acks reply (reply_in id Input) refl
-      (input-told Number id cluster member (Operated Action) no_message Opening (refl, refl) (λ after answer at. at.0) (λ same found is machine after answer waited. absurd waited.reason))
+      (input-told Number id cluster member (Operated Action) no_message Opening (refl, refl)
+      (λ after answer at. at.0) (λ same found is machine after answer waited. absurd waited.reason))
       (λ r is. absurd (none-some _ (sym (acknowledged-silent (cluster_over cluster Input)) ∙ is)))
       (sym (reply_in-append id Input acks) ∙ e)
 
@@ -133,7 +145,8 @@ module _ (cluster : Cluster) (id : MemberId) (member : Member) (request : Reques
   its = is-standing (agent_at cluster.agents member.id.number) (machine_of cluster member) stands stand
 
   abbrev After : Outcome
-  After = step (moment_of cluster) (points_of cluster member) (Operated Action) (outcome_from its.found.role its.found.knows its.its_machine [])
+  After = step (moment_of cluster) (points_of cluster member) (Operated Action)
+      (outcome_from its.found.role its.found.knows its.its_machine [])
 
   made-so : Made ≡ Some After
   made-so = rw (its.agent_is, its.machine_is) refl
@@ -141,15 +154,20 @@ module _ (cluster : Cluster) (id : MemberId) (member : Member) (request : Reques
   -- what is done at once is replied
   done-replied : IsDoneAtOnce asked → reply_in id Input ≢ None
   done-replied done none =
-      let told = told-at-once (moment_of cluster) Number asked (reconciled (moment_of cluster) (outcome_from its.found.role its.found.knows its.its_machine [])) done in
+      let told = told-at-once (moment_of cluster) Number asked
+      (reconciled (moment_of cluster) (outcome_from its.found.role its.found.knows its.its_machine [])) done in
       each-replied id member no_message same Later told.before [] Number told.status told.text
-      (ap (λ (outs : List Output). reply_in id (input_events Later member no_message (Some (record After { outputs = outs })))) (sym told.is)
+      (ap (λ (outs : List Output).
+      reply_in id (input_events Later member no_message (Some (record After { outputs = outs }))))
+      (sym told.is)
       ∙ (ap (λ (o : Option Outcome). reply_in id (input_events Later member no_message o)) (sym made-so) ∙ none))
 
   input-none : (later : Cluster) → reply_in id (Input ++ Acknowledged Number id later) ≡ None → reply_in id Input ≡ None
-  input-none later none = front (reply_in id Input) refl (sym (reply_in-append id Input (Acknowledged Number id later)) ∙ none)
+  input-none later none =
+      front (reply_in id Input) refl (sym (reply_in-append id Input (Acknowledged Number id later)) ∙ none)
     where
-      front : (first : Option ReplyText) → reply_in id Input ≡ first → option_or first (reply_in id (Acknowledged Number id later)) ≡ None → reply_in id Input ≡ None
+      front : (first : Option ReplyText) → reply_in id Input ≡ first
+          → option_or first (reply_in id (Acknowledged Number id later)) ≡ None → reply_in id Input ≡ None
       front None is e = is
       front (Some r) is e = absurd (none-some _ (sym e))
 
@@ -157,39 +175,61 @@ module _ (cluster : Cluster) (id : MemberId) (member : Member) (request : Reques
   new-owed : reply_in id Input ≡ None → OwedBy Number After.knows.operating
   new-owed none =
       owed-by Number After.knows.operating (λ waiting is.
-      elim ((step-right (moment_of cluster) (points_of cluster member) (Operated Action) its.found.role its.found.knows its.its_machine).waits waiting is) [
+      elim ((step-right (moment_of cluster) (points_of cluster member)
+      (Operated Action) its.found.role its.found.knows its.its_machine).waits
+      waiting is) [
         | inr new ↦ new.request
-        | inl old ↦ absurd (elim (acts-alone (shown (moment_of cluster) stands) stands.knows.seen (lag_of (request_text request).target) (request_text request).body (ask_of (request_text request).verb (path_of (request_text request).target)) asked answers) [
-          | inl alone ↦ none-waits stands.knows.operating waiting alone (ap (λ (o : Outcome). o.knows.operating) (sym its.stands_so) ∙ old)
-          | inr done ↦ done-replied done none
-        ])
+        | inl old ↦
+            absurd (elim (acts-alone (shown (moment_of cluster) stands) stands.knows.seen
+            (lag_of (request_text request).target) (request_text request).body
+            (ask_of (request_text request).verb (path_of (request_text request).target)) asked answers) [
+              | inl alone ↦ none-waits stands.knows.operating waiting alone
+                  (ap (λ (o : Outcome). o.knows.operating) (sym its.stands_so) ∙ old)
+              | inr done ↦ done-replied done none
+            ])
       ])
 
   later-owes : reply_in id Input ≡ None → Owes Number id.number Later
   later-owes none =
       subst (λ (k : ℕ). Owes Number k Later) same
-      (subst (λ (o : Option (Option AgentFacts)). OwesOf Number (option_and_then (λ a. a) o)) (sym (get-here cluster.agents member.id.number (agent_after Made)))
-      (after-input Number its.found Made (slice_get cluster.agents member.id.number) its.agent_is (subst (λ (o : Option Outcome). OwesOf Number (agent_after o (Some its.found))) (sym made-so) (new-owed none))))
+      (subst (λ (o : Option (Option AgentFacts)). OwesOf Number (option_and_then (λ a. a) o))
+      (sym (get-here cluster.agents member.id.number (agent_after Made)))
+      (after-input Number its.found Made (slice_get cluster.agents member.id.number) its.agent_is
+      (subst (λ (o : Option Outcome). OwesOf Number (agent_after o (Some its.found))) (sym made-so) (new-owed none))))
 
   first-owes : reply_in id Events ≡ None → Owes Number id.number (cluster_over cluster Events)
   first-owes none =
-      let input = input-owes Number id cluster member (Operated Action) no_message Opening (refl, refl) (later-owes (input-none (cluster_over cluster Input) none)) in
-      subst (Owes Number id.number) (sym (over-append cluster Input (Acknowledged Number id (cluster_over cluster Input)))) (settles-acknowledged Number id (cluster_over cluster Input) input).owes
+      let input = input-owes Number id cluster member (Operated Action) no_message Opening (refl, refl)
+      (later-owes (input-none (cluster_over cluster Input) none)) in
+      subst (Owes Number id.number)
+      (sym (over-append cluster Input (Acknowledged Number id (cluster_over cluster Input))))
+      (settles-acknowledged Number id (cluster_over cluster Input) input).owes
 
   -- the reply to all of it
-  replied-so : (reply : ReplyText) → reply_in id (run_events cluster (replied_steps cluster id Visited)) ≡ Some reply → IsOwed Number id cluster (run_events cluster (replied_steps cluster id Visited)) reply
+  replied-so : (reply : ReplyText) → reply_in id (run_events cluster (replied_steps cluster id Visited)) ≡ Some reply
+      → IsOwed Number id cluster (run_events cluster (replied_steps cluster id Visited)) reply
   replied-so reply e =
       let events = next_events cluster (steps.Connection id Visited) in
-      owed-steps Number id cluster (steps.Connection id Visited) (waiting_steps (cluster_over cluster events) id most_waiting) (reply_in id events) refl
-      (subst (λ (es : List Event). (r : ReplyText) → reply_in id es ≡ Some r → IsTold Number id cluster es r) (sym first-events) first-told)
-      (λ none. waited Number id most_waiting (cluster_over cluster events) (subst (λ (es : List Event). reply_in id es ≡ None → Owes Number id.number (cluster_over cluster es)) (sym first-events) first-owes none))
+      owed-steps Number id cluster (steps.Connection id Visited)
+      (waiting_steps (cluster_over cluster events) id most_waiting) (reply_in id events) refl
+      (subst (λ (es : List Event). (r : ReplyText) → reply_in id es ≡ Some r → IsTold Number id cluster es r)
+      (sym first-events) first-told)
+      (λ none. waited Number id most_waiting (cluster_over cluster events)
+      (subst (λ (es : List Event). reply_in id es ≡ None → Owes Number id.number (cluster_over cluster es))
+      (sym first-events) first-owes none))
       reply e
 
-  owed-if : (reply : Option ReplyText) → reply_in id (run_events cluster (replied_steps cluster id Visited)) ≡ reply → IsOwed Number id cluster (run_events cluster (replied_steps cluster id Visited)) (unwrap_or reply (refusal_reply NoResult))
+  owed-if : (reply : Option ReplyText) → reply_in id (run_events cluster (replied_steps cluster id Visited)) ≡ reply
+      → IsOwed Number id cluster (run_events cluster (replied_steps cluster id Visited))
+      (unwrap_or reply (refusal_reply NoResult))
   owed-if None is = inr refl
   owed-if (Some reply) is = replied-so reply is
 
-  pub reply-owed : (connection : Connection) → connection.asks ≡ Ok request → IsOwed Number id cluster (run_events cluster (read_steps cluster id connection)) (reply_to cluster id connection)
+  pub reply-owed : (connection : Connection) → connection.asks ≡ Ok request
+      → IsOwed Number id cluster (run_events cluster (read_steps cluster id connection))
+      (reply_to cluster id connection)
   reply-owed connection asks =
-      subst (λ (v : Visit). IsOwed Number id cluster (run_events cluster (replied_steps cluster id v)) (unwrap_or (reply_in id (run_events cluster (replied_steps cluster id v))) (refusal_reply NoResult))) (sym (ap first_visit asks))
+      subst (λ (v : Visit). IsOwed Number id cluster (run_events cluster (replied_steps cluster id v))
+      (unwrap_or (reply_in id (run_events cluster (replied_steps cluster id v))) (refusal_reply NoResult)))
+      (sym (ap first_visit asks))
       (owed-if (reply_in id (run_events cluster (replied_steps cluster id Visited))) refl)

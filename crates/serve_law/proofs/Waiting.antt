@@ -52,28 +52,40 @@ abbrev IsFromMessage : Heard → Type 0
 IsFromMessage (heards.Operated action) = ⊥
 IsFromMessage _ = Unit {0}
 
-granted-from : {X : Type 0} (f : X → Heard) → ((x : X) → IsFromMessage (f x)) → (found : Option X) (heard : Heard) → option_map f found ≡ Some heard → IsFromMessage heard
+granted-from : {X : Type 0} (f : X → Heard) → ((x : X) → IsFromMessage (f x))
+    → (found : Option X) (heard : Heard) → option_map f found ≡ Some heard → IsFromMessage heard
 granted-from f all None heard e = absurd (none-some _ e)
 granted-from f all (Some x) heard e = subst IsFromMessage (same_Some _ _ e) (all x)
 
 says-so : {y z : Heard} → IsFromMessage y → Some y ≡ Some z → IsFromMessage z
 says-so is e = subst IsFromMessage (same_Some _ _ e) is
 
-from-message : (cluster : Cluster) (message : InFlightFacts) (body : Body) (heard : Heard) → heard_in cluster message body ≡ Some heard → IsFromMessage heard
+from-message : (cluster : Cluster) (message : InFlightFacts) (body : Body) (heard : Heard)
+    → heard_in cluster message body ≡ Some heard → IsFromMessage heard
 from-message cluster message bodies.Snapshot heard e = says-so tt e
-from-message cluster message (bodies.Granted request leased) heard e = granted-from (λ grant. heards.Granted message.message.sequence grant (snapshot_in cluster message)) (λ grant. tt) message.grant heard e
+from-message cluster message (bodies.Granted request leased) heard e =
+    granted-from (λ grant. heards.Granted message.message.sequence grant (snapshot_in cluster message))
+    (λ grant. tt) message.grant heard e
 from-message cluster message (bodies.Refused request key found) heard e = says-so tt e
-from-message cluster message bodies.Ask heard e = granted-from (λ from. heards.Asked from message.message.incarnation message.message.sequence) (λ from. tt) (member_at_end message.message.from) heard e
+from-message cluster message bodies.Ask heard e =
+    granted-from (λ from. heards.Asked from message.message.incarnation message.message.sequence) (λ from. tt)
+    (member_at_end message.message.from) heard e
 from-message cluster message (bodies.Answer answer) heard e = says-so tt e
-from-message cluster message (bodies.FailsafeRequest ttl) heard e = granted-from (λ from. heards.FailsafeAsked from message.message.incarnation message.message.sequence ttl) (λ from. tt) (member_at_end message.message.from) heard e
-from-message cluster message (bodies.FailsafeAnswer accepted) heard e = granted-from (λ from. heards.FailsafeAnswered from message.message.sequence accepted message.sent) (λ from. tt) (member_at_end message.message.from) heard e
+from-message cluster message (bodies.FailsafeRequest ttl) heard e =
+    granted-from (λ from. heards.FailsafeAsked from message.message.incarnation message.message.sequence ttl)
+    (λ from. tt) (member_at_end message.message.from) heard e
+from-message cluster message (bodies.FailsafeAnswer accepted) heard e =
+    granted-from (λ from. heards.FailsafeAnswered from message.message.sequence accepted message.sent)
+    (λ from. tt) (member_at_end message.message.from) heard e
 from-message cluster message _ heard e = absurd (none-some _ e)
 
-waits-not : (now : Ticks) (heard : Heard) (o after : Outcome) (waiting : Operating) → IsFromMessage heard → WaitsForHeard now heard o after waiting → ⊥
+waits-not : (now : Ticks) (heard : Heard) (o after : Outcome) (waiting : Operating) → IsFromMessage heard
+    → WaitsForHeard now heard o after waiting → ⊥
 waits-not now (heards.Operated action) o after waiting is w = is
 waits-not now _ o after waiting is w = w
 
-once-not : (heard : Heard) (after : Outcome) (answer : ℕ × Told) → IsFromMessage heard → AnswersAtOnce heard after answer → ⊥
+once-not : (heard : Heard) (after : Outcome) (answer : ℕ × Told) → IsFromMessage heard
+    → AnswersAtOnce heard after answer → ⊥
 once-not (heards.Operated action) after answer is at = is
 once-not _ after answer is at = at
 
@@ -84,51 +96,73 @@ module _ (number : ℕ) (id : MemberId) where
   -- ---- agents that are woken
   settles-woken : (cluster : Cluster) (member : Member) → Settled cluster (wake_events_of cluster member)
   settles-woken cluster member =
-      settles-input number id cluster member heards.Wake no_message (kinds.Agent (agents.Woken member)) (refl, refl) refl (λ o after waiting is. is) (λ after answer at. at)
+      settles-input number id cluster member heards.Wake no_message (kinds.Agent (agents.Woken member))
+      (refl, refl) refl (λ o after waiting is. is) (λ after answer at. at)
 
   settles-wake : (cluster : Cluster) (member : Member) → Settled cluster (wake_events cluster member)
   settles-wake cluster member =
-      settles-for_some number id cluster (slice_get cluster.facts.processes member.id.number) (wake_events_if cluster member) (λ process is.
-      settles-if number id cluster (is_to_wake (moment_of cluster) process (standing_of cluster member)) (wake_events_of cluster member) [] (settles-woken cluster member) (settles-none number id cluster))
+      settles-for_some number id cluster (slice_get cluster.facts.processes member.id.number)
+      (wake_events_if cluster member) (λ process is.
+      settles-if number id cluster (is_to_wake (moment_of cluster) process (standing_of cluster member))
+      (wake_events_of cluster member) [] (settles-woken cluster member) (settles-none number id cluster))
 
   -- ---- messages that come
-  module _ (cluster : Cluster) (n : ℕ) (message : InFlightFacts) (found : in_flight cluster.facts.flight n ≡ Some message) where
+  module _ (cluster : Cluster) (n : ℕ) (message : InFlightFacts)
+      (found : in_flight cluster.facts.flight n ≡ Some message) where
     abbrev Arrived : EventKind
     Arrived = kinds.Message (messages.Delivered n)
 
-    reached : (to : LinkEnd) → message.message.to ≡ to → (cluster_after cluster Arrived).agents ≡ agent_facts_reached_at cluster message to
+    reached : (to : LinkEnd) → message.message.to ≡ to
+        → (cluster_after cluster Arrived).agents ≡ agent_facts_reached_at cluster message to
     reached to is = ap (agent_facts_reached cluster) found ∙ ap (agent_facts_reached_at cluster message) is
 
-    settles-heard : (member : Member) → message.message.to ≡ ends.Member member → (heard : Option Heard) → heard_from cluster message ≡ heard
-        → Settled cluster (event_of cluster Arrived ++ input_events (cluster_after cluster Arrived) member (heard_message n message) (outcome_of_heard cluster member heard))
+    settles-heard : (member : Member) → message.message.to ≡ ends.Member member → (heard : Option Heard)
+        → heard_from cluster message ≡ heard
+        → Settled cluster
+        (event_of cluster Arrived ++ input_events (cluster_after cluster Arrived) member
+        (heard_message n message) (outcome_of_heard cluster member heard))
     settles-heard member to (Some heard) is =
-        settles-input number id cluster member heard (heard_message n message) Arrived (subst (SaysTo cluster member heard) (sym found) (to, is))
-        (reached (ends.Member member) to ∙ ap (λ (h : Option Heard). agent_facts_with cluster.agents member (outcome_of_heard cluster member h)) is)
-        (λ o after waiting w. waits-not (moment_of cluster) heard o after waiting (from-message cluster message message.message.body heard is) w)
+        settles-input number id cluster member heard (heard_message n message) Arrived
+        (subst (SaysTo cluster member heard) (sym found) (to, is))
+        (reached (ends.Member member) to
+        ∙ ap (λ (h : Option Heard). agent_facts_with cluster.agents member (outcome_of_heard cluster member h)) is)
+        (λ o after waiting w. waits-not (moment_of cluster) heard o after waiting
+        (from-message cluster message message.message.body heard is) w)
         (λ after answer at. once-not heard after answer (from-message cluster message message.message.body heard is) at)
     settles-heard member to None is = λ owes. record {
       owes = subst (λ (xs : List (Option AgentFacts)). OwesOf number (agent_at xs id.number))
-          (sym (reached (ends.Member member) to ∙ ap (λ (h : Option Heard). agent_facts_with cluster.agents member (outcome_of_heard cluster member h)) is))
-          (owes-with number cluster.agents member.id.number id.number (agent_after None) (λ same. after-owes number (slice_get cluster.agents id.number) None (λ o. o) owes) owes);
+          (sym (reached (ends.Member member) to
+          ∙ ap (λ (h : Option Heard). agent_facts_with cluster.agents member (outcome_of_heard cluster member h)) is))
+          (owes-with number cluster.agents member.id.number id.number (agent_after None)
+          (λ same. after-owes number (slice_get cluster.agents id.number) None (λ o. o) owes) owes);
       told = λ reply e. absurd (none-some _ e);
     }
 
     settles-stored : message.message.to ≡ ends.Store → Settled cluster (arrival_events_at cluster n message ends.Store)
     settles-stored to =
         let later = cluster_after cluster Arrived in
-        settles-then number id cluster (event_of cluster Arrived) (answer_events_by later n message.message message.message.body)
-        (λ owes. record { owes = subst (λ (xs : List (Option AgentFacts)). OwesOf number (agent_at xs id.number)) (sym (reached ends.Store to)) owes; told = λ reply e. absurd (none-some _ e) })
-        (settles-apart number id later (answer_events_by later n message.message message.message.body) (answer-apart later n message.message message.message.body))
+        settles-then number id cluster (event_of cluster Arrived)
+        (answer_events_by later n message.message message.message.body)
+        (λ owes. record {
+          owes = subst (λ (xs : List (Option AgentFacts)). OwesOf number (agent_at xs id.number))
+              (sym (reached ends.Store to)) owes;
+          told = λ reply e. absurd (none-some _ e);
+        })
+        (settles-apart number id later (answer_events_by later n message.message message.message.body)
+        (answer-apart later n message.message message.message.body))
 
-    settles-arrival : (to : LinkEnd) → message.message.to ≡ to → Settled cluster (arrival_events_at cluster n message to)
+    settles-arrival : (to : LinkEnd) → message.message.to ≡ to
+        → Settled cluster (arrival_events_at cluster n message to)
     settles-arrival ends.Store is = settles-stored is
     settles-arrival (ends.Member member) is = settles-heard member is (heard_from cluster message) refl
 
     settles-message : (delivery : Delivery) → Settled cluster (message_events_by cluster n message delivery)
     settles-message deliveries.Open = settles-arrival message.message.to refl
-    settles-message deliveries.Cut = settles-apart number id cluster (event_of cluster (kinds.Message (messages.Lost n))) (tt, tt)
+    settles-message deliveries.Cut =
+        settles-apart number id cluster (event_of cluster (kinds.Message (messages.Lost n))) (tt, tt)
     settles-message deliveries.Suspended = settles-none number id cluster
-    settles-message deliveries.Gone = settles-apart number id cluster (event_of cluster (kinds.Message (messages.Lost n))) (tt, tt)
+    settles-message deliveries.Gone =
+        settles-apart number id cluster (event_of cluster (kinds.Message (messages.Lost n))) (tt, tt)
 
   settles-moved : (cluster : Cluster) (n : ℕ) → Settled cluster (message_events cluster n)
   settles-moved cluster n =
@@ -140,7 +174,8 @@ module _ (number : ℕ) (id : MemberId) where
   settles-round cluster =
       let wakes = each wake_events cluster cluster.facts.members in
       let later = cluster_over cluster wakes in
-      settles-then number id cluster wakes (each message_events later (keys_of later.facts.flight)) (settles-each number id wake_events settles-wake cluster cluster.facts.members)
+      settles-then number id cluster wakes (each message_events later (keys_of later.facts.flight))
+      (settles-each number id wake_events settles-wake cluster cluster.facts.members)
       (settles-each number id message_events settles-moved later (keys_of later.facts.flight))
 
   settles-rounds : (count : ℕ) (cluster : Cluster) → Settled cluster (rounds_events cluster count)
@@ -148,62 +183,94 @@ module _ (number : ℕ) (id : MemberId) where
   settles-rounds zero cluster = settles-none number id cluster
   settles-rounds (suc count) cluster =
       settles-if number id cluster (is_empty (round_events cluster)) [] _ (settles-none number id cluster)
-      (settles-then number id cluster (round_events cluster) (rounds_events (cluster_over cluster (round_events cluster)) count) (settles-round cluster) (settles-rounds count (cluster_over cluster (round_events cluster))))
+      (settles-then number id cluster (round_events cluster)
+      (rounds_events (cluster_over cluster (round_events cluster)) count) (settles-round cluster)
+      (settles-rounds count (cluster_over cluster (round_events cluster))))
 
   settles-scheduled : (cluster : Cluster) → Settled cluster (scheduled_events cluster)
   settles-scheduled cluster =
       let receives = each receive_events_of cluster cluster.facts.members in
-      settles-then number id cluster receives (rounds_events (cluster_over cluster receives) most_rounds) (settles-apart number id cluster receives (apart-each receive_events_of receive-apart cluster cluster.facts.members))
+      settles-then number id cluster receives (rounds_events (cluster_over cluster receives) most_rounds)
+      (settles-apart number id cluster receives
+      (apart-each receive_events_of receive-apart cluster cluster.facts.members))
       (settles-rounds most_rounds (cluster_over cluster receives))
 
   abbrev pub Acknowledged : Cluster → List Event
   Acknowledged later = each acknowledge_events later later.facts.members
 
   pub settles-acknowledged : (cluster : Cluster) → Settled cluster (Acknowledged cluster)
-  settles-acknowledged cluster = settles-apart number id cluster (Acknowledged cluster) (apart-each acknowledge_events acknowledge-apart cluster cluster.facts.members)
+  settles-acknowledged cluster = settles-apart number id cluster (Acknowledged cluster)
+      (apart-each acknowledge_events acknowledge-apart cluster cluster.facts.members)
 
   settles-tick : (cluster : Cluster) → Settled cluster (next_events cluster steps.Scheduled)
   settles-tick cluster =
       let ticks = step_events cluster steps.Scheduled in
       let ticked = cluster_over cluster (tick_events cluster) in
       settles-then number id cluster ticks (Acknowledged (cluster_over cluster ticks))
-      (settles-then number id cluster (tick_events cluster) (scheduled_events ticked) (settles-apart number id cluster (tick_events cluster) (tick-apart cluster)) (settles-scheduled ticked))
+      (settles-then number id cluster (tick_events cluster) (scheduled_events ticked)
+      (settles-apart number id cluster (tick_events cluster) (tick-apart cluster)) (settles-scheduled ticked))
       (settles-acknowledged (cluster_over cluster ticks))
 
   -- ---- steps, one after another
-  owed-behind : (cluster : Cluster) (xs ys : List Event) (reply : ReplyText) → IsOwed number id (cluster_over cluster xs) ys reply → IsOwed number id cluster (xs ++ ys) reply
+  owed-behind : (cluster : Cluster) (xs ys : List Event) (reply : ReplyText)
+      → IsOwed number id (cluster_over cluster xs) ys reply → IsOwed number id cluster (xs ++ ys) reply
   owed-behind cluster xs ys reply (inl told) = inl (told-behind number id cluster xs ys reply told)
   owed-behind cluster xs ys reply (inr late) = inr late
 
   -- a step, and more steps unless it brought a reply
-  pub owed-steps : (cluster : Cluster) (step : Step) (more : List Step) (found : Option ReplyText) → reply_in id (next_events cluster step) ≡ found
-      → ((reply : ReplyText) → reply_in id (next_events cluster step) ≡ Some reply → IsTold number id cluster (next_events cluster step) reply)
-      → (found ≡ None → (reply : ReplyText) → reply_in id (run_events (cluster_over cluster (next_events cluster step)) more) ≡ Some reply
-      → IsOwed number id (cluster_over cluster (next_events cluster step)) (run_events (cluster_over cluster (next_events cluster step)) more) reply)
-      → (reply : ReplyText) → reply_in id (run_events cluster (step ∷ unless_replied found more)) ≡ Some reply → IsOwed number id cluster (run_events cluster (step ∷ unless_replied found more)) reply
+  pub owed-steps : (cluster : Cluster) (step : Step) (more : List Step) (found : Option ReplyText)
+      → reply_in id (next_events cluster step) ≡ found
+      → ((reply : ReplyText) → reply_in id (next_events cluster step) ≡ Some reply →
+      IsTold number id cluster (next_events cluster step) reply)
+      → (found ≡ None → (reply : ReplyText) →
+      reply_in id (run_events (cluster_over cluster (next_events cluster step)) more) ≡ Some reply
+      → IsOwed number id (cluster_over cluster (next_events cluster step))
+      (run_events (cluster_over cluster (next_events cluster step)) more) reply)
+      → (reply : ReplyText) → reply_in id (run_events cluster (step ∷ unless_replied found more)) ≡ Some reply
+      → IsOwed number id cluster (run_events cluster (step ∷ unless_replied found more)) reply
   owed-steps cluster step more (Some first) is told others reply e =
-      inl (told-before number id cluster (next_events cluster step) [] reply (told reply (ap (reply_in id) (sym (append-nil (next_events cluster step))) ∙ e)))
+      inl (told-before number id cluster (next_events cluster step) [] reply
+      (told reply (ap (reply_in id) (sym (append-nil (next_events cluster step))) ∙ e)))
   owed-steps cluster step more None is told others reply e =
       let events = next_events cluster step in
       let later = cluster_over cluster events in
       owed-behind cluster events (run_events later more) reply
-      (others refl reply (ap (λ (r : Option ReplyText). option_or r (reply_in id (run_events later more))) (sym is) ∙ (sym (reply_in-append id events (run_events later more)) ∙ e)))
+      (others refl reply
+      (ap (λ (r : Option ReplyText). option_or r (reply_in id (run_events later more))) (sym is)
+      ∙ (sym (reply_in-append id events (run_events later more)) ∙ e)))
 
   -- the step that says that no result came says that alone
-  late-by : (cluster : Cluster) (member : Member) (same : Bool) (reply : ReplyText) → (member.id.number == id.number) ≡ same
-      → option_or (cond same (Some (refusal_reply refusals.NoResult)) None) (reply_in id (Acknowledged (cluster_over cluster (visit_events cluster (visits.Refusal refusals.NoResult) member)))) ≡ Some reply → reply ≡ refusal_reply refusals.NoResult
+  late-by : (cluster : Cluster) (member : Member) (same : Bool) (reply : ReplyText)
+      → (member.id.number == id.number) ≡ same
+      → option_or (cond same (Some (refusal_reply refusals.NoResult)) None)
+      (reply_in id
+      (Acknowledged (cluster_over cluster (visit_events cluster (visits.Refusal refusals.NoResult) member))))
+      ≡ Some reply
+      → reply ≡ refusal_reply refusals.NoResult
   late-by cluster member true reply is e = sym (same_Some _ _ e)
   late-by cluster member false reply is e =
       let later = cluster_over cluster (visit_events cluster (visits.Refusal refusals.NoResult) member) in
-      absurd (none-some _ (sym (apart-silent id (Acknowledged later) (apart-each acknowledge_events acknowledge-apart later later.facts.members)) ∙ e))
+      absurd (none-some _
+      (sym (apart-silent id (Acknowledged later)
+      (apart-each acknowledge_events acknowledge-apart later later.facts.members))
+      ∙ e))
 
   late-reply : (cluster : Cluster) (found : Option Member) (reply : ReplyText)
-      → reply_in id (events_then cluster (for_some found (visit_events cluster (visits.Refusal refusals.NoResult))) Acknowledged) ≡ Some reply → reply ≡ refusal_reply refusals.NoResult
-  late-reply cluster None reply e = absurd (none-some _ (sym (apart-silent id (Acknowledged cluster) (apart-each acknowledge_events acknowledge-apart cluster cluster.facts.members)) ∙ e))
+      → reply_in id
+      (events_then cluster (for_some found (visit_events cluster (visits.Refusal refusals.NoResult))) Acknowledged)
+      ≡ Some reply
+      → reply ≡ refusal_reply refusals.NoResult
+  late-reply cluster None reply e =
+      absurd (none-some _
+      (sym (apart-silent id (Acknowledged cluster)
+      (apart-each acknowledge_events acknowledge-apart cluster cluster.facts.members))
+      ∙ e))
   late-reply cluster (Some member) reply e = late-by cluster member (member.id.number == id.number) reply refl e
 
   -- while a reply is waited for
-  pub waited : (n : ℕ) (cluster : Cluster) → Owes number id.number cluster → (reply : ReplyText) → reply_in id (run_events cluster (waiting_steps cluster id n)) ≡ Some reply → IsOwed number id cluster (run_events cluster (waiting_steps cluster id n)) reply
+  pub waited : (n : ℕ) (cluster : Cluster) → Owes number id.number cluster → (reply : ReplyText)
+      → reply_in id (run_events cluster (waiting_steps cluster id n)) ≡ Some reply
+      → IsOwed number id cluster (run_events cluster (waiting_steps cluster id n)) reply
   waited zero cluster owes reply e =
       let events = next_events cluster (steps.Connection id (visits.Refusal refusals.NoResult)) in
       inr (late-reply cluster (declared cluster id) reply (ap (reply_in id) (sym (append-nil events)) ∙ e))
@@ -211,4 +278,5 @@ module _ (number : ℕ) (id : MemberId) where
       let events = next_events cluster steps.Scheduled in
       let later = cluster_over cluster events in
       let settled = settles-tick cluster owes in
-      owed-steps cluster steps.Scheduled (waiting_steps later id n) (reply_in id events) refl settled.told (λ none. waited n later settled.owes) reply e
+      owed-steps cluster steps.Scheduled (waiting_steps later id n) (reply_in id events) refl settled.told
+      (λ none. waited n later settled.owes) reply e

@@ -26,18 +26,21 @@ use Rattle.cluster_model.specs.State.{Cluster}
 -- a message that is in flight says this to the agent of a member
 abbrev pub SaysTo : Cluster → Member → Heard → Option InFlightFacts → Type 0
 SaysTo cluster member heard None = ⊥
-SaysTo cluster member heard (Some message) = (message.message.to ≡ ends.Member member) × (heard_from cluster message ≡ Some heard)
+SaysTo cluster member heard (Some message) =
+    (message.message.to ≡ ends.Member member) × (heard_from cluster message ≡ Some heard)
 
 -- the agent of a member hears this by an event
 abbrev pub HearsBy : Cluster → Member → EventKind → Heard → Type 0
 HearsBy cluster member (kinds.Agent (agents.Woken by)) heard = (by ≡ member) × (heard ≡ Wake)
 HearsBy cluster member (kinds.Agent (agents.Operated by action)) heard = (by ≡ member) × (heard ≡ Operated action)
-HearsBy cluster member (kinds.Message (messages.Delivered number)) heard = SaysTo cluster member heard (in_flight cluster.facts.flight number)
+HearsBy cluster member (kinds.Message (messages.Delivered number)) heard =
+    SaysTo cluster member heard (in_flight cluster.facts.flight number)
 HearsBy cluster member _ heard = ⊥
 
--- At an event the agent of a member heard something, of which it told one request alone, that of this number, what came of it. In these words it
--- replied to it, by a later event.
-pub record Tells (number : ℕ) (member : Member) (first behind : Cluster) (hearing reply_event : EventKind) (reply : ReplyText) : Type 0 where
+-- At an event the agent of a member heard something, of which it told one request alone,
+-- that of this number, what came of it. In these words it replied to it, by a later event.
+pub record Tells (number : ℕ) (member : Member) (first behind : Cluster) (hearing reply_event : EventKind)
+    (reply : ReplyText) : Type 0 where
   pub heard : Heard
   pub hears : HearsBy first member hearing heard
   pub outcome : Outcome
@@ -48,7 +51,8 @@ pub record Tells (number : ℕ) (member : Member) (first behind : Cluster) (hear
   pub notes : reply_event ≡ replying member reply
 
 -- so did the agent of the member of a number in these events
-pub record IsTold (number : ℕ) (id : MemberId) (start : Cluster) (events : List Event) (reply : ReplyText) : Type 0 where
+pub record IsTold (number : ℕ) (id : MemberId) (start : Cluster) (events : List Event) (reply : ReplyText) : Type
+    0 where
   pub member : Member
   pub is_it : member.id.number ≡ id.number
   -- before it heard, and from then on until it replied
@@ -58,7 +62,8 @@ pub record IsTold (number : ℕ) (id : MemberId) (start : Cluster) (events : Lis
   pub answer : Event
   pub later : List Event
   pub parts : before ++ hearing ∷ (meanwhile ++ answer ∷ later) ≡ events
-  pub told : Tells number member (cluster_over start before) (cluster_over start (before ++ hearing ∷ meanwhile)) hearing.kind answer.kind reply
+  pub told : Tells number member (cluster_over start before)
+      (cluster_over start (before ++ hearing ∷ meanwhile)) hearing.kind answer.kind reply
 
 -- a reply is what the agent told this request, or says that no result came in time
 abbrev pub IsOwed : ℕ → MemberId → Cluster → List Event → ReplyText → Type 0

@@ -20,17 +20,25 @@ option_or-assoc None y z = refl
 option_or-assoc (Some x) y z = refl
 
 -- the first reply is that of the first events, or else of the others
-pub reply_in-append : (id : MemberId) (first more : List Event) → reply_in id (first ++ more) ≡ option_or (reply_in id first) (reply_in id more)
+pub reply_in-append : (id : MemberId) (first more : List Event)
+    → reply_in id (first ++ more) ≡ option_or (reply_in id first) (reply_in id more)
 reply_in-append id [] more = refl
-reply_in-append id (event ∷ first) more = ap (λ r. option_or (reply_by id event.kind) r) (reply_in-append id first more) ∙ sym (option_or-assoc (reply_by id event.kind) (reply_in id first) (reply_in id more))
+reply_in-append id (event ∷ first) more = ap (λ r. option_or (reply_by id event.kind) r) (reply_in-append id first more)
+    ∙ sym (option_or-assoc (reply_by id event.kind) (reply_in id first) (reply_in id more))
 
 -- what a connection asks was replied to in its own step
-pub first-replied : (cluster : Cluster) (id : MemberId) (visit : Visit) (reply : ReplyText) → reply_in id (next_events cluster (steps.Connection id visit)) ≡ Some reply → replied_steps cluster id visit ≡ steps.Connection id visit ∷ []
+pub first-replied : (cluster : Cluster) (id : MemberId) (visit : Visit) (reply : ReplyText)
+    → reply_in id (next_events cluster (steps.Connection id visit)) ≡ Some reply
+    → replied_steps cluster id visit ≡ steps.Connection id visit ∷ []
 first-replied cluster id visit reply is =
     let events = next_events cluster (steps.Connection id visit) in
-    ap (λ (r : Option ReplyText). steps.Connection id visit ∷ unless_replied r (waiting_steps (cluster_over cluster events) id most_waiting)) is
+    ap (λ (r : Option ReplyText).
+    steps.Connection id visit ∷ unless_replied r (waiting_steps (cluster_over cluster events) id most_waiting))
+    is
 
 -- the reply in one step is what is replied by it
-pub replied-once : (cluster : Cluster) (id : MemberId) (step : Step) (reply : ReplyText) → reply_in id (next_events cluster step) ≡ Some reply → replied cluster id (step ∷ []) ≡ reply
+pub replied-once : (cluster : Cluster) (id : MemberId) (step : Step) (reply : ReplyText)
+    → reply_in id (next_events cluster step) ≡ Some reply → replied cluster id (step ∷ []) ≡ reply
 replied-once cluster id step reply is =
-    ap (λ (r : Option ReplyText). unwrap_or r (refusal_reply refusals.NoResult)) (ap (reply_in id) (append-nil (next_events cluster step)) ∙ is)
+    ap (λ (r : Option ReplyText). unwrap_or r (refusal_reply refusals.NoResult))
+    (ap (reply_in id) (append-nil (next_events cluster step)) ∙ is)

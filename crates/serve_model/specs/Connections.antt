@@ -1,4 +1,5 @@
--- What a connection to the REST interface of a member's agent brings to a run, as steps of it, and what is answered on it.
+-- What a connection to the REST interface of a member's agent brings
+-- to a run, as steps of it, and what is answered on it.
 use Rattle.std.specs.Prelude.{ℕ, ◌≡◌, ◌+◌, ◌==◌, Bool, true, false, if◌then◌else◌, List, [], ◌∷◌, ◌++◌, Option, Some, None, Result, Ok, Err, unwrap_or, zero, suc}
 use Rattle.std.specs.Option.{option_or}
 use Rattle.pat_base.specs.declared.member_id.MemberId.{MemberId}
@@ -49,7 +50,8 @@ first_visit (Err refusal) = visits.Refusal refusal
 
 -- what is replied by a note, where that is to the member of this number
 abbrev pub reply_noted : MemberId → Note → Option ReplyText
-reply_noted id (notes.Answered agent status json body) = if agent.id.number == id.number then Some (record { status = status; json = json; body = body }) else None
+reply_noted id (notes.Answered agent status json body) =
+    if agent.id.number == id.number then Some (record { status = status; json = json; body = body }) else None
 reply_noted id _ = None
 
 -- what is replied by an event
@@ -78,7 +80,8 @@ waiting_steps cluster id (suc n) =
 abbrev pub replied_steps : Cluster → MemberId → Visit → List Step
 replied_steps cluster id visit =
     let events = next_events cluster (steps.Connection id visit) in
-    steps.Connection id visit ∷ unless_replied (reply_in id events) (waiting_steps (cluster_over cluster events) id most_waiting)
+    steps.Connection id visit
+    ∷ unless_replied (reply_in id events) (waiting_steps (cluster_over cluster events) id most_waiting)
 
 -- the steps of a connection that was read
 abbrev pub read_steps : Cluster → MemberId → Connection → List Step
@@ -98,7 +101,8 @@ steps_by Unwritten cluster id connection = read_steps cluster id connection ++ f
 abbrev pub steps_of_connection : Cluster → MemberId → Connection → List Step
 steps_of_connection cluster id connection = steps_by connection.course cluster id connection
 
--- what is replied by these steps: what the agent of the member of this number replied first, or that there was no result in time
+-- what is replied by these steps: what the agent of the member of this
+-- number replied first, or that there was no result in time
 abbrev pub replied : Cluster → MemberId → List Step → ReplyText
 replied cluster id steps = unwrap_or (reply_in id (run_events cluster steps)) (refusal_reply refusals.NoResult)
 

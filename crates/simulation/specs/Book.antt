@@ -18,7 +18,8 @@ left_by start book = cluster_over start book
 pub record StandsFor (start : Cluster) (book : List Event) (world : Cluster) : Type 0 where
   pub world_is : world ≡ left_by start book
   pub logs : logs_in world.facts.servers ≡ logs_over (logs_in start.facts.servers) book
-  pub writers : (n : ℕ) → n < length start.facts.servers → writes_in world.facts.servers n ≡ writes_over (writes_in start.facts.servers) book n
+  pub writers : (n : ℕ) → n < length start.facts.servers
+      → writes_in world.facts.servers n ≡ writes_over (writes_in start.facts.servers) book n
   pub required : required_in world.facts.servers ≡ required_over (required_in start.facts.servers) book
   pub confirmed : confirmed_in world.facts.servers ≡ confirmed_over (confirmed_in start.facts.servers) book
   pub acknowledged : world.facts.acknowledged ≡ start.facts.acknowledged ++ acknowledged_in book

@@ -9,7 +9,8 @@ pub record WorldFacts : Type 0 where
   pub cluster : Cluster
   pub steps : ℕ
 
--- a world may take so many steps more: they bring no counter to its end, and with those that it took they are no more than a world takes
+-- a world may take so many steps more: they bring no counter to its
+-- end, and with those that it took they are no more than a world takes
 pub record HasStepsLeft (world : WorldFacts) (more : ℕ) : Type 0 where
   pub room : HasRoomFor world.cluster more
   pub steps : world.steps + more ≤ most_steps
@@ -18,7 +19,8 @@ pub record HasStepsLeft (world : WorldFacts) (more : ℕ) : Type 0 where
 abbrev pub IsCounted : WorldFacts → Type 0
 IsCounted world = AreCounted world.cluster (counted_by world.steps)
 
--- a world took so many steps: it counts them, and they took no more room, and brought no counter farther, than so many do
+-- a world took so many steps: it counts them, and they took no more
+-- room, and brought no counter farther, than so many do
 pub record TookSteps (before after : WorldFacts) (count : ℕ) : Type 0 where
   pub steps : after.steps ≡ before.steps + count
   pub room : (more : ℕ) → HasRoomFor before.cluster (count + more) → HasRoomFor after.cluster more

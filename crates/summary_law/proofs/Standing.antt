@@ -30,13 +30,15 @@ use Rattle.pat_base.specs.declared.member_id.TheConstants.{MOST_MEMBERS}
 -- commits are counted
 pub acknowledged-more : (xs ys : List Event) → acknowledged_in (xs ++ ys) ≡ acknowledged_in xs ++ acknowledged_in ys
 acknowledged-more [] ys = refl
-acknowledged-more (x ∷ xs) ys = ap (λ l. acknowledged_of x.kind ++ l) (acknowledged-more xs ys) ∙ sym (append_assoc (acknowledged_of x.kind) (acknowledged_in xs) (acknowledged_in ys))
+acknowledged-more (x ∷ xs) ys = ap (λ l. acknowledged_of x.kind ++ l) (acknowledged-more xs ys)
+    ∙ sym (append_assoc (acknowledged_of x.kind) (acknowledged_in xs) (acknowledged_in ys))
 
 count-kind : (count : ℕ) (kind : EventKind) → count_after count kind ≡ count + length (acknowledged_of kind)
 count-kind count (kinds.Replication (replications.Acknowledged server commit)) = refl
 count-kind count _ = omega arith
 
-pub count-more : (count : ℕ) (book : List Event) (event : Event) → count ≡ length (acknowledged_in book) → count_after count event.kind ≡ length (acknowledged_in (book ++ event ∷ []))
+pub count-more : (count : ℕ) (book : List Event) (event : Event) → count ≡ length (acknowledged_in book)
+    → count_after count event.kind ≡ length (acknowledged_in (book ++ event ∷ []))
 count-more count book event is =
     let e = count-kind count event.kind in
     let f = ap length (acknowledged-more book (event ∷ [])) in
@@ -50,7 +52,8 @@ none-at zero m = refl
 none-at (suc n) zero = refl
 none-at (suc n) (suc m) = none-at n m
 
-filled-at : (n : ℕ) (members : List WatchOf) (m : ℕ) → length members ≤ n → margin_at (filled (replicate n None) members) m ≡ declared_margin (slice_get members m)
+filled-at : (n : ℕ) (members : List WatchOf) (m : ℕ) → length members ≤ n
+    → margin_at (filled (replicate n None) members) m ≡ declared_margin (slice_get members m)
 filled-at n [] m within = none-at n m
 filled-at zero (w ∷ ws) m within = absurd (omega (arith, within))
 filled-at (suc n) (w ∷ ws) zero within = refl
@@ -62,7 +65,8 @@ none-writes (suc n) zero = refl
 none-writes (suc n) (suc m) = none-writes n m
 
 -- before the first event
-pub stands-first : (members : List WatchOf) (first : Settings) (logs : Logs) → length members ≤ MOST_MEMBERS → WatchStandsFor members first logs [] (watch_of members first.config)
+pub stands-first : (members : List WatchOf) (first : Settings) (logs : Logs) → length members ≤ MOST_MEMBERS
+    → WatchStandsFor members first logs [] (watch_of members first.config)
 stands-first members first logs within = record {
   margins = λ m. ap margin_ticks (filled-at 16 members m within);
   places = refl;
@@ -78,21 +82,28 @@ stands-first members first logs within = record {
 }
 
 -- one more event
-pub stands-more : (members : List WatchOf) (first : Settings) (logs : Logs) (book : List Event) (facts : WatchFacts) (event : Event) (seen : Seen) → WatchStandsFor members first logs book facts → IsSeen logs book facts.closing.lost event seen → WatchStandsFor members first logs (book ++ event ∷ []) (noted facts event.kind seen)
+pub stands-more : (members : List WatchOf) (first : Settings) (logs : Logs) (book : List Event)
+    (facts : WatchFacts) (event : Event) (seen : Seen) → WatchStandsFor members first logs book facts
+    → IsSeen logs book facts.closing.lost event seen
+    → WatchStandsFor members first logs (book ++ event ∷ []) (noted facts event.kind seen)
 stands-more members first logs book facts event seen stands right =
     let closing = facts.closing in
     let was = stands.closing in
     let now : Ticks = ticks_after closing.end event.kind in
-    let end : now.0 ≡ now_over 0 (book ++ event ∷ []) = ap (λ t. (ticks_after (record { 0 = t }) event.kind).0) was.end ∙ sym (now-more 0 book event) in
-    let are = writers-more closing.writers (writes_over (λ n. false) book) event.kind stands.places (record { same = was.writers }) in
+    let end : now.0 ≡ now_over 0 (book ++ event ∷ []) =
+    ap (λ t. (ticks_after (record { 0 = t }) event.kind).0) was.end ∙ sym (now-more 0 book event) in
+    let are = writers-more closing.writers (writes_over (λ n. false) book) event.kind stands.places
+    (record { same = was.writers }) in
     record {
       margins = stands.margins;
       places = long-more closing.writers event.kind ∙ stands.places;
       closing = record {
         end = end;
-        premises = premises-more members first facts.margins book event seen.lateness now closing.premises stands.margins right.lateness end was.premises;
+        premises = premises-more members first facts.margins book event seen.lateness now closing.premises
+            stands.margins right.lateness end was.premises;
         synchronous = mode-more first book event now closing.synchronous end was.synchronous;
-        two_writers = two-more book event closing.two_writers now (writers_after closing.writers event.kind) was.two_writers end are;
+        two_writers = two-more book event closing.two_writers now
+            (writers_after closing.writers event.kind) was.two_writers end are;
         writers = λ n. are.same n ∙ sym (ap (λ (w : ℕ → Bool). w n) (over-more book event));
         acknowledged = count-more closing.acknowledged book event was.acknowledged;
         lost = lost-more logs book event closing.lost seen now right end was.lost;
@@ -100,11 +111,21 @@ stands-more members first logs book facts event seen stands right =
     }
 
 -- all of them
-pub stands-over : (members : List WatchOf) (first : Settings) (logs : Logs) (book : List Event) (facts : WatchFacts) (sightings : List Sighting) → WatchStandsFor members first logs book facts → AreSeen logs book facts sightings → WatchStandsFor members first logs (book ++ events_in sightings) (noted_over facts sightings)
-stands-over members first logs book facts [] stands right = subst (λ (l : List Event). WatchStandsFor members first logs l facts) (sym (none-more book)) stands
+pub stands-over : (members : List WatchOf) (first : Settings) (logs : Logs) (book : List Event) (facts : WatchFacts)
+    (sightings : List Sighting) → WatchStandsFor members first logs book facts → AreSeen logs book facts sightings
+    → WatchStandsFor members first logs (book ++ events_in sightings) (noted_over facts sightings)
+stands-over members first logs book facts [] stands right =
+    subst (λ (l : List Event). WatchStandsFor members first logs l facts) (sym (none-more book)) stands
 stands-over members first logs book facts (s ∷ ss) stands right =
-    subst (λ (l : List Event). WatchStandsFor members first logs l (noted_over (noted facts s.event.kind s.seen) ss)) (assoc book (s.event ∷ []) (events_in ss))
-    (stands-over members first logs (book ++ s.event ∷ []) (noted facts s.event.kind s.seen) ss (stands-more members first logs book facts s.event s.seen stands right.0) right.1)
+    subst (λ (l : List Event). WatchStandsFor members first logs l (noted_over (noted facts s.event.kind s.seen) ss))
+    (assoc book (s.event ∷ []) (events_in ss))
+    (stands-over members first logs (book ++ s.event ∷ []) (noted facts s.event.kind s.seen) ss
+    (stands-more members first logs book facts s.event s.seen stands right.0) right.1)
 
-pub stands-all : (members : List WatchOf) (first : Settings) (logs : Logs) (sightings : List Sighting) → length members ≤ MOST_MEMBERS → AreSeen logs [] (watch_of members first.config) sightings → IsSummaryOf members first logs (events_in sightings) (noted_over (watch_of members first.config) sightings).closing
-stands-all members first logs sightings within right = (stands-over members first logs [] (watch_of members first.config) sightings (stands-first members first logs within) right).closing
+pub stands-all : (members : List WatchOf) (first : Settings) (logs : Logs) (sightings : List Sighting)
+    → length members ≤ MOST_MEMBERS → AreSeen logs [] (watch_of members first.config) sightings
+    → IsSummaryOf members first logs (events_in sightings)
+    (noted_over (watch_of members first.config) sightings).closing
+stands-all members first logs sightings within right =
+    (stands-over members first logs [] (watch_of members first.config) sightings
+    (stands-first members first logs within) right).closing

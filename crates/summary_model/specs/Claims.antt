@@ -71,16 +71,19 @@ IsBreachBy _ _ = ⊥
 -- the last event of this front is the breach; where there is no event, the head is
 abbrev pub IsWhy : List WatchOf → Settings → List Event → Breach → Type 0
 IsWhy members first front why =
-    ((front ≡ []) × (head_breach (first_unwatched members) first.config.pause ≡ Some why)) ⊎ ((before : List Event) × (event : Event) × (front ≡ before ++ event ∷ []) × IsBreachBy why event.kind)
+    ((front ≡ []) × (head_breach (first_unwatched members) first.config.pause ≡ Some why))
+    ⊎ ((before : List Event) × (event : Event) × (front ≡ before ++ event ∷ []) × IsBreachBy why event.kind)
 
 -- the premises were broken first at this moment, by this breach
-pub record IsFirstBreach (members : List WatchOf) (first : Settings) (book : List Event) (moment : ℕ) (why : Breach) : Type 0 where
+pub record IsFirstBreach (members : List WatchOf) (first : Settings) (book : List Event) (moment : ℕ)
+    (why : Breach) : Type 0 where
   pub break : IsFirstBreak (ArePremisesMet (margin_of members) (works_of members) first) book moment
   pub why_is : IsWhy members first break.front why
 
 -- what is told of the premises is so: they are met by each front, or broken first at that moment
 abbrev pub IsToldOfPremises : List WatchOf → Settings → List Event → Premises → Type 0
-IsToldOfPremises members first book premises.Met = AreAllFronts (ArePremisesMet (margin_of members) (works_of members) first) book
+IsToldOfPremises members first book premises.Met =
+    AreAllFronts (ArePremisesMet (margin_of members) (works_of members) first) book
 IsToldOfPremises members first book (premises.Broken tick why) = IsFirstBreach members first book tick.0 why
 
 -- a granted configuration has this mode
@@ -99,8 +102,8 @@ abbrev pub KeepMode : Bool → List Event → Type 0
 KeepMode on [] = Unit {0}
 KeepMode on (event ∷ events) = KeepsMode on event.kind × KeepMode on events
 
--- what is told of synchronous mode is so: it is on, or off, by the first configuration and all the time, or that was broken first
--- at that moment
+-- what is told of synchronous mode is so: it is on, or off, by the first
+-- configuration and all the time, or that was broken first at that moment
 abbrev pub IsToldOfMode : Settings → List Event → Synchronous → Type 0
 IsToldOfMode first book synchronous.On = (first.config.synchronous_mode ≡ true) × AreAllFronts (KeepMode true) book
 IsToldOfMode first book synchronous.Off = (first.config.synchronous_mode ≡ false) × AreAllFronts (KeepMode false) book
@@ -115,8 +118,10 @@ is_named (Some name) = is_some name
 abbrev pub is_writer : List (Option Name) → ℕ → Bool
 is_writer writers server = is_named (slice_get writers server)
 
--- each answer is so of this book, over the declared members, the first configuration and the logs that servers began with
-pub record IsSummaryOf (members : List WatchOf) (first : Settings) (logs : Logs) (book : List Event) (closing : Closing) : Type 0 where
+-- each answer is so of this book, over the declared members, the first
+-- configuration and the logs that servers began with
+pub record IsSummaryOf (members : List WatchOf) (first : Settings) (logs : Logs) (book : List Event)
+    (closing : Closing) : Type 0 where
   -- the end is the clock's
   pub end : closing.end.0 ≡ now_over 0 book
   pub premises : IsToldOfPremises members first book closing.premises
@@ -127,11 +132,13 @@ pub record IsSummaryOf (members : List WatchOf) (first : Settings) (logs : Logs)
   pub writers : (server : ℕ) → is_writer closing.writers server ≡ writes_over (λ n. false) book server
   -- so many commits were acknowledged
   pub acknowledged : closing.acknowledged ≡ length (acknowledged_in book)
-  -- each server that accepts writes has each acknowledged commit at the end of each front, or one lacked some first at that moment
+  -- each server that accepts writes has each acknowledged commit at
+  -- the end of each front, or one lacked some first at that moment
   pub lost : IsToldFirst (KeepsCommits logs) book closing.lost
 
 -- the summary keeps what this book makes of it
-pub record WatchStandsFor (members : List WatchOf) (first : Settings) (logs : Logs) (book : List Event) (facts : WatchFacts) : Type 0 where
+pub record WatchStandsFor (members : List WatchOf) (first : Settings) (logs : Logs) (book : List Event)
+    (facts : WatchFacts) : Type 0 where
   pub margins : (m : ℕ) → margin_ticks (margin_at facts.margins m) ≡ margin_of members m
   pub places : length facts.closing.writers ≡ SERVERS
   pub closing : IsSummaryOf members first logs book facts.closing
@@ -146,12 +153,13 @@ abbrev pub IsGuarded : Premises → FirstMoment → Type 0
 IsGuarded premises.Met two_writers = two_writers ≡ firsts.Never
 IsGuarded (premises.Broken tick why) two_writers = IsNotBefore two_writers tick.0
 
--- where the premises are met and synchronous mode is on no commit was lost, and where one of them was broken none was before, or
--- before the other was; with the mode off nothing is said
+-- where the premises are met and synchronous mode is on no commit was lost, and where one of
+-- them was broken none was before, or before the other was; with the mode off nothing is said
 abbrev pub AreCommitsGuarded : Premises → Synchronous → FirstMoment → Type 0
 AreCommitsGuarded premises.Met synchronous.On lost = lost ≡ firsts.Never
 AreCommitsGuarded premises.Met synchronous.Off lost = Unit {0}
 AreCommitsGuarded premises.Met (synchronous.Broken tick) lost = IsNotBefore lost tick.0
 AreCommitsGuarded (premises.Broken tick why) synchronous.On lost = IsNotBefore lost tick.0
 AreCommitsGuarded (premises.Broken tick why) synchronous.Off lost = Unit {0}
-AreCommitsGuarded (premises.Broken tick why) (synchronous.Broken other) lost = IsNotBefore lost tick.0 ⊎ IsNotBefore lost other.0
+AreCommitsGuarded (premises.Broken tick why) (synchronous.Broken other) lost =
+    IsNotBefore lost tick.0 ⊎ IsNotBefore lost other.0

@@ -58,4 +58,5 @@ closing_of members first = record {
 
 -- what the summary keeps before the first event, over these members and the first configuration
 abbrev pub watch_of : List WatchOf → Config → WatchFacts
-watch_of members first = record { margins = filled (replicate MOST_MEMBERS None) members; closing = closing_of members first }
+watch_of members first =
+    record { margins = filled (replicate MOST_MEMBERS None) members; closing = closing_of members first }

@@ -38,4 +38,5 @@ may_lose _ = false
 
 -- some server that accepts writes at the end of this book has no entry of this commit
 abbrev pub WriterLacksOf : Logs → List Event → ℕ → Type 0
-WriterLacksOf logs book commit = (server : ℕ) × AcceptsWrites book server × (has_serial (entries_at (logs_over logs book) server) commit ≡ false)
+WriterLacksOf logs book commit =
+    (server : ℕ) × AcceptsWrites book server × (has_serial (entries_at (logs_over logs book) server) commit ≡ false)

@@ -27,8 +27,8 @@ use Rattle.summary_model.specs.declared.answers.Seen.{Seen}
 use Rattle.summary_model.specs.declared.answers.Synchronous.{Synchronous}
 use Rattle.summary_model.specs.declared.answers.Synchronous.TheVariants as synchronous
 
--- what the summary keeps of the events so far: the margins of watchdogs, by the numbers of their members, and how the run
--- would close
+-- what the summary keeps of the events so far: the margins of watchdogs,
+-- by the numbers of their members, and how the run would close
 pub record WatchFacts : Type 0 where
   pub margins : List (Option Ticks)
   pub closing : Closing
@@ -69,8 +69,10 @@ pause_if false = None
 
 -- the breach by what happens to a watchdog so many ticks after what it is measured from
 abbrev pub breach_by_watchdog : List (Option Ticks) → ℕ → WatchdogEvent → Option Breach
-breach_by_watchdog margins lateness (watchdogs.Armed member until answer) = late_if (is_past_margin (margin_at margins member.id.number) lateness) member.name
-breach_by_watchdog margins lateness (watchdogs.Fed member until basis) = late_if (is_past_margin (margin_at margins member.id.number) lateness) member.name
+breach_by_watchdog margins lateness (watchdogs.Armed member until answer) =
+    late_if (is_past_margin (margin_at margins member.id.number) lateness) member.name
+breach_by_watchdog margins lateness (watchdogs.Fed member until basis) =
+    late_if (is_past_margin (margin_at margins member.id.number) lateness) member.name
 breach_by_watchdog margins lateness _ = None
 
 -- the breach by a granted transaction: a configuration that pauses

@@ -15,14 +15,16 @@ IsTickAlone _ = ⊥
 
 -- the same, so many ticks later
 abbrev pub watch_later : WatchFacts → ℕ → WatchFacts
-watch_later watch ticks = record watch { closing = record watch.closing { end = record { 0 = watch.closing.end.0 + ticks } } }
+watch_later watch ticks = record watch {
+  closing = record watch.closing { end = record { 0 = watch.closing.end.0 + ticks } };
+}
 
 -- the same, so many ticks later
 abbrev pub summary_later : SummaryFacts → ℕ → SummaryFacts
 summary_later facts ticks = record facts { watch = watch_later facts.watch ticks }
 
--- such an event changes nothing that a summary keeps, unless it stands before a loss that is told: a message, what becomes of a log, how far
--- one is confirmed, a note, a link, an agent that is woken
+-- such an event changes nothing that a summary keeps, unless it stands before a loss that is told: a
+-- message, what becomes of a log, how far one is confirmed, a note, a link, an agent that is woken
 abbrev pub tells_nothing : EventKind → Bool
 tells_nothing (kinds.Message happening) = true
 tells_nothing (kinds.Log happening) = true

@@ -14,7 +14,8 @@ use Rattle.wal_model.specs.Lacking.{lacks_in}
 use Rattle.summary_model.specs.Moments.{moments_over}
 use Rattle.summary_model.specs.Noting.{WatchFacts, noted}
 
--- a feed on this basis comes so late: so many ticks after the earliest moment that it is measured from, 0 where there is none
+-- a feed on this basis comes so late: so many ticks after the earliest
+-- moment that it is measured from, 0 where there is none
 pub record IsLatenessOn (moments : Moments) (m : ℕ) (basis : Basis) (lateness : ℕ) : Type 0 where
   pub most : (moment : ℕ) → IsFedFrom moments m basis moment → moments.clock - moment ≤ lateness
   pub one : (lateness ≡ 0) ⊎ ((moment : ℕ) × IsFedFrom moments m basis moment × (lateness ≡ moments.clock - moment))
@@ -55,4 +56,5 @@ noted_over facts (sighting ∷ sightings) = noted_over (noted facts sighting.eve
 abbrev pub AreSeen : Logs → List Event → WatchFacts → List Sighting → Type 0
 AreSeen logs book facts [] = Unit {0}
 AreSeen logs book facts (sighting ∷ sightings) =
-    IsSeen logs book facts.closing.lost sighting.event sighting.seen × AreSeen logs (book ++ sighting.event ∷ []) (noted facts sighting.event.kind sighting.seen) sightings
+    IsSeen logs book facts.closing.lost sighting.event sighting.seen
+    × AreSeen logs (book ++ sighting.event ∷ []) (noted facts sighting.event.kind sighting.seen) sightings

@@ -58,7 +58,8 @@ seen_beside now since kind behind = record { lacking = tells_loss behind; latene
 abbrev pub sightings_of : Ticks → Ticks → List Event → List Sighting
 sightings_of clock since [] = []
 sightings_of clock since (event ∷ events) =
-    record { event = event; seen = seen_beside (ticks_after clock event.kind) since event.kind events } ∷ sightings_of (ticks_after clock event.kind) (since_after since event.kind) events
+    record { event = event; seen = seen_beside (ticks_after clock event.kind) since event.kind events }
+    ∷ sightings_of (ticks_after clock event.kind) (since_after since event.kind) events
 
 -- what the summary keeps of the events so far, and the moment that is measured from next
 pub record SummaryFacts : Type 0 where
@@ -76,7 +77,8 @@ summary_of members first = record { watch = watch_of members first; since = firs
 -- what the summary keeps after an event, behind which these stand
 abbrev pub noted_before : SummaryFacts → Event → List Event → SummaryFacts
 noted_before facts event behind = record {
-  watch = noted facts.watch event.kind (seen_beside (ticks_after facts.watch.closing.end event.kind) facts.since event.kind behind);
+  watch = noted facts.watch event.kind
+      (seen_beside (ticks_after facts.watch.closing.end event.kind) facts.since event.kind behind);
   since = since_after facts.since event.kind;
 }
 

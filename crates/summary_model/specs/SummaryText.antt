@@ -52,12 +52,21 @@ sorted_from names (writer ∷ writers) = sorted_from (with_writer names writer) 
 -- the four lines up to the claim of one writer
 abbrev pub claims_text : Closing → List ℕ
 claims_text closing =
-    codes "end at " ++ (decimal closing.end.0 ++ (codes "\npremises " ++ (premises_text closing.premises ++ (codes "\nsynchronous " ++ (synchronous_text closing.synchronous ++ (codes "\ntwo writers " ++ (first_text closing.two_writers ++ codes "\n")))))))
+    codes "end at "
+    ++ (decimal closing.end.0
+    ++ (codes "\npremises "
+    ++ (premises_text closing.premises
+    ++ (codes "\nsynchronous " ++ (synchronous_text closing.synchronous
+    ++ (codes "\ntwo writers " ++ (first_text closing.two_writers ++ codes "\n")))))))
 
 -- the three lines from this list of writers on
 abbrev pub counts_text : Closing → List ℕ → List ℕ
-counts_text closing writers = codes "writers " ++ (writers ++ (codes "\nacknowledged " ++ (decimal closing.acknowledged ++ (codes "\nlost " ++ (first_text closing.lost ++ codes "\n")))))
+counts_text closing writers = codes "writers "
+    ++ (writers
+    ++ (codes "\nacknowledged "
+    ++ (decimal closing.acknowledged ++ (codes "\nlost " ++ (first_text closing.lost ++ codes "\n")))))
 
 -- the seven lines of the summary, which lists the writers in byte order
 abbrev pub closing_text : Closing → List ℕ
-closing_text closing = claims_text closing ++ counts_text closing (listed (codes "none") (sorted_from [] closing.writers))
+closing_text closing =
+    claims_text closing ++ counts_text closing (listed (codes "none") (sorted_from [] closing.writers))

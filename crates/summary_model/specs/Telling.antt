@@ -25,11 +25,12 @@ pub record IsEarliest (moments : Moments) (m : ℕ) (basis : Basis) (since : ℕ
   pub none_earlier : (moment : ℕ) → IsFedFrom moments m basis moment → since ≤ moment
   pub one : (since ≡ moments.clock) ⊎ IsFedFrom moments m basis since
 
--- a feed on this basis is told to be measured from this moment, and is: the answer that tells the grant was sent then, or the earliest
--- hold was taken then
+-- a feed on this basis is told to be measured from this moment, and is: the
+-- answer that tells the grant was sent then, or the earliest hold was taken then
 abbrev pub IsMeasuredOn : Moments → ℕ → Basis → ℕ → Type 0
 IsMeasuredOn moments m (bases.Grant answer) since = IsFedFrom moments m (bases.Grant answer) since
-IsMeasuredOn moments m (bases.Acknowledgements members sequence) since = IsEarliest moments m (bases.Acknowledgements members sequence) since
+IsMeasuredOn moments m (bases.Acknowledgements members sequence) since =
+    IsEarliest moments m (bases.Acknowledgements members sequence) since
 
 -- where this event arms or feeds a watchdog, that is measured from this moment
 abbrev pub IsMeasured : Moments → Ticks → EventKind → Type 0
@@ -38,11 +39,14 @@ IsMeasured moments since kind = OnFeed (λ m basis. IsMeasuredOn moments m basis
 -- each of these events that arms or feeds a watchdog is measured from the moment that was told last before it
 abbrev pub AreMeasured : Moments → Ticks → List Event → Type 0
 AreMeasured moments since [] = Unit {0}
-AreMeasured moments since (event ∷ events) = IsMeasured moments since event.kind × AreMeasured (moments_after moments event.kind) (since_after since event.kind) events
+AreMeasured moments since (event ∷ events) = IsMeasured moments since event.kind
+    × AreMeasured (moments_after moments event.kind) (since_after since event.kind) events
 
--- where no commit was lost in this book before, what stands behind the event tells a loss exactly where the event brought one
+-- where no commit was lost in this book before, what stands behind the
+-- event tells a loss exactly where the event brought one
 abbrev pub TellsLoss : Logs → List Event → Event → List Event → Type 0
-TellsLoss logs book event behind = AreAllFronts (KeepsCommits logs) book → IsTrue (tells_loss behind) ↔ WriterLacks logs (book ++ event ∷ [])
+TellsLoss logs book event behind =
+    AreAllFronts (KeepsCommits logs) book → IsTrue (tells_loss behind) ↔ WriterLacks logs (book ++ event ∷ [])
 
 -- the events of one step tell the first loss, behind this book
 abbrev pub TellLosses : Logs → List Event → List Event → Type 0
@@ -55,7 +59,8 @@ EachTellsLosses logs book [] = Unit {0}
 EachTellsLosses logs book (step ∷ steps) = TellLosses logs book step × EachTellsLosses logs (book ++ step) steps
 
 -- each answer but that of lost commits is so of this book, over the declared members and the first configuration
-pub record IsSummaryButForLosses (members : List WatchOf) (first : Settings) (book : List Event) (closing : Closing) : Type 0 where
+pub record IsSummaryButForLosses (members : List WatchOf) (first : Settings) (book : List Event)
+    (closing : Closing) : Type 0 where
   pub end : closing.end.0 ≡ now_over 0 book
   pub premises : IsToldOfPremises members first book closing.premises
   pub synchronous : IsToldOfMode first book closing.synchronous
@@ -64,7 +69,8 @@ pub record IsSummaryButForLosses (members : List WatchOf) (first : Settings) (bo
   pub acknowledged : closing.acknowledged ≡ length (acknowledged_in book)
 
 -- the summary keeps what this book makes of it, but for lost commits
-pub record WatchStandsButForLosses (members : List WatchOf) (first : Settings) (book : List Event) (facts : WatchFacts) : Type 0 where
+pub record WatchStandsButForLosses (members : List WatchOf) (first : Settings) (book : List Event)
+    (facts : WatchFacts) : Type 0 where
   pub margins : (m : ℕ) → margin_ticks (margin_at facts.margins m) ≡ margin_of members m
   pub places : length facts.closing.writers ≡ SERVERS
   pub closing : IsSummaryButForLosses members first book facts.closing

@@ -54,7 +54,8 @@ pub data Forest : Type 0 where
 abbrev pub forest_text : Forest → List ℕ
 forest_text nothing = []
 forest_text (characters bytes behind) = escaped bytes ++ forest_text behind
-forest_text (element tag attributes inner behind) = opening_text tag attributes ++ (forest_text inner ++ (closing_tag_text tag ++ forest_text behind))
+forest_text (element tag attributes inner behind) =
+    opening_text tag attributes ++ (forest_text inner ++ (closing_tag_text tag ++ forest_text behind))
 
 -- one forest behind another
 abbrev pub beside : Forest → Forest → Forest

@@ -30,14 +30,22 @@ closed (innermost ∷ open_names) name = if bytes_eq innermost name then between
 
 -- where the reader stands behind one more byte
 abbrev pub step : Place → ℕ → Place
-step (between open_names) byte = if byte == 60 then begun open_names else if byte == 62 then broken else if byte == 38 then entity open_names else between open_names
-step (entity open_names) byte = if byte == 59 then between open_names else if byte == 60 then broken else if byte == 38 then broken else entity open_names
-step (begun open_names) byte = if byte == 47 then closing open_names [] else if byte == 62 then broken else if byte == 60 then broken else opening open_names (byte ∷ [])
-step (opening open_names name) byte = if byte == 62 then between (name ∷ open_names) else if byte == 32 then within open_names name else if byte == 60 then broken else opening open_names (name ++ byte ∷ [])
-step (within open_names name) byte = if byte == 62 then between (name ∷ open_names) else if byte == 34 then quoted open_names name else if byte == 60 then broken else within open_names name
-step (quoted open_names name) byte = if byte == 34 then within open_names name else if byte == 60 then broken else if byte == 38 then quoted_entity open_names name else quoted open_names name
-step (quoted_entity open_names name) byte = if byte == 59 then quoted open_names name else if byte == 34 then broken else if byte == 60 then broken else if byte == 38 then broken else quoted_entity open_names name
-step (closing open_names name) byte = if byte == 62 then closed open_names name else if byte == 60 then broken else closing open_names (name ++ byte ∷ [])
+step (between open_names) byte = if byte == 60 then begun open_names else if byte == 62 then broken
+    else if byte == 38 then entity open_names else between open_names
+step (entity open_names) byte = if byte == 59 then between open_names else if byte == 60 then broken
+    else if byte == 38 then broken else entity open_names
+step (begun open_names) byte = if byte == 47 then closing open_names [] else if byte == 62 then broken
+    else if byte == 60 then broken else opening open_names (byte ∷ [])
+step (opening open_names name) byte = if byte == 62 then between (name ∷ open_names) else if byte == 32
+    then within open_names name else if byte == 60 then broken else opening open_names (name ++ byte ∷ [])
+step (within open_names name) byte = if byte == 62 then between (name ∷ open_names) else if byte == 34
+    then quoted open_names name else if byte == 60 then broken else within open_names name
+step (quoted open_names name) byte = if byte == 34 then within open_names name else if byte == 60 then broken
+    else if byte == 38 then quoted_entity open_names name else quoted open_names name
+step (quoted_entity open_names name) byte = if byte == 59 then quoted open_names name else if byte == 34
+    then broken else if byte == 60 then broken else if byte == 38 then broken else quoted_entity open_names name
+step (closing open_names name) byte =
+    if byte == 62 then closed open_names name else if byte == 60 then broken else closing open_names (name ++ byte ∷ [])
 step broken byte = broken
 
 -- where the reader stands behind these bytes

@@ -53,7 +53,8 @@ rect_opening x y width height paint = opening_text tags.Rect (rect_attributes x 
 
 -- a rectangle with its title
 abbrev pub rect_tree : Area → Paint → List ℕ → Forest
-rect_tree area paint title = element tags.Rect (rect_attributes area.x area.y area.width area.height paint) (title_tree title) nothing
+rect_tree area paint title =
+    element tags.Rect (rect_attributes area.x area.y area.width area.height paint) (title_tree title) nothing
 
 -- where a text begins, and what it is painted as
 abbrev pub label_attributes : ℕ → ℕ → Paint → List Attribute
@@ -74,7 +75,8 @@ view_box width height = codes "0 0 " ++ (decimal width ++ (32 ∷ decimal height
 -- what a picture of this width and height says of itself
 abbrev pub root_attributes : ℕ → ℕ → List Attribute
 root_attributes width height =
-    record { key = keys.Namespace; value = codes "http://www.w3.org/2000/svg" } ∷ pixels keys.Width width ∷ pixels keys.Height height ∷ record { key = keys.ViewBox; value = view_box width height } ∷ []
+    record { key = keys.Namespace; value = codes "http://www.w3.org/2000/svg" } ∷ pixels keys.Width width
+    ∷ pixels keys.Height height ∷ record { key = keys.ViewBox; value = view_box width height } ∷ []
 
 -- its beginning
 abbrev pub root_opening : ℕ → ℕ → List ℕ

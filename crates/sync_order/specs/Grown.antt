@@ -34,10 +34,13 @@ grown_of end was (Some before) required = grown_to end was before required
 -- the same of all servers, by an event, where these were the required lists and the logs before it
 abbrev pub grown_after : List Required → Logs → (ℕ → ℕ) → EventKind → ℕ → ℕ
 grown_after known logs grown (kinds.Replication (replications.RequiredSet server required names)) =
-    put_at grown server.id.number (grown_of (end_of (entries_at logs server.id.number)) (grown server.id.number) (slice_get known server.id.number) required)
+    put_at grown server.id.number
+    (grown_of (end_of (entries_at logs server.id.number)) (grown server.id.number)
+    (slice_get known server.id.number) required)
 grown_after known logs grown _ = grown
 
 -- and by a list of events
 abbrev pub grown_over : List Required → Logs → (ℕ → ℕ) → List Event → ℕ → ℕ
 grown_over known logs grown [] = grown
-grown_over known logs grown (event ∷ events) = grown_over (required_after known event.kind) (logs_after logs event.kind) (grown_after known logs grown event.kind) events
+grown_over known logs grown (event ∷ events) = grown_over (required_after known event.kind)
+    (logs_after logs event.kind) (grown_after known logs grown event.kind) events

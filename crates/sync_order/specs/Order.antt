@@ -66,46 +66,69 @@ pub record IsLeader (store : Keys) (n : ℕ) : Type 0 where
 
 -- the sync key, where there is one, names this member, as the leader or as a standby
 abbrev pub IsNamed : Keys → ℕ → Type 0
-IsNamed store n = (key : SyncKey) (revision : ℕ) → HoldsSync store key revision → (key.leader.number ≡ n) ⊎ (has key.standbys n ≡ true)
+IsNamed store n = (key : SyncKey) (revision : ℕ) → HoldsSync store key revision
+    → (key.leader.number ≡ n) ⊎ (has key.standbys n ≡ true)
 
--- whom the commits of this server wait for, and which positions were confirmed to it since it last began, at the end of this book
+-- whom the commits of this server wait for, and which positions were
+-- confirmed to it since it last began, at the end of this book
 abbrev pub required_at : Facts → List Event → ℕ → Option Required
 required_at start book server = slice_get (required_over (required_in start.servers) book) server
 
 abbrev pub confirmed_at : Facts → List Event → ℕ → Option (List (Option Lsn))
 confirmed_at start book server = slice_get (confirmed_over (confirmed_in start.servers) book) server
 
--- where the log of this server ended when its required list last grew, at the end of this book: 0 where it has named nobody since
+-- where the log of this server ended when its required list last grew,
+-- at the end of this book: 0 where it has named nobody since
 abbrev pub grown_at : Facts → List Event → ℕ → ℕ
 grown_at start book = grown_over (required_in start.servers) (logs_in start.servers) (λ n. 0) book
 
--- at the end of this book the sync key names each server that accepts writes as the leader, and its commits wait for each standby there
+-- at the end of this book the sync key names each server that accepts
+-- writes as the leader, and its commits wait for each standby there
 pub record IsInOrder (start : Facts) (book : List Event) : Type 0 where
   pub led : (server : ℕ) → AcceptsWrites book server → IsLeader (facts_over start book).keys server
-  pub awaited : (server : ℕ) → AcceptsWrites book server → (key : SyncKey) (revision : ℕ) → HoldsSync (facts_over start book).keys key revision
+  pub awaited : (server : ℕ) → AcceptsWrites book server → (key : SyncKey) (revision : ℕ)
+      → HoldsSync (facts_over start book).keys key revision
       → (standby : ℕ) → has key.standbys standby ≡ true → Awaits (required_at start book server) standby
 
--- who asks to publish these standbys compares the present sync key; its commits wait for each of them; and each that isn't in that key has
--- confirmed the end that the leader's log had when its required list last grew, and the position that the leader noted then, or when it took
--- over its server since
-pub record PublishesInOrder (start : Facts) (book : List Event) (leader position : ℕ) (compared : Expected) (standbys : MemberSet) : Type 0 where
+-- who asks to publish these standbys compares the present sync key; its commits wait for each of them;
+-- and each that isn't in that key has confirmed the end that the leader's log had when its required
+-- list last grew, and the position that the leader noted then, or when it took over its server since
+pub record PublishesInOrder (start : Facts) (book : List Event) (leader position : ℕ) (compared : Expected)
+    (standbys : MemberSet) : Type 0 where
   pub key : SyncKey
   pub revision : ℕ
   pub is : HoldsSync (facts_over start book).keys key revision
   pub compares : compared ≡ Revision revision
   pub awaited : (standby : ℕ) → has standbys standby ≡ true → Awaits (required_at start book leader) standby
-  pub confirmed : (standby : ℕ) → has standbys standby ≡ true → has key.standbys standby ≡ false → HasConfirmed (grown_at start book leader) (confirmed_at start book leader) standby
-  pub noted : (standby : ℕ) → has standbys standby ≡ true → has key.standbys standby ≡ false → HasConfirmed position (confirmed_at start book leader) standby
+  pub confirmed : (standby : ℕ) → has standbys standby ≡ true → has key.standbys standby ≡ false
+      → HasConfirmed (grown_at start book leader) (confirmed_at start book leader) standby
+  pub noted : (standby : ℕ) → has standbys standby ≡ true → has key.standbys standby ≡ false
+      → HasConfirmed position (confirmed_at start book leader) standby
 
--- required lists and sync key were in order throughout this book, where members noted these positions: what each had noted behind a front of it
+-- required lists and sync key were in order throughout this book, where
+-- members noted these positions: what each had noted behind a front of it
 pub record KeepsOrder (start : Facts) (noted : List Event → ℕ → ℕ) (book : List Event) : Type 0 where
   -- at its end
   pub at_end : IsInOrder start book
   -- a claim of the sync key was granted to whom that named, or where there was none
-  pub claims : (front back : List Event) (tick : Ticks) (number leader : ℕ) (by : Member) (sync : Expected) (names : List Name)
-      → front ++ record { tick = tick; kind = kinds.Store (stores.Granted number by (txns.Claim leader sync) names) } ∷ back ≡ book
+  pub claims : (front back : List Event) (tick : Ticks) (number leader : ℕ) (by : Member) (sync : Expected)
+      (names : List Name)
+      → front
+      ++ record { tick = tick; kind = kinds.Store (stores.Granted number by (txns.Claim leader sync) names) } ∷ back
+      ≡ book
       → IsNamed (facts_over start front).keys by.id.number
   -- who asked to publish standbys did so in order
-  pub publishes : (front back : List Event) (tick : Ticks) (number incarnation sequence leader : ℕ) (by : Member) (to : LinkEnd) (sync : Expected) (standbys : MemberSet)
-      → front ++ record { tick = tick; kind = kinds.Message (messages.Sent number (record { from = ends.Member by; to = to; incarnation = incarnation; sequence = sequence; body = bodies.Request (txns.SetSync leader sync standbys) })) } ∷ back ≡ book
+  pub publishes : (front back : List Event) (tick : Ticks) (number incarnation sequence leader : ℕ)
+      (by : Member) (to : LinkEnd) (sync : Expected) (standbys : MemberSet)
+      → front ++ record {
+        tick = tick;
+        kind = kinds.Message (messages.Sent number (record {
+          from = ends.Member by;
+          to = to;
+          incarnation = incarnation;
+          sequence = sequence;
+          body = bodies.Request (txns.SetSync leader sync standbys);
+        }));
+      } ∷ back
+      ≡ book
       → PublishesInOrder start front by.id.number (noted front by.id.number) sync standbys

@@ -43,7 +43,8 @@ pub record Made (may published : Bool) (end : Option Lsn) (name : Option Name) (
   pub confirmed : end ≡ Some candidate.end
   pub named : name ≡ Some candidate.name
 
-made : (may published : Bool) (end : Option Lsn) (name : Option Name) (candidate : Candidate) → candidate_where may (candidate_by published end name) ≡ Some candidate → Made may published end name candidate
+made : (may published : Bool) (end : Option Lsn) (name : Option Name) (candidate : Candidate)
+    → candidate_where may (candidate_by published end name) ≡ Some candidate → Made may published end name candidate
 made false published end name candidate e = absurd (no-candidate candidate e)
 made true published None name candidate e = absurd (no-candidate candidate e)
 made true published (Some end) None candidate e = absurd (no-candidate candidate e)
@@ -56,40 +57,55 @@ made true published (Some end) (Some name) candidate e =
       named = ap (λ (c : Candidate). Some c.name) same;
     }
 
-pub candidate-made : (view : LeaderView) (seen : SnapshotFacts) (member : MemberId) (candidate : Candidate) → candidate_in view seen member ≡ Some candidate → Made (may_sync member seen) (is_one_of member (published_in seen)) (connected_end member view) (name_in member seen) candidate
-candidate-made view seen member candidate e = made (may_sync member seen) (is_one_of member (published_in seen)) (connected_end member view) (name_in member seen) candidate e
+pub candidate-made : (view : LeaderView) (seen : SnapshotFacts) (member : MemberId) (candidate : Candidate)
+    → candidate_in view seen member ≡ Some candidate
+    → Made (may_sync member seen) (is_one_of member (published_in seen)) (connected_end member view)
+    (name_in member seen) candidate
+candidate-made view seen member candidate e = made (may_sync member seen)
+    (is_one_of member (published_in seen)) (connected_end member view) (name_in member seen) candidate e
 
 -- ---- candidates by their numbers
 pub length-candidates : (view : LeaderView) (seen : SnapshotFacts) → length (candidates_in view seen) ≡ MOST_MEMBERS
 unfolding candidates_in
 length-candidates view seen = length-map-range_with_len (candidate_numbered view seen) 0 MOST_MEMBERS
 
-candidate-at : (view : LeaderView) (seen : SnapshotFacts) (k : ℕ) → k < MOST_MEMBERS → get_or (candidates_in view seen) k None ≡ candidate_numbered view seen k
+candidate-at : (view : LeaderView) (seen : SnapshotFacts) (k : ℕ) → k < MOST_MEMBERS
+    → get_or (candidates_in view seen) k None ≡ candidate_numbered view seen k
 unfolding candidates_in
-candidate-at view seen k below = get_or-map-range_with_len (candidate_numbered view seen) 0 MOST_MEMBERS k k None below (omega arith)
+candidate-at view seen k below =
+    get_or-map-range_with_len (candidate_numbered view seen) 0 MOST_MEMBERS k k None below (omega arith)
 
-pub candidate-of : (view : LeaderView) (seen : SnapshotFacts) (member : MemberId) → get_or (candidates_in view seen) member.number None ≡ candidate_in view seen member
-candidate-of view seen member = candidate-at view seen member.number member.below ∙ ap (option_and_then (candidate_in view seen)) (member_of-number member)
+pub candidate-of : (view : LeaderView) (seen : SnapshotFacts) (member : MemberId)
+    → get_or (candidates_in view seen) member.number None ≡ candidate_in view seen member
+candidate-of view seen member = candidate-at view seen member.number member.below
+    ∙ ap (option_and_then (candidate_in view seen)) (member_of-number member)
 
 record Numbered (view : LeaderView) (seen : SnapshotFacts) (k : ℕ) (candidate : Candidate) : Type 0 where
   member : MemberId
   number : member.number ≡ k
   is : candidate_in view seen member ≡ Some candidate
 
-numbered-by : (view : LeaderView) (seen : SnapshotFacts) (k : ℕ) (candidate : Candidate) (o : Option MemberId) → member_of k ≡ o → option_and_then (candidate_in view seen) o ≡ Some candidate → Numbered view seen k candidate
+numbered-by : (view : LeaderView) (seen : SnapshotFacts) (k : ℕ) (candidate : Candidate) (o : Option MemberId)
+    → member_of k ≡ o → option_and_then (candidate_in view seen) o ≡ Some candidate → Numbered view seen k candidate
 numbered-by view seen k candidate None is e = absurd (no-candidate candidate e)
-numbered-by view seen k candidate (Some member) is e = record { member = member; number = number-member_of k member is; is = e }
+numbered-by view seen k candidate (Some member) is e =
+    record { member = member; number = number-member_of k member is; is = e }
 
-numbered : (view : LeaderView) (seen : SnapshotFacts) (k : ℕ) (candidate : Candidate) → k < MOST_MEMBERS → get_or (candidates_in view seen) k None ≡ Some candidate → Numbered view seen k candidate
-numbered view seen k candidate below e = numbered-by view seen k candidate (member_of k) refl (sym (candidate-at view seen k below) ∙ e)
+numbered : (view : LeaderView) (seen : SnapshotFacts) (k : ℕ) (candidate : Candidate) → k < MOST_MEMBERS
+    → get_or (candidates_in view seen) k None ≡ Some candidate → Numbered view seen k candidate
+numbered view seen k candidate below e =
+    numbered-by view seen k candidate (member_of k) refl (sym (candidate-at view seen k below) ∙ e)
 
 -- ---- ranks
-before-all : (other : Option Candidate) (a b : Candidate) → is_lt (candidate_cmp a b) ≡ true → comes_before other a ≡ true → comes_before other b ≡ true
+before-all : (other : Option Candidate) (a b : Candidate) → is_lt (candidate_cmp a b) ≡ true
+    → comes_before other a ≡ true → comes_before other b ≡ true
 before-all None a b first second = absurd (no second)
 before-all (Some other) a b first second = before-before other a b second first
 
 -- who comes before another one has fewer before it
-rank-lt : (candidates : List (Option Candidate)) (i : ℕ) (a b : Candidate) → i < length candidates → get_or candidates i None ≡ Some a → candidate_cmp a b ≡ Less → candidates_before candidates a < candidates_before candidates b
+rank-lt : (candidates : List (Option Candidate)) (i : ℕ) (a b : Candidate) → i < length candidates
+    → get_or candidates i None ≡ Some a → candidate_cmp a b ≡ Less
+    → candidates_before candidates a < candidates_before candidates b
 rank-lt candidates i a b within is first =
     count-lt (λ other. comes_before other a) (λ other. comes_before other b) candidates i None
     (λ other second. before-all other a b (ap is_lt first) second) within
@@ -102,9 +118,11 @@ is_at n candidates (Some candidate) = candidates_before candidates candidate == 
 
 -- no two candidates tie
 abbrev AreApart : List (Option Candidate) → Type 0
-AreApart candidates = (i j : ℕ) (a b : Candidate) → i < length candidates → j < length candidates → get_or candidates i None ≡ Some a → get_or candidates j None ≡ Some b → candidate_cmp a b ≡ Equal → i ≡ j
+AreApart candidates = (i j : ℕ) (a b : Candidate) → i < length candidates → j < length candidates
+    → get_or candidates i None ≡ Some a → get_or candidates j None ≡ Some b → candidate_cmp a b ≡ Equal → i ≡ j
 
-apart-members : (view : LeaderView) (seen : SnapshotFacts) (i j : ℕ) (a b : Candidate) → HaveOwnNames seen → candidate_cmp a b ≡ Equal → Numbered view seen i a → Numbered view seen j b → i ≡ j
+apart-members : (view : LeaderView) (seen : SnapshotFacts) (i j : ℕ) (a b : Candidate) → HaveOwnNames seen
+    → candidate_cmp a b ≡ Equal → Numbered view seen i a → Numbered view seen j b → i ≡ j
 apart-members view seen i j a b own tied x y =
     let first = (candidate-made view seen x.member a x.is).named in
     let second = (candidate-made view seen y.member b y.is).named in
@@ -122,21 +140,34 @@ never-below m n k lt e f = omega (arith, lt, numbers-same m k e, numbers-same n 
 reversed : (a b : Candidate) → candidate_cmp a b ≡ Greater → candidate_cmp b a ≡ Less
 reversed a b e = candidates-total.antisymm b a ∙ ap ordering_reverse e
 
-same-rank : (candidates : List (Option Candidate)) (n i j : ℕ) (a b : Candidate) (o : Ordering) → AreApart candidates → candidate_cmp a b ≡ o → i < length candidates → j < length candidates → get_or candidates i None ≡ Some a → get_or candidates j None ≡ Some b → (candidates_before candidates a == n) ≡ true → (candidates_before candidates b == n) ≡ true → i ≡ j
-same-rank candidates n i j a b Less apart e within within' first second p q = absurd (never-below (candidates_before candidates a) (candidates_before candidates b) n (rank-lt candidates i a b within first e) p q)
-same-rank candidates n i j a b Equal apart e within within' first second p q = apart i j a b within within' first second e
-same-rank candidates n i j a b Greater apart e within within' first second p q = absurd (never-below (candidates_before candidates b) (candidates_before candidates a) n (rank-lt candidates j b a within' second (reversed a b e)) q p)
+same-rank : (candidates : List (Option Candidate)) (n i j : ℕ) (a b : Candidate) (o : Ordering)
+    → AreApart candidates → candidate_cmp a b ≡ o → i < length candidates → j < length candidates
+    → get_or candidates i None ≡ Some a → get_or candidates j None ≡ Some b
+    → (candidates_before candidates a == n) ≡ true → (candidates_before candidates b == n) ≡ true → i ≡ j
+same-rank candidates n i j a b Less apart e within within' first second p q =
+    absurd (never-below (candidates_before candidates a) (candidates_before candidates b) n
+    (rank-lt candidates i a b within first e) p q)
+same-rank candidates n i j a b Equal apart e within within' first second p q =
+    apart i j a b within within' first second e
+same-rank candidates n i j a b Greater apart e within within' first second p q =
+    absurd (never-below (candidates_before candidates b) (candidates_before candidates a) n
+    (rank-lt candidates j b a within' second (reversed a b e)) q p)
 
-at-single : (candidates : List (Option Candidate)) (n i j : ℕ) (x y : Option Candidate) → AreApart candidates → i < length candidates → j < length candidates → get_or candidates i None ≡ x → get_or candidates j None ≡ y → is_at n candidates x ≡ true → is_at n candidates y ≡ true → i ≡ j
+at-single : (candidates : List (Option Candidate)) (n i j : ℕ) (x y : Option Candidate) → AreApart candidates
+    → i < length candidates → j < length candidates → get_or candidates i None ≡ x
+    → get_or candidates j None ≡ y → is_at n candidates x ≡ true → is_at n candidates y ≡ true → i ≡ j
 at-single candidates n i j None y apart within within' first second p q = absurd (no p)
 at-single candidates n i j (Some a) None apart within within' first second p q = absurd (no q)
-at-single candidates n i j (Some a) (Some b) apart within within' first second p q = same-rank candidates n i j a b (candidate_cmp a b) apart refl within within' first second p q
+at-single candidates n i j (Some a) (Some b) apart within within' first second p q =
+    same-rank candidates n i j a b (candidate_cmp a b) apart refl within within' first second p q
 
 -- at most one candidate has so many before it
-count-at : (candidates : List (Option Candidate)) (n : ℕ) → AreApart candidates → count_by (is_at n candidates) candidates ≤ 1
+count-at : (candidates : List (Option Candidate)) (n : ℕ) → AreApart candidates
+    → count_by (is_at n candidates) candidates ≤ 1
 count-at candidates n apart =
     count-single (is_at n candidates) candidates None
-    (λ i j within within' p q. at-single candidates n i j (get_or candidates i None) (get_or candidates j None) apart within within' refl refl p q)
+    (λ i j within within' p q.
+    at-single candidates n i j (get_or candidates i None) (get_or candidates j None) apart within within' refl refl p q)
 
 one-fewer : (m n : ℕ) → nat_lt m (suc n) ≡ true → (nat_lt m n ≡ true) ⊎ ((m == n) ≡ true)
 one-fewer m n h =
@@ -145,7 +176,8 @@ one-fewer m n h =
       | inr ge ↦ inr (grind (arith, nat_tests))
     ]
 
-wanted-or-next : (n : ℕ) (candidates : List (Option Candidate)) (x : Option Candidate) → is_wanted (suc n) candidates x ≡ true → (is_wanted n candidates x ≡ true) ⊎ (is_at n candidates x ≡ true)
+wanted-or-next : (n : ℕ) (candidates : List (Option Candidate)) (x : Option Candidate)
+    → is_wanted (suc n) candidates x ≡ true → (is_wanted n candidates x ≡ true) ⊎ (is_at n candidates x ≡ true)
 wanted-or-next n candidates None h = absurd (no h)
 wanted-or-next n candidates (Some candidate) h = one-fewer (candidates_before candidates candidate) n h
 
@@ -156,18 +188,22 @@ nobody-wanted : (candidates : List (Option Candidate)) (x : Option Candidate) �
 nobody-wanted candidates None = refl
 nobody-wanted candidates (Some candidate) = none-below (candidates_before candidates candidate)
 
-count-wanted : (n : ℕ) (candidates : List (Option Candidate)) → AreApart candidates → count_by (is_wanted n candidates) candidates ≤ n
+count-wanted : (n : ℕ) (candidates : List (Option Candidate)) → AreApart candidates
+    → count_by (is_wanted n candidates) candidates ≤ n
 count-wanted zero candidates apart =
-    let none = count-none (is_wanted 0 candidates) candidates None (λ i within. nobody-wanted candidates (get_or candidates i None)) in
+    let none = count-none (is_wanted 0 candidates) candidates None
+    (λ i within. nobody-wanted candidates (get_or candidates i None)) in
     omega (arith, none)
 count-wanted (suc n) candidates apart =
     let fewer = count-wanted n candidates apart in
     let one = count-at candidates n apart in
-    let all = count-either (is_wanted (suc n) candidates) (is_wanted n candidates) (is_at n candidates) candidates (wanted-or-next n candidates) in
+    let all = count-either (is_wanted (suc n) candidates) (is_wanted n candidates)
+    (is_at n candidates) candidates (wanted-or-next n candidates) in
     omega (arith, fewer, one, all)
 
 -- ---- the laws
-pub wanted-most : (view : LeaderView) (seen : SnapshotFacts) → HaveOwnNames seen → count_ones (wanted_in view seen).bits ≤ (config_in seen).synchronous_node_count
+pub wanted-most : (view : LeaderView) (seen : SnapshotFacts) → HaveOwnNames seen
+    → count_ones (wanted_in view seen).bits ≤ (config_in seen).synchronous_node_count
 wanted-most view seen own =
     let most : ℕ = (config_in seen).synchronous_node_count in
     let candidates : List (Option Candidate) = candidates_in view seen in
@@ -176,61 +212,90 @@ wanted-most view seen own =
     omega (arith, count, ones)
 
 -- a wanted member is one by the definition
-pub wanted-is : (view : LeaderView) (seen : SnapshotFacts) (member : MemberId) → bit_at (wanted_in view seen).bits member.number ≡ 1 → is_wanted (config_in seen).synchronous_node_count (candidates_in view seen) (candidate_in view seen member) ≡ true
+pub wanted-is : (view : LeaderView) (seen : SnapshotFacts) (member : MemberId)
+    → bit_at (wanted_in view seen).bits member.number ≡ 1
+    → is_wanted (config_in seen).synchronous_node_count (candidates_in view seen) (candidate_in view seen member) ≡ true
 wanted-is view seen member is =
     let most : ℕ = (config_in seen).synchronous_node_count in
     ap (is_wanted most (candidates_in view seen)) (sym (candidate-of view seen member))
     ∙ (chosen-from (is_wanted most (candidates_in view seen)) (candidates_in view seen) member.number None is).1
 
-pub wanted-to : (view : LeaderView) (seen : SnapshotFacts) (member : MemberId) → is_wanted (config_in seen).synchronous_node_count (candidates_in view seen) (candidate_in view seen member) ≡ true → bit_at (wanted_in view seen).bits member.number ≡ 1
+pub wanted-to : (view : LeaderView) (seen : SnapshotFacts) (member : MemberId)
+    → is_wanted (config_in seen).synchronous_node_count (candidates_in view seen) (candidate_in view seen member) ≡ true
+    → bit_at (wanted_in view seen).bits member.number ≡ 1
 wanted-to view seen member is =
     let most : ℕ = (config_in seen).synchronous_node_count in
-    chosen-to (is_wanted most (candidates_in view seen)) (candidates_in view seen) member.number None (omega (arith, length-candidates view seen, member.below))
+    chosen-to (is_wanted most (candidates_in view seen)) (candidates_in view seen) member.number None
+    (omega (arith, length-candidates view seen, member.below))
     (ap (is_wanted most (candidates_in view seen)) (candidate-of view seen member) ∙ is)
 
-wanted-some : (most : ℕ) (candidates : List (Option Candidate)) (x : Option Candidate) → is_wanted most candidates x ≡ true → IsSome x
+wanted-some : (most : ℕ) (candidates : List (Option Candidate)) (x : Option Candidate)
+    → is_wanted most candidates x ≡ true → IsSome x
 wanted-some most candidates None h = absurd (no h)
 wanted-some most candidates (Some candidate) h = refl
 
-pub wanted-candidate : (view : LeaderView) (seen : SnapshotFacts) (member : MemberId) → bit_at (wanted_in view seen).bits member.number ≡ 1 → IsSome (candidate_in view seen member)
-wanted-candidate view seen member is = wanted-some (config_in seen).synchronous_node_count (candidates_in view seen) (candidate_in view seen member) (wanted-is view seen member is)
+pub wanted-candidate : (view : LeaderView) (seen : SnapshotFacts) (member : MemberId)
+    → bit_at (wanted_in view seen).bits member.number ≡ 1 → IsSome (candidate_in view seen member)
+wanted-candidate view seen member is = wanted-some (config_in seen).synchronous_node_count
+    (candidates_in view seen) (candidate_in view seen member) (wanted-is view seen member is)
 
 still-below : (m n k : ℕ) → m < n → nat_lt n k ≡ true → nat_lt m k ≡ true
 still-below m n k lt h = grind (arith, nat_tests)
 
-pub wanted-first : (view : LeaderView) (seen : SnapshotFacts) (member other : MemberId) (candidate rival : Candidate) → candidate_in view seen member ≡ Some candidate → candidate_in view seen other ≡ Some rival → candidate_cmp candidate rival ≡ Less → bit_at (wanted_in view seen).bits other.number ≡ 1 → bit_at (wanted_in view seen).bits member.number ≡ 1
+pub wanted-first : (view : LeaderView) (seen : SnapshotFacts) (member other : MemberId) (candidate rival : Candidate)
+    → candidate_in view seen member ≡ Some candidate → candidate_in view seen other ≡ Some rival
+    → candidate_cmp candidate rival ≡ Less → bit_at (wanted_in view seen).bits other.number ≡ 1
+    → bit_at (wanted_in view seen).bits member.number ≡ 1
 wanted-first view seen member other candidate rival first second less is =
     let most : ℕ = (config_in seen).synchronous_node_count in
     let candidates : List (Option Candidate) = candidates_in view seen in
-    let below : nat_lt (candidates_before candidates rival) most ≡ true = ap (is_wanted most candidates) (sym second) ∙ wanted-is view seen other is in
-    let rank = rank-lt candidates member.number candidate rival (omega (arith, length-candidates view seen, member.below)) (candidate-of view seen member ∙ first) less in
-    wanted-to view seen member (ap (is_wanted most candidates) first ∙ still-below (candidates_before candidates candidate) (candidates_before candidates rival) most rank below)
+    let below : nat_lt (candidates_before candidates rival) most ≡ true =
+    ap (is_wanted most candidates) (sym second) ∙ wanted-is view seen other is in
+    let rank = rank-lt candidates member.number candidate rival
+    (omega (arith, length-candidates view seen, member.below)) (candidate-of view seen member ∙ first) less in
+    wanted-to view seen member
+    (ap (is_wanted most candidates) first
+    ∙ still-below (candidates_before candidates candidate) (candidates_before candidates rival) most rank below)
 
-published-less : (p q : Bool) (x y : Ordering) → p ≡ true → q ≡ false → ordering_then (ordering_then (bool_cmp q p) x) y ≡ Less
+published-less : (p q : Bool) (x y : Ordering) → p ≡ true → q ≡ false
+    → ordering_then (ordering_then (bool_cmp q p) x) y ≡ Less
 published-less true true x y e f = absurd (no (sym f))
 published-less true false x y e f = refl
 published-less false q x y e f = absurd (no e)
 
-published-first : (view : LeaderView) (seen : SnapshotFacts) (member other : MemberId) (x y : Option Candidate) → candidate_in view seen member ≡ x → candidate_in view seen other ≡ y → IsSome x → IsSome y → is_one_of member (published_in seen) ≡ true → is_one_of other (published_in seen) ≡ false → bit_at (wanted_in view seen).bits other.number ≡ 1 → bit_at (wanted_in view seen).bits member.number ≡ 1
+published-first : (view : LeaderView) (seen : SnapshotFacts) (member other : MemberId) (x y : Option Candidate)
+    → candidate_in view seen member ≡ x → candidate_in view seen other ≡ y → IsSome x → IsSome y
+    → is_one_of member (published_in seen) ≡ true → is_one_of other (published_in seen) ≡ false
+    → bit_at (wanted_in view seen).bits other.number ≡ 1 → bit_at (wanted_in view seen).bits member.number ≡ 1
 published-first view seen member other None y first second there there' is out wanted = absurd (no there)
-published-first view seen member other (Some candidate) None first second there there' is out wanted = absurd (no there')
+published-first view seen member other (Some candidate) None first second there there' is out wanted =
+    absurd (no there')
 published-first view seen member other (Some candidate) (Some rival) first second there there' is out wanted =
     let mine = (candidate-made view seen member candidate first).listed in
     let theirs = (candidate-made view seen other rival second).listed in
-    wanted-first view seen member other candidate rival first second (published-less candidate.published rival.published _ _ (mine ∙ is) (theirs ∙ out)) wanted
+    wanted-first view seen member other candidate rival first second
+    (published-less candidate.published rival.published _ _ (mine ∙ is) (theirs ∙ out)) wanted
 
 not-one : (n : ℕ) → n ≡ 0 → (n == 1) ≡ false
 not-one n e = grind (arith, nat_tests)
 
-pub wanted-published : (view : LeaderView) (seen : SnapshotFacts) (member other : MemberId) → IsSome (candidate_in view seen member) → bit_at (published_in seen).bits member.number ≡ 1 → bit_at (published_in seen).bits other.number ≡ 0 → bit_at (wanted_in view seen).bits other.number ≡ 1 → bit_at (wanted_in view seen).bits member.number ≡ 1
+pub wanted-published : (view : LeaderView) (seen : SnapshotFacts) (member other : MemberId)
+    → IsSome (candidate_in view seen member) → bit_at (published_in seen).bits member.number ≡ 1
+    → bit_at (published_in seen).bits other.number ≡ 0 → bit_at (wanted_in view seen).bits other.number ≡ 1
+    → bit_at (wanted_in view seen).bits member.number ≡ 1
 wanted-published view seen member other there is out wanted =
-    published-first view seen member other (candidate_in view seen member) (candidate_in view seen other) refl refl there (wanted-candidate view seen other wanted)
-    (same-numbers (bit_at (published_in seen).bits member.number) 1 is) (not-one (bit_at (published_in seen).bits other.number) out) wanted
+    published-first view seen member other (candidate_in view seen member)
+    (candidate_in view seen other) refl refl there (wanted-candidate view seen other wanted)
+    (same-numbers (bit_at (published_in seen).bits member.number) 1 is)
+    (not-one (bit_at (published_in seen).bits other.number) out) wanted
 
 -- ---- what a wanted member is
-may-sync-by : (view : LeaderView) (seen : SnapshotFacts) (member : MemberId) (x : Option Candidate) → candidate_in view seen member ≡ x → IsSome x → may_sync member seen ≡ true
+may-sync-by : (view : LeaderView) (seen : SnapshotFacts) (member : MemberId) (x : Option Candidate)
+    → candidate_in view seen member ≡ x → IsSome x → may_sync member seen ≡ true
 may-sync-by view seen member None e there = absurd (no there)
 may-sync-by view seen member (Some candidate) e there = (candidate-made view seen member candidate e).allowed
 
-pub wanted-tags : (view : LeaderView) (seen : SnapshotFacts) (member : MemberId) → bit_at (wanted_in view seen).bits member.number ≡ 1 → may_sync member seen ≡ true
-wanted-tags view seen member is = may-sync-by view seen member (candidate_in view seen member) refl (wanted-candidate view seen member is)
+pub wanted-tags : (view : LeaderView) (seen : SnapshotFacts) (member : MemberId)
+    → bit_at (wanted_in view seen).bits member.number ≡ 1 → may_sync member seen ≡ true
+wanted-tags view seen member is =
+    may-sync-by view seen member (candidate_in view seen member) refl (wanted-candidate view seen member is)

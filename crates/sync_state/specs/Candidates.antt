@@ -62,11 +62,12 @@ abbrev pub candidate_where : Bool → Option Candidate → Option Candidate
 candidate_where false candidate = None
 candidate_where true candidate = candidate
 
--- the member as a candidate, if it is one: the cluster has such a member, it is connected, and its member key is there and doesn't
--- say `nosync`
+-- the member as a candidate, if it is one: the cluster has such a member,
+-- it is connected, and its member key is there and doesn't say `nosync`
 abbrev pub candidate_in : LeaderView → SnapshotFacts → MemberId → Option Candidate
 candidate_in view seen member =
-    candidate_where (may_sync member seen) (candidate_by (is_one_of member (published_in seen)) (connected_end member view) (name_in member seen))
+    candidate_where (may_sync member seen)
+    (candidate_by (is_one_of member (published_in seen)) (connected_end member view) (name_in member seen))
 
 -- the member of this number as a candidate
 abbrev pub candidate_numbered : LeaderView → SnapshotFacts → ℕ → Option Candidate
@@ -76,8 +77,8 @@ candidate_numbered view seen number = option_and_then (candidate_in view seen) (
 unfoldable pub candidates_in : LeaderView → SnapshotFacts → List (Option Candidate)
 candidates_in view seen = map (candidate_numbered view seen) (range_with_len 0 MOST_MEMBERS)
 
--- which of two candidates comes first: the one that is published, else the one that confirmed more, else the one whose name is
--- earlier in byte order
+-- which of two candidates comes first: the one that is published, else the
+-- one that confirmed more, else the one whose name is earlier in byte order
 abbrev pub candidate_cmp : Candidate → Candidate → Ordering
 candidate_cmp one other =
     ordering_then (ordering_then (bool_cmp other.published one.published) (nat_cmp other.end.position one.end.position))

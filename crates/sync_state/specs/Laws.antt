@@ -49,7 +49,8 @@ required_after (plans.Publish standbys) required = required
 required_after (plans.DropRequired members) required = members
 required_after plans.SwitchOff required = nobody
 
--- a step changes who the standbys are, in a key that names the leader already, or in the list of those that commits wait for
+-- a step changes who the standbys are, in a key that names the leader
+-- already, or in the list of those that commits wait for
 abbrev pub changes_standbys : Plan → Bool
 changes_standbys plans.Keep = false
 changes_standbys plans.Mark = false
@@ -68,4 +69,5 @@ pub record LeadsInSync (view : LeaderView) (seen : SnapshotFacts) : Type 0 where
 
 -- no two members of a snapshot have one name, as is so of the members of a script
 abbrev pub HaveOwnNames : SnapshotFacts → Type 0
-HaveOwnNames seen = (member other : MemberId) (name : Name) → name_in member seen ≡ Some name → name_in other seen ≡ Some name → member.number ≡ other.number
+HaveOwnNames seen = (member other : MemberId) (name : Name) → name_in member seen ≡ Some name
+    → name_in other seen ≡ Some name → member.number ≡ other.number

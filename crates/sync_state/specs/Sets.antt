@@ -7,7 +7,8 @@ use Rattle.pat_base.specs.declared.member_set.MemberSet.{MemberSet}
 abbrev pub nobody : MemberSet
 nobody = record { bits = 0 }
 
--- the set of the members for whom a list has true, by their numbers: of its bits as a number the first in the list is the lowest
+-- the set of the members for whom a list has true, by their numbers:
+-- of its bits as a number the first in the list is the lowest
 abbrev pub set_of : List Bool → MemberSet
 set_of members = record { bits = mask_l members }
 

@@ -19,11 +19,14 @@ corner = omega arith
 
 ascii-dashes : (slot : Slot) → IsAscii (dashes slot)
 ascii-dashes slot =
-    IsAscii-cons hyphen (replicate slot.width hyphen ++ codes "-+") ascii-hyphen (IsAscii-append (replicate slot.width hyphen) (codes "-+") (ascii-replicate slot.width hyphen ascii-hyphen) (IsAscii-cons hyphen (43 ∷ []) ascii-hyphen (IsAscii-cons 43 [] corner IsAscii-nil)))
+    IsAscii-cons hyphen (replicate slot.width hyphen ++ codes "-+") ascii-hyphen
+    (IsAscii-append (replicate slot.width hyphen) (codes "-+") (ascii-replicate slot.width hyphen ascii-hyphen)
+    (IsAscii-cons hyphen (43 ∷ []) ascii-hyphen (IsAscii-cons 43 [] corner IsAscii-nil)))
 
 ascii-parts : (slots : List Slot) → IsAscii (flat_map dashes slots)
 ascii-parts [] = IsAscii-nil
-ascii-parts (slot ∷ slots) = IsAscii-append (dashes slot) (flat_map dashes slots) (ascii-dashes slot) (ascii-parts slots)
+ascii-parts (slot ∷ slots) =
+    IsAscii-append (dashes slot) (flat_map dashes slots) (ascii-dashes slot) (ascii-parts slots)
 
 -- rules are ASCII
 pub ascii-rule : (slots : List Slot) → IsAscii (rule_line slots)

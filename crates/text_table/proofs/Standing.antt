@@ -16,7 +16,8 @@ pub line-of-row : (table : TableText) (place : ℕ) (row : List (List ℕ)) → 
 line-of-row table place row is =
     let behind : lines_above + place ≡ suc (suc (suc place)) = omega arith in
     ap (slice_get (table_lines table)) behind
-    ∙ get-append (map line table.rows) (rule_line (slots_of table.columns table.rows) ∷ []) place (line row) (slice_get-map line table.rows place ∙ ap (option_map line) is)
+    ∙ get-append (map line table.rows) (rule_line (slots_of table.columns table.rows) ∷ []) place (line row)
+    (slice_get-map line table.rows place ∙ ap (option_map line) is)
   where
     line : List (List ℕ) → List ℕ
     line r = row_line (slots_of table.columns table.rows) r
@@ -24,4 +25,9 @@ line-of-row table place row is =
 -- there are four lines more than rows
 pub lines-count : (table : TableText) → length (table_lines table) ≡ length table.rows + lines_around
 lines-count table =
-    omega (arith, length-append (map (row_line (slots_of table.columns table.rows)) table.rows) (rule_line (slots_of table.columns table.rows) ∷ []), length-map table.rows (row_line (slots_of table.columns table.rows)))
+    omega (
+      arith,
+      length-append (map (row_line (slots_of table.columns table.rows)) table.rows)
+          (rule_line (slots_of table.columns table.rows) ∷ []),
+      length-map table.rows (row_line (slots_of table.columns table.rows)),
+    )

@@ -107,7 +107,8 @@ headings columns = map (λ column. column.heading) columns
 -- the lines of a table whose columns have these places
 abbrev pub lines_in : List Slot → TableText → List (List ℕ)
 lines_in slots table =
-    top_line table.title slots ∷ row_line slots (headings table.columns) ∷ rule_line slots ∷ (map (row_line slots) table.rows ++ rule_line slots ∷ [])
+    top_line table.title slots ∷ row_line slots (headings table.columns) ∷ rule_line slots
+    ∷ (map (row_line slots) table.rows ++ rule_line slots ∷ [])
 
 -- the lines of a table
 abbrev pub table_lines : TableText → List (List ℕ)

@@ -28,7 +28,8 @@ pub is_same-Decides : (x y : Entry) → Decides (is_same x y) (x ≡ y)
 is_same-Decides x y = (same-entry x y, λ e. subst (λ (z : Entry). is_same x z ≡ true) e (is_same-self x))
 
 pub is_prefix-to : (x y : List Entry) → IsTrue (is_prefix x y) → IsPrefixOf x y
-is_prefix-to x y h = record { rest = drop (length x) y; whole = (starts_is is_same-Decides y x (is_prefix x y) refl).0 h }
+is_prefix-to x y h =
+    record { rest = drop (length x) y; whole = (starts_is is_same-Decides y x (is_prefix x y) refl).0 h }
 
 pub is_prefix-from : (x y : List Entry) → IsPrefixOf x y → IsTrue (is_prefix x y)
 is_prefix-from x y p = (starts_is is_same-Decides y x (is_prefix x y) refl).1 p.rest p.whole
@@ -47,8 +48,12 @@ common-second [] y = record { rest = y; whole = refl }
 common-second (x ∷ xs) [] = record { rest = []; whole = refl }
 common-second (x ∷ xs) (y ∷ ys) = by-test (is_same x y) refl (common-second xs ys)
   where
-    by-test : (b : Bool) → is_same x y ≡ b → IsPrefixOf (common_of xs ys) ys → IsPrefixOf (cond b (x ∷ common_of xs ys) []) (y ∷ ys)
-    by-test true e p = record { rest = p.rest; whole = ap (λ t. y ∷ t) p.whole ∙ ap (λ z. z ∷ (common_of xs ys ++ p.rest)) (sym (same-entry x y e)) }
+    by-test : (b : Bool) → is_same x y ≡ b → IsPrefixOf (common_of xs ys) ys
+        → IsPrefixOf (cond b (x ∷ common_of xs ys) []) (y ∷ ys)
+    by-test true e p = record {
+      rest = p.rest;
+      whole = ap (λ t. y ∷ t) p.whole ∙ ap (λ z. z ∷ (common_of xs ys ++ p.rest)) (sym (same-entry x y e));
+    }
     by-test false e p = record { rest = y ∷ ys; whole = refl }
 
 head-is : (x z : Entry) (xs zs : List Entry) → x ∷ xs ≡ z ∷ zs → x ≡ z
@@ -70,10 +75,12 @@ common-longest (z ∷ zs) (x ∷ xs) [] p q = absurd (no-head z (zs ++ q.rest) q
 common-longest (z ∷ zs) (x ∷ xs) (y ∷ ys) p q =
     let first = head-is x z xs (zs ++ p.rest) p.whole in
     let second = head-is y z ys (zs ++ q.rest) q.whole in
-    let more = common-longest zs xs ys (record { rest = p.rest; whole = tail-is x z xs (zs ++ p.rest) p.whole }) (record { rest = q.rest; whole = tail-is y z ys (zs ++ q.rest) q.whole }) in
+    let more = common-longest zs xs ys (record { rest = p.rest; whole = tail-is x z xs (zs ++ p.rest) p.whole })
+    (record { rest = q.rest; whole = tail-is y z ys (zs ++ q.rest) q.whole }) in
     record {
       rest = more.rest;
-      whole = common-same x y xs ys (first ∙ sym second) ∙ ap (λ t. x ∷ t) more.whole ∙ ap (λ h. h ∷ (zs ++ more.rest)) first;
+      whole = common-same x y xs ys (first ∙ sym second) ∙ ap (λ t. x ∷ t) more.whole
+          ∙ ap (λ h. h ∷ (zs ++ more.rest)) first;
     }
 
 common-append : (x rest : List Entry) → common_of x (x ++ rest) ≡ x
@@ -87,12 +94,15 @@ pub prefix-common : (x y : List Entry) → common_of x y ≡ x → IsPrefixOf x 
 prefix-common x y e = subst (λ (z : List Entry). IsPrefixOf z y) e (common-second x y)
 
 -- both lists have one more entry in common
-pub common-more : (x y whole : List Entry) (at : ℕ) (d : Entry) → at < length x → at < length y → is_same (get_or x at d) (get_or y at d) ≡ true → take at x ++ common_of (drop at x) (drop at y) ≡ whole → take (at + 1) x ++ common_of (drop (at + 1) x) (drop (at + 1) y) ≡ whole
+pub common-more : (x y whole : List Entry) (at : ℕ) (d : Entry) → at < length x → at < length y
+    → is_same (get_or x at d) (get_or y at d) ≡ true → take at x ++ common_of (drop at x) (drop at y) ≡ whole
+    → take (at + 1) x ++ common_of (drop (at + 1) x) (drop (at + 1) y) ≡ whole
 common-more x y whole at d inx iny same e =
     let step : common_of (drop at x) (drop at y) ≡ get_or x at d ∷ common_of (drop (at + 1) x) (drop (at + 1) y) =
     ap (λ t. common_of t (drop at y)) (drop_more x at d inx)
     ∙ ap (λ t. common_of (get_or x at d ∷ drop (at + 1) x) t) (drop_more y at d iny)
-    ∙ common-same (get_or x at d) (get_or y at d) (drop (at + 1) x) (drop (at + 1) y) (same-entry (get_or x at d) (get_or y at d) same) in
+    ∙ common-same (get_or x at d) (get_or y at d) (drop (at + 1) x) (drop (at + 1) y)
+    (same-entry (get_or x at d) (get_or y at d) same) in
     ap (λ t. t ++ common_of (drop (at + 1) x) (drop (at + 1) y)) (take_more x at d inx)
     ∙ append_assoc (take at x) (get_or x at d ∷ []) (common_of (drop (at + 1) x) (drop (at + 1) y))
     ∙ ap (λ t. take at x ++ t) (sym step)
@@ -103,11 +113,13 @@ common-nil [] = refl
 common-nil (x ∷ xs) = refl
 
 -- one of the lists ends there
-pub common-end : (x y whole : List Entry) (at : ℕ) → (length x ≤ at) ⊎ (length y ≤ at) → take at x ++ common_of (drop at x) (drop at y) ≡ whole → take at x ≡ whole
+pub common-end : (x y whole : List Entry) (at : ℕ) → (length x ≤ at) ⊎ (length y ≤ at)
+    → take at x ++ common_of (drop at x) (drop at y) ≡ whole → take at x ≡ whole
 common-end x y whole at (inl past) e =
     sym (append-nil (take at x)) ∙ ap (λ t. take at x ++ common_of t (drop at y)) (sym (drop_all at x past)) ∙ e
 common-end x y whole at (inr past) e =
-    sym (append-nil (take at x)) ∙ ap (λ t. take at x ++ t) (sym (common-nil (drop at x))) ∙ ap (λ t. take at x ++ common_of (drop at x) t) (sym (drop_all at y past)) ∙ e
+    sym (append-nil (take at x)) ∙ ap (λ t. take at x ++ t) (sym (common-nil (drop at x)))
+    ∙ ap (λ t. take at x ++ common_of (drop at x) t) (sym (drop_all at y past)) ∙ e
 
 -- a part of a log is no longer than the log
 pub end_of-drop-le : (at : ℕ) (x : List Entry) → end_of (take (length x - at) (drop at x)) ≤ end_of x

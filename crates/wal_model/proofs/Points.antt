@@ -10,7 +10,8 @@ use Rattle.wal_model.specs.History.{Points, is_same_point, same_points}
 use Rattle.wal_model.specs.declared.entry.HistoryPoint.{HistoryPoint}
 
 same-fields : (a b : HistoryPoint) → a.timeline ≡ b.timeline → a.at ≡ b.at → a ≡ b
-same-fields a b timelines positions = ap (λ n. record { timeline = n; at = a.at }) timelines ∙ ap (λ l. record { timeline = b.timeline; at = l }) positions
+same-fields a b timelines positions = ap (λ n. record { timeline = n; at = a.at }) timelines
+    ∙ ap (λ l. record { timeline = b.timeline; at = l }) positions
 
 same-point : (a b : HistoryPoint) → is_same_point a b ≡ true → a ≡ b
 same-point a b e =
@@ -25,7 +26,8 @@ is_same-Decides : (a b : HistoryPoint) → Decides (is_same_point a b) (a ≡ b)
 is_same-Decides a b = (same-point a b, λ e. subst (λ (z : HistoryPoint). is_same_point a z ≡ true) e (is_same-self a))
 
 pub same-points : (xs ys : List HistoryPoint) → not (pointwise is_same_point xs ys) ≡ false → xs ≡ ys
-same-points xs ys e = (slice_eq-Decides is_same-Decides xs ys (pointwise is_same_point xs ys) refl).0 (not-false (pointwise is_same_point xs ys) e)
+same-points xs ys e = (slice_eq-Decides is_same-Decides xs ys (pointwise is_same_point xs ys) refl).0
+    (not-false (pointwise is_same_point xs ys) e)
 
 pub same-points-to : (xs ys : List HistoryPoint) → IsTrue (same_points xs ys) → xs ≡ ys
 same-points-to xs ys h = (slice_eq-Decides is_same-Decides xs ys (same_points xs ys) refl).0 h
@@ -34,7 +36,8 @@ pub same-points-from : (xs ys : List HistoryPoint) → xs ≡ ys → IsTrue (sam
 same-points-from xs ys e = (slice_eq-Decides is_same-Decides xs ys (same_points xs ys) refl).1 e
 
 -- a history with the points of another one is that history with its own room
-pub copied : (a b : Points) (xs ys : List HistoryPoint) (n m : ℕ) → record { points = xs; spare = n } ≡ a → record { points = ys; spare = m } ≡ b → xs ≡ ys → a ≡ record { points = b.points; spare = a.spare }
+pub copied : (a b : Points) (xs ys : List HistoryPoint) (n m : ℕ) → record { points = xs; spare = n } ≡ a
+    → record { points = ys; spare = m } ≡ b → xs ≡ ys → a ≡ record { points = b.points; spare = a.spare }
 copied a b xs ys n m p q e =
     sym p
     ∙ ap (λ t. record { points = t; spare = n }) (e ∙ ap (λ (h : Points). h.points) q)

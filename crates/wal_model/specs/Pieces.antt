@@ -10,11 +10,13 @@ abbrev pub joined : List Placed → List Entry
 joined [] = []
 joined (placed ∷ rest) = placed.piece ++ joined rest
 
--- pieces that follow so many entries, which end at this position: none is empty, and each knows where it begins and ends
+-- pieces that follow so many entries, which end at this position: none
+-- is empty, and each knows where it begins and ends
 abbrev pub Follow : ℕ → ℕ → List Placed → Type 0
 Follow before start [] = Unit {0}
 Follow before start (placed ∷ rest) =
-    (placed.before ≡ before) × (placed.end.position ≡ start + end_of placed.piece) × (1 ≤ length placed.piece) × Follow (before + length placed.piece) placed.end.position rest
+    (placed.before ≡ before) × (placed.end.position ≡ start + end_of placed.piece) × (1 ≤ length placed.piece)
+    × Follow (before + length placed.piece) placed.end.position rest
 
 -- the pieces of a log from its beginning on
 pub record AreChained (pieces : List Placed) : Type 0 where

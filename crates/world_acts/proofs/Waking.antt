@@ -37,49 +37,78 @@ pub record AreFew (outputs : List Output) : Type 0 where
 no-outputs : AreFew []
 no-outputs = record { few = omega arith; short = All-nil AsksShortly }
 
-outcome-few : (now : Ticks) (points : List HistoryPoint) (heard : Heard) (agent : Option AgentFacts) (machine : Option Machine) → AreFew (outputs_of (outcome_at now points heard agent machine))
+outcome-few : (now : Ticks) (points : List HistoryPoint) (heard : Heard) (agent : Option AgentFacts)
+    (machine : Option Machine) → AreFew (outputs_of (outcome_at now points heard agent machine))
 outcome-few now points heard None machine = no-outputs
 outcome-few now points heard (Some agent) None = no-outputs
 outcome-few now points heard (Some agent) (Some machine) =
     let small = step-small now points heard (outcome_from agent.role agent.knows machine []) in
     record { few = small.few; short = small.short (All-nil AsksShortly) }
 
-pub input-few : (cluster : Cluster) (member : Member) (heard : Option Heard) → AreFew (outputs_of (outcome_of_heard cluster member heard))
+pub input-few : (cluster : Cluster) (member : Member) (heard : Option Heard)
+    → AreFew (outputs_of (outcome_of_heard cluster member heard))
 input-few cluster member None = no-outputs
-input-few cluster member (Some heard) = outcome-few (moment_of cluster) (points_of cluster member) heard (agent_at cluster.agents member.id.number) (machine_of cluster member)
+input-few cluster member (Some heard) = outcome-few (moment_of cluster) (points_of cluster member) heard
+    (agent_at cluster.agents member.id.number) (machine_of cluster member)
 
 -- an agent acts on an input that no message brings
-own-input-took : (cluster acting after : Cluster) (member : Member) (input : AgentEvent) (heard : Heard) (cost : ℕ) (outputs : List Output) (had mid has : Listed) → hearing_cost + outputs_cost ≤ cost
-    → Emits cluster acting had mid (event_of cluster (kinds.Agent input)) hearing_cost → outputs ≡ outputs_of (outcome_of cluster member heard)
-    → Emits acting after mid has (each (output_events member no_message) acting outputs) outputs_cost → Emits cluster after had has (own_input_events cluster member input heard) cost
+own-input-took : (cluster acting after : Cluster) (member : Member) (input : AgentEvent) (heard : Heard)
+    (cost : ℕ) (outputs : List Output) (had mid has : Listed) → hearing_cost + outputs_cost ≤ cost
+    → Emits cluster acting had mid (event_of cluster (kinds.Agent input)) hearing_cost
+    → outputs ≡ outputs_of (outcome_of cluster member heard)
+    → Emits acting after mid has (each (output_events member no_message) acting outputs) outputs_cost
+    → Emits cluster after had has (own_input_events cluster member input heard) cost
 own-input-took cluster acting after member input heard cost outputs had mid has fits one is rest =
-    Emits-then cluster acting after had mid has (event_of cluster (kinds.Agent input)) (λ later. input_events later member no_message (outcome_of cluster member heard)) hearing_cost outputs_cost cost one
-    (subst (λ (os : List Output). Emits acting after mid has (each (output_events member no_message) acting os) outputs_cost) is rest) fits
+    Emits-then cluster acting after had mid has (event_of cluster (kinds.Agent input))
+    (λ later. input_events later member no_message (outcome_of cluster member heard)) hearing_cost outputs_cost cost one
+    (subst (λ (os : List Output).
+    Emits acting after mid has (each (output_events member no_message) acting os) outputs_cost)
+    is rest)
+    fits
 
 -- an agent is woken, and acts
 pub awaken-took : (cluster rousing after : Cluster) (member : Member) (outputs : List Output) (had mid has : Listed)
-    → Emits cluster rousing had mid (event_of cluster (kinds.Agent (Woken member))) hearing_cost → outputs ≡ outputs_of (outcome_of cluster member Wake)
-    → Emits rousing after mid has (each (output_events member no_message) rousing outputs) outputs_cost → Emits cluster after had has (wake_events_of cluster member) input_cost
-awaken-took cluster rousing after member outputs had mid has one is rest = own-input-took cluster rousing after member (Woken member) Wake input_cost outputs had mid has (omega arith) one is rest
+    → Emits cluster rousing had mid (event_of cluster (kinds.Agent (Woken member))) hearing_cost
+    → outputs ≡ outputs_of (outcome_of cluster member Wake)
+    → Emits rousing after mid has (each (output_events member no_message) rousing outputs) outputs_cost
+    → Emits cluster after had has (wake_events_of cluster member) input_cost
+awaken-took cluster rousing after member outputs had mid has one is rest = own-input-took cluster rousing after member
+    (Woken member) Wake input_cost outputs had mid has (omega arith) one is rest
 
 -- an agent does what an operator asks
-pub operate-took : (cluster obeying after : Cluster) (member : Member) (action : OperatorAction) (outputs : List Output) (had mid has : Listed)
-    → Emits cluster obeying had mid (event_of cluster (kinds.Agent (Operated member action))) hearing_cost → outputs ≡ outputs_of (outcome_of cluster member (HearsOperator action))
-    → Emits obeying after mid has (each (output_events member no_message) obeying outputs) outputs_cost → Emits cluster after had has (operate_events cluster member action) request_cost
-operate-took cluster obeying after member action outputs had mid has one is rest = own-input-took cluster obeying after member (Operated member action) (HearsOperator action) request_cost outputs had mid has (omega arith) one is rest
+pub operate-took : (cluster obeying after : Cluster) (member : Member) (action : OperatorAction)
+    (outputs : List Output) (had mid has : Listed)
+    → Emits cluster obeying had mid (event_of cluster (kinds.Agent (Operated member action))) hearing_cost
+    → outputs ≡ outputs_of (outcome_of cluster member (HearsOperator action))
+    → Emits obeying after mid has (each (output_events member no_message) obeying outputs) outputs_cost
+    → Emits cluster after had has (operate_events cluster member action) request_cost
+operate-took cluster obeying after member action outputs had mid has one is rest = own-input-took cluster obeying after
+    member (Operated member action) (HearsOperator action) request_cost outputs had mid has (omega arith) one is rest
 
 -- an agent is woken that is to be
-woken-if : (cluster after : Cluster) (member : Member) (found : Option AgentProcess) (had has : Listed) → IsAwake cluster.facts.clock found (standing_of cluster member) → Emits cluster after had has (wake_events_of cluster member) input_cost
+woken-if : (cluster after : Cluster) (member : Member) (found : Option AgentProcess) (had has : Listed)
+    → IsAwake cluster.facts.clock found (standing_of cluster member)
+    → Emits cluster after had has (wake_events_of cluster member) input_cost
     → Emits cluster after had has (for_some found (wake_events_if cluster member)) input_cost
 woken-if cluster after member None had has awake woken = absurd awake
-woken-if cluster after member (Some process) had has awake woken = subst (λ (b : Bool). Emits cluster after had has (if b then wake_events_of cluster member else []) input_cost) (sym awake) woken
+woken-if cluster after member (Some process) had has awake woken =
+    subst (λ (b : Bool). Emits cluster after had has (if b then wake_events_of cluster member else []) input_cost)
+    (sym awake) woken
 
-pub wake-took : (cluster after : Cluster) (member : Member) (had has : Listed) → WakesAt cluster.facts.clock cluster member → Emits cluster after had has (wake_events_of cluster member) input_cost → Emits cluster after had has (wake_events cluster member) input_cost
-wake-took cluster after member had has awake woken = woken-if cluster after member (slice_get cluster.facts.processes member.id.number) had has awake woken
+pub wake-took : (cluster after : Cluster) (member : Member) (had has : Listed)
+    → WakesAt cluster.facts.clock cluster member
+    → Emits cluster after had has (wake_events_of cluster member) input_cost
+    → Emits cluster after had has (wake_events cluster member) input_cost
+wake-took cluster after member had has awake woken =
+    woken-if cluster after member (slice_get cluster.facts.processes member.id.number) had has awake woken
 
 -- an agent is woken that may act, by a script
-pub turn-took : (cluster after : Cluster) (member : Member) (process : AgentProcess) (had has : Listed) → slice_get cluster.facts.processes member.id.number ≡ Some process
-    → may_act process ≡ true → Emits cluster after had has (wake_events_of cluster member) input_cost → Emits cluster after had has (turn_events cluster member) input_cost
+pub turn-took : (cluster after : Cluster) (member : Member) (process : AgentProcess) (had has : Listed)
+    → slice_get cluster.facts.processes member.id.number ≡ Some process
+    → may_act process ≡ true → Emits cluster after had has (wake_events_of cluster member) input_cost
+    → Emits cluster after had has (turn_events cluster member) input_cost
 turn-took cluster after member process had has there ready woken =
-    found-took AgentProcess cluster after had has (turn_events_if cluster member) (slice_get cluster.facts.processes member.id.number) process input_cost there
-    (subst (λ (b : Bool). Emits cluster after had has (if b then wake_events_of cluster member else []) input_cost) (sym ready) woken)
+    found-took AgentProcess cluster after had has (turn_events_if cluster member)
+    (slice_get cluster.facts.processes member.id.number) process input_cost there
+    (subst (λ (b : Bool). Emits cluster after had has (if b then wake_events_of cluster member else []) input_cost)
+    (sym ready) woken)

@@ -20,7 +20,8 @@ same-number n k test is passes = by_equal (nat_cmp n k) (ranked n k (nat_cmp n k
 flip-if : (a b : ℕ) (test : Bool) → is_at (nat_cmp b) a ≡ test → is_at (nat_cmp a) b ≡ false → test ≡ false
 flip-if a b true is differs =
     let same = same-number b a true is refl in
-    absurd (no-yes (sym (subst (λ (n : ℕ). is_at (nat_cmp n) b ≡ false) (sym same) differs) ∙ subst (λ (n : ℕ). is_at (nat_cmp b) n ≡ true) (sym same) is))
+    absurd (no-yes (sym (subst (λ (n : ℕ). is_at (nat_cmp n) b ≡ false) (sym same) differs)
+    ∙ subst (λ (n : ℕ). is_at (nat_cmp b) n ≡ true) (sym same) is))
 flip-if a b false is differs = refl
 
 -- numbers differ both ways

@@ -19,8 +19,8 @@ use Rattle.event_book.specs.Links.{CutLinks, end_count, end_number}
 use Rattle.cluster_model.specs.declared.delivery.Delivery.TheVariants.{Suspended}
 use Rattle.cluster_model.specs.Deliveries.{delivery_of}
 
--- the first number at which no round has looked yet, the numbers before it of messages that may move, and of those that are kept, by
--- their ways
+-- the first number at which no round has looked yet, the numbers before
+-- it of messages that may move, and of those that are kept, by their ways
 pub record IndexFacts : Type 0 where
   pub unseen : ℕ
   pub moving : List ℕ
@@ -51,13 +51,15 @@ abbrev pub is_kept : IndexFacts → ℕ → ℕ → Bool
 is_kept index way number = is_among (kept_on index way) number
 
 -- a message is kept for a receiver that is suspended
-pub record IsHeldBack (index : IndexFacts) (agents : List AgentProcess) (cuts : CutLinks) (number : ℕ) (message : Message) : Type 0 where
+pub record IsHeldBack (index : IndexFacts) (agents : List AgentProcess) (cuts : CutLinks) (number : ℕ)
+    (message : Message) : Type 0 where
   pub listed : is_kept index (message_way message) number ≡ true
   pub suspended : delivery_of cuts agents message ≡ Suspended
 
 -- each message in flight may move, or is kept for a receiver that is suspended
 abbrev pub AreTended : IndexFacts → Flight → List AgentProcess → CutLinks → Type 0
-AreTended index flight agents cuts = (n : ℕ) (message : InFlightFacts) → in_flight flight n ≡ Some message → may_move index n ≡ false → IsHeldBack index agents cuts n message.message
+AreTended index flight agents cuts = (n : ℕ) (message : InFlightFacts) → in_flight flight n ≡ Some message
+    → may_move index n ≡ false → IsHeldBack index agents cuts n message.message
 
 -- no message in flight has a number above that of the last one that was sent
 abbrev pub AreNumbered : ℕ → Flight → Type 0
@@ -88,7 +90,8 @@ ConcernsMachine _ to = ⊥
 
 -- a message to one of these ends from the other takes this link
 abbrev pub Takes : Link → ℕ → ℕ → Type 0
-Takes link to from = ((to ≡ end_number link.first) × (from ≡ end_number link.second)) ⊎ ((to ≡ end_number link.second) × (from ≡ end_number link.first))
+Takes link to from = ((to ≡ end_number link.first) × (from ≡ end_number link.second))
+    ⊎ ((to ≡ end_number link.second) × (from ≡ end_number link.first))
 
 -- what happens to a link concerns messages that take it
 abbrev pub ConcernsLink : LinkEvent → ℕ → ℕ → Type 0

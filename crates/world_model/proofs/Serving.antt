@@ -19,7 +19,9 @@ use Rattle.world_model.proofs.Taking.{Emits-one, Emits-weaker}
 
 -- a cluster with other servers, other frozen ones, another last commit and other acknowledged ones
 abbrev pub serving : Cluster → List ServerFacts → List Bool → ℕ → List ℕ → Cluster
-serving cluster servers frozen commits acknowledged = record cluster { facts = record cluster.facts { servers = servers; frozen = frozen; commits = commits; acknowledged = acknowledged } }
+serving cluster servers frozen commits acknowledged = record cluster {
+  facts = record cluster.facts { servers = servers; frozen = frozen; commits = commits; acknowledged = acknowledged };
+}
 
 -- what concerns servers, their logs and their replication, and notes
 abbrev pub IsServing : EventKind → Type 0
@@ -30,10 +32,13 @@ IsServing (kinds.Note note) = Unit {0}
 IsServing _ = ⊥
 
 abbrev pub served : Cluster → EventKind → Cluster
-served cluster kind = serving cluster (servers_after cluster.facts.clock cluster.facts.servers kind) (frozen_after cluster.facts.frozen kind) (commits_after cluster.facts.commits kind) (acknowledged_after cluster.facts.acknowledged kind)
+served cluster kind = serving cluster (servers_after cluster.facts.clock cluster.facts.servers kind)
+    (frozen_after cluster.facts.frozen kind) (commits_after cluster.facts.commits kind)
+    (acknowledged_after cluster.facts.acknowledged kind)
 
 -- it changes nothing else
-pub serving-cluster_after : (cluster : Cluster) (kind : EventKind) → IsServing kind → cluster_after cluster kind ≡ served cluster kind
+pub serving-cluster_after : (cluster : Cluster) (kind : EventKind) → IsServing kind
+    → cluster_after cluster kind ≡ served cluster kind
 serving-cluster_after cluster (kinds.Server happening) is = refl
 serving-cluster_after cluster (kinds.Log happening) is = refl
 serving-cluster_after cluster (kinds.Replication happening) is = refl
@@ -49,10 +54,12 @@ serving-cost (kinds.Note note) is = omega arith
 serving-cost _ is = absurd is
 
 -- one thing happened at servers
-pub serving-took : (cluster after : Cluster) (kind : EventKind) (tick : Ticks) (had has : Listed) → IsServing kind → Counts cluster kind → after ≡ served cluster kind → tick.0 ≡ cluster.facts.clock
+pub serving-took : (cluster after : Cluster) (kind : EventKind) (tick : Ticks) (had has : Listed)
+    → IsServing kind → Counts cluster kind → after ≡ served cluster kind → tick.0 ≡ cluster.facts.clock
     → has ≡ had +++ record { tick = tick; kind = kind } ∷ [] → Emits cluster after had has (event_of cluster kind) 1
 serving-took cluster after kind tick had has is counts state at has_is =
     Emits-weaker cluster after had has (event_of cluster kind) (event_cost kind) 1
     (Emits-one cluster after had has kind counts (state ∙ sym (serving-cluster_after cluster kind is))
-    (has_is ∙ ap (λ es. had +++ es) (stamped-is cluster tick kind (at ∙ ap (λ (c : Cluster). c.facts.clock) (sym (serving-cluster_after cluster kind is))))))
+    (has_is ∙ ap (λ es. had +++ es) (stamped-is cluster tick kind
+    (at ∙ ap (λ (c : Cluster). c.facts.clock) (sym (serving-cluster_after cluster kind is))))))
     (serving-cost kind is)

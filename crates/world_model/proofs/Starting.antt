@@ -19,8 +19,10 @@ use Rattle.world_model.specs.Room.{HasNumbers, HasRoom, HasRoomFor, most_steps, 
 use Rattle.world_model.proofs.Rooms.{HasRoom-fewer}
 use Rattle.world_model.proofs.ServerRooms.{HasTimeline}
 
-pub members-more : (names : List Name) (done longer : List Member) (place : ℕ) (member : Member) → done ++ members_from place (drop place names) ≡ members_from 0 names
-    → member_of place ≡ Some member.id → slice_get names place ≡ Some member.name → longer ≡ done ++ member ∷ [] → longer ++ members_from (place + 1) (drop (place + 1) names) ≡ members_from 0 names
+pub members-more : (names : List Name) (done longer : List Member) (place : ℕ) (member : Member)
+    → done ++ members_from place (drop place names) ≡ members_from 0 names
+    → member_of place ≡ Some member.id → slice_get names place ≡ Some member.name → longer ≡ done ++ member ∷ []
+    → longer ++ members_from (place + 1) (drop (place + 1) names) ≡ members_from 0 names
 members-more names done longer place member so id name is =
     ap (λ l. l ++ members_from (place + 1) (drop (place + 1) names)) is
     ∙ append_assoc done (member ∷ []) (members_from (place + 1) (drop (place + 1) names))
@@ -31,7 +33,9 @@ members-more names done longer place member so id name is =
 agents-one : (n k : ℕ) → n ≡ suc k → first_processes n ≡ running_in 1 ∷ first_processes k
 agents-one n k e = rw e refl
 
-pub agents-more : (done longer : List AgentProcess) (place count : ℕ) → place < count → done ++ first_processes (count - place) ≡ first_processes count → longer ≡ done ++ running_in 1 ∷ [] → longer ++ first_processes (count - (place + 1)) ≡ first_processes count
+pub agents-more : (done longer : List AgentProcess) (place count : ℕ) → place < count
+    → done ++ first_processes (count - place) ≡ first_processes count → longer ≡ done ++ running_in 1 ∷ []
+    → longer ++ first_processes (count - (place + 1)) ≡ first_processes count
 agents-more done longer place count h so is =
     ap (λ l. l ++ first_processes (count - (place + 1))) is
     ∙ append_assoc done (running_in 1 ∷ []) (first_processes (count - (place + 1)))
@@ -39,8 +43,10 @@ agents-more done longer place count h so is =
     ∙ so
 
 -- one element more of a list that is made from another one, element by element
-pub mapped-more : (X Y : Type 0) (f : X → Y) (all : List X) (at : ℕ) (x : X) (done longer : List Y) → at < length all → x ≡ get_or all at x
-    → done ++ map f (drop at all) ≡ map f all → longer ≡ done ++ f x ∷ [] → longer ++ map f (drop (at + 1) all) ≡ map f all
+pub mapped-more : (X Y : Type 0) (f : X → Y) (all : List X) (at : ℕ) (x : X) (done longer : List Y)
+    → at < length all → x ≡ get_or all at x
+    → done ++ map f (drop at all) ≡ map f all → longer ≡ done ++ f x ∷ []
+    → longer ++ map f (drop (at + 1) all) ≡ map f all
 mapped-more X Y f all at x done longer h is so more =
     let next : drop at all ≡ x ∷ drop (at + 1) all = drop_more all at x h ∙ ap (λ k. k ∷ drop (at + 1) all) (sym is) in
     ap (λ l. l ++ map f (drop (at + 1) all)) more
@@ -49,15 +55,19 @@ mapped-more X Y f all at x done longer h is so more =
     ∙ so
 
 -- the last one was made
-pub mapped-end : (X Y : Type 0) (f : X → Y) (all : List X) (at : ℕ) (done : List Y) → length all ≤ at → done ++ map f (drop at all) ≡ map f all → done ≡ map f all
+pub mapped-end : (X Y : Type 0) (f : X → Y) (all : List X) (at : ℕ) (done : List Y) → length all ≤ at
+    → done ++ map f (drop at all) ≡ map f all → done ≡ map f all
 mapped-end X Y f all at done h so = sym (append-nil done) ∙ ap (λ xs. done ++ map f xs) (sym (drop_all at all h)) ∙ so
 
 -- one element more of a list
-pub rest-more : (X : Type 0) (all done longer : List X) (place : ℕ) (x : X) → done ++ drop place all ≡ all → slice_get all place ≡ Some x → longer ≡ done ++ x ∷ [] → longer ++ drop (place + 1) all ≡ all
+pub rest-more : (X : Type 0) (all done longer : List X) (place : ℕ) (x : X) → done ++ drop place all ≡ all
+    → slice_get all place ≡ Some x → longer ≡ done ++ x ∷ [] → longer ++ drop (place + 1) all ≡ all
 rest-more X all done longer place x so is more =
-    ap (λ l. l ++ drop (place + 1) all) more ∙ append_assoc done (x ∷ []) (drop (place + 1) all) ∙ ap (λ xs. done ++ xs) (sym (drop-get X all place x is)) ∙ so
+    ap (λ l. l ++ drop (place + 1) all) more ∙ append_assoc done (x ∷ []) (drop (place + 1) all)
+    ∙ ap (λ xs. done ++ xs) (sym (drop-get X all place x is)) ∙ so
 
-pub rest-end : (X : Type 0) (all done : List X) (place : ℕ) → done ++ drop place all ≡ all → length all ≤ place → done ≡ all
+pub rest-end : (X : Type 0) (all done : List X) (place : ℕ) → done ++ drop place all ≡ all
+    → length all ≤ place → done ≡ all
 rest-end X all done place so h = sym (append-nil done) ∙ ap (λ xs. done ++ xs) (sym (drop_all place all h)) ∙ so
 
 -- so much has room before the first event
@@ -66,15 +76,20 @@ ample = 2 ^ 59
 
 first-run : (count : ℕ) → All (λ (state : AgentProcess). state.incarnation + ample < 2 ^ 60) (first_processes count)
 first-run zero = All-nil (λ (state : AgentProcess). state.incarnation + ample < 2 ^ 60)
-first-run (suc count) = All-cons (λ (state : AgentProcess). state.incarnation + ample < 2 ^ 60) (running_in 1) (first_processes count) (omega arith) (first-run count)
+first-run (suc count) = All-cons (λ (state : AgentProcess). state.incarnation + ample < 2 ^ 60) (running_in 1)
+    (first_processes count) (omega arith) (first-run count)
 
-first-numbers : (scope : Name) (options : List MemberOptions) (members all : List Member) → All (HasNumbers ample) (map (first_agent scope options members) all)
+first-numbers : (scope : Name) (options : List MemberOptions) (members all : List Member)
+    → All (HasNumbers ample) (map (first_agent scope options members) all)
 first-numbers scope options members [] = All-nil (HasNumbers ample)
-first-numbers scope options members (member ∷ more) = All-cons (HasNumbers ample) (first_agent scope options members member) (map (first_agent scope options members) more) (omega arith) (first-numbers scope options members more)
+first-numbers scope options members (member ∷ more) =
+    All-cons (HasNumbers ample) (first_agent scope options members member)
+    (map (first_agent scope options members) more) (omega arith) (first-numbers scope options members more)
 
 first-timeline : (base count : ℕ) → All (HasTimeline (ample)) (replicate count (fresh base))
 first-timeline base zero = All-nil (HasTimeline (ample))
-first-timeline base (suc count) = All-cons (HasTimeline (ample)) (fresh base) (replicate count (fresh base)) (omega arith) (first-timeline base count)
+first-timeline base (suc count) =
+    All-cons (HasTimeline (ample)) (fresh base) (replicate count (fresh base)) (omega arith) (first-timeline base count)
 
 -- there is ample room before the first event
 pub start-room : (head : HeadText) → HasRoom (cluster_of head) (ample)
@@ -84,16 +99,20 @@ start-room head = record {
   sent = omega arith;
   runs = first-run (length (names_of head));
   numbers = omega arith;
-  agents = first-numbers head.cluster (cluster_of head).options (cluster_of head).facts.members (cluster_of head).facts.members;
+  agents = first-numbers head.cluster (cluster_of head).options (cluster_of head).facts.members
+      (cluster_of head).facts.members;
   timelines = first-timeline head.base (length (names_of head));
   commits = omega arith;
 }
 
 -- that is the room of 2^30 steps
 pub steps-room : (head : HeadText) → HasRoomFor (cluster_of head) most_steps
-steps-room head = record { room = HasRoom-fewer (cluster_of head) ample (step_cost * most_steps) (omega arith) (start-room head) }
+steps-room head = record {
+  room = HasRoom-fewer (cluster_of head) ample (step_cost * most_steps) (omega arith) (start-room head);
+}
 
-put-short : (id : Option MemberId) (name : Name) (members : List Member) → length (put_first id name members) ≤ suc (length members)
+put-short : (id : Option MemberId) (name : Name) (members : List Member)
+    → length (put_first id name members) ≤ suc (length members)
 put-short None name members = omega arith
 put-short (Some id) name members = omega arith
 

@@ -8,8 +8,11 @@ use Rattle.event_book.specs.declared.member.Member.{Member}
 use Rattle.agent_model.specs.Agents.{AgentFacts}
 use Rattle.cluster_model.specs.Cluster.{agent_facts_by_watchdog, agent_facts_moved}
 
--- the agents of a cluster of this name with these members, of whom these options are declared, after a happening of this moment that is no input of one
-abbrev pub agents_apart : Name → List MemberOptions → List Member → ℕ → List (Option AgentFacts) → EventKind → List (Option AgentFacts)
-agents_apart scope options members now agents (kinds.Agent happening) = agent_facts_moved scope options members now agents happening
+-- the agents of a cluster of this name with these members, of whom these options
+-- are declared, after a happening of this moment that is no input of one
+abbrev pub agents_apart : Name → List MemberOptions → List Member → ℕ → List (Option AgentFacts) → EventKind
+    → List (Option AgentFacts)
+agents_apart scope options members now agents (kinds.Agent happening) =
+    agent_facts_moved scope options members now agents happening
 agents_apart scope options members now agents (kinds.Watchdog happening) = agent_facts_by_watchdog agents happening
 agents_apart scope options members now agents _ = agents

@@ -8,8 +8,8 @@ use Rattle.world_model.specs.Room.{step_cost}
 abbrev pub HasNumbered : ℕ → Option AgentFacts → Type 0
 HasNumbered bound agent = IfSome agent (λ a. a.knows.sequence ≤ bound)
 
--- each counter is below this bound: the clock, the numbers of revisions, messages and commits, and each process's run and server's timeline.
--- No agent that runs has numbered more messages
+-- each counter is below this bound: the clock, the numbers of revisions, messages and commits,
+-- and each process's run and server's timeline. No agent that runs has numbered more messages
 pub record AreCounted (cluster : Cluster) (bound : ℕ) : Type 0 where
   pub clock : cluster.facts.clock < bound
   pub revision : cluster.facts.keys.revision < bound

@@ -6,8 +6,8 @@ use Rattle.cluster_model.specs.Cluster.{cluster_over}
 use Rattle.cluster_model.specs.State.{Cluster}
 use Rattle.world_model.specs.Room.{HasRoom}
 
--- these events happened: they were handed out behind those that there were, and whether messages are traced in the list stays; the cluster
--- is what they leave, and it has room for all but so many events fewer
+-- these events happened: they were handed out behind those that there were, and whether messages are traced
+-- in the list stays; the cluster is what they leave, and it has room for all but so many events fewer
 pub record Emits (before after : Cluster) (had has : Listed) (events : List Event) (cost : ℕ) : Type 0 where
   pub state : after ≡ cluster_over before events
   pub event : has ≡ had +++ events

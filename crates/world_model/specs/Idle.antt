@@ -38,10 +38,12 @@ abbrev pub HasWorkFrom : Option Outcome → Option Ticks → Type 0
 HasWorkFrom o None = (now : Ticks) → has_work now o ≡ false
 HasWorkFrom o (Some from) = (now : Ticks) → has_work now o ≡ nat_le from.0 now.0
 
--- from when on there is something to do for an agent of a member with these options, this deadline, this hold and this server, where there
--- are all of them
-abbrev pub work_moment : Option MemberOptions → Option (Option Ticks) → Option (Option Ticks) → Option ServerFacts → Option AgentFacts → Option Ticks
-work_moment (Some options) (Some deadline) (Some hold) (Some s) (Some agent) = Some (due_from agent.role agent.knows s.state)
+-- from when on there is something to do for an agent of a member with these
+-- options, this deadline, this hold and this server, where there are all of them
+abbrev pub work_moment : Option MemberOptions → Option (Option Ticks) → Option (Option Ticks)
+    → Option ServerFacts → Option AgentFacts → Option Ticks
+work_moment (Some options) (Some deadline) (Some hold) (Some s) (Some agent) =
+    Some (due_from agent.role agent.knows s.state)
 work_moment _ _ _ _ _ = None
 
 -- at this moment an agent of this process, with its machine, isn't to be woken
@@ -51,7 +53,8 @@ IsAsleep now (Some process) o = is_to_wake (record { 0 = now }) process o ≡ fa
 
 -- at this moment the agent of a member isn't to be woken
 abbrev pub SleepsAt : ℕ → Cluster → Member → Type 0
-SleepsAt now cluster member = IsAsleep now (slice_get cluster.facts.processes member.id.number) (standing_of cluster member)
+SleepsAt now cluster member =
+    IsAsleep now (slice_get cluster.facts.processes member.id.number) (standing_of cluster member)
 
 -- at this moment an agent of this process, with its machine, is to be woken
 abbrev pub IsAwake : ℕ → Option AgentProcess → Option Outcome → Type 0
@@ -60,13 +63,15 @@ IsAwake now (Some process) o = is_to_wake (record { 0 = now }) process o ≡ tru
 
 -- at this moment the agent of a member is to be woken
 abbrev pub WakesAt : ℕ → Cluster → Member → Type 0
-WakesAt now cluster member = IsAwake now (slice_get cluster.facts.processes member.id.number) (standing_of cluster member)
+WakesAt now cluster member =
+    IsAwake now (slice_get cluster.facts.processes member.id.number) (standing_of cluster member)
 
 -- no watchdog resets its machine at this moment or before
 abbrev pub NoneResets : ℕ → List (Option Ticks) → Type 0
 NoneResets now deadlines = All (λ deadline. is_due_at now deadline ≡ false) deadlines
 
--- up to this moment nothing ends by the clock: no watchdog resets its machine, no key expires, and no start or stop of a server is complete
+-- up to this moment nothing ends by the clock: no watchdog resets its
+-- machine, no key expires, and no start or stop of a server is complete
 pub record NothingEnds (now : ℕ) (cluster : Cluster) : Type 0 where
   pub watchdogs : NoneResets now cluster.facts.deadlines
   pub keys : expired_keys cluster.facts.keys now ≡ []
@@ -88,16 +93,21 @@ IsNoNews (Some (streams.Received count)) unconfirmed = ⊥
 abbrev pub HasNoNewsFrom : List ServerFacts → Member → Option Member → Type 0
 HasNoNewsFrom servers member None = Unit {0}
 HasNoNewsFrom servers member (Some from) =
-    IsNoNews (news_at servers member.id.number from.id.number all_entries) (unconfirmed_end member (slice_get servers member.id.number) (slice_get servers from.id.number))
+    IsNoNews (news_at servers member.id.number from.id.number all_entries)
+    (unconfirmed_end member (slice_get servers member.id.number) (slice_get servers from.id.number))
 
 -- the server of a member, frozen or not, receives and confirms nothing
 abbrev pub ReceivesNone : List Member → List ServerFacts → CutLinks → Member → Option Bool → Type 0
-ReceivesNone members servers cuts member (Some false) = HasNoNewsFrom servers member (source_of members servers cuts member)
+ReceivesNone members servers cuts member (Some false) =
+    HasNoNewsFrom servers member (source_of members servers cuts member)
 ReceivesNone members servers cuts member _ = Unit {0}
 
 -- the servers, but for those that are frozen, receive and confirm nothing
 abbrev pub AreCaughtUp : Cluster → Type 0
-AreCaughtUp cluster = All (λ member. ReceivesNone cluster.facts.members cluster.facts.servers cluster.facts.cuts member (slice_get cluster.facts.frozen member.id.number)) cluster.facts.members
+AreCaughtUp cluster =
+    All (λ member. ReceivesNone cluster.facts.members cluster.facts.servers cluster.facts.cuts member
+    (slice_get cluster.facts.frozen member.id.number))
+    cluster.facts.members
 
 -- they do where that is known
 abbrev pub IfCaughtUp : Bool → Cluster → Type 0
@@ -113,9 +123,11 @@ IfSettled known cluster = known ≡ true → AreSettled cluster
 
 -- each message in flight is kept for a receiver that is suspended
 abbrev pub AreKept : Flight → List AgentProcess → CutLinks → Type 0
-AreKept flight agents cuts = (n : ℕ) (message : InFlightFacts) → in_flight flight n ≡ Some message → delivery_of cuts agents message.message ≡ Suspended
+AreKept flight agents cuts = (n : ℕ) (message : InFlightFacts) → in_flight flight n ≡ Some message
+    → delivery_of cuts agents message.message ≡ Suspended
 
--- nothing moves but by the clock: no message comes or is lost, no replica receives or confirms anything, and no commit may be acknowledged
+-- nothing moves but by the clock: no message comes or is lost, no replica
+-- receives or confirms anything, and no commit may be acknowledged
 pub record NothingMoves (cluster : Cluster) : Type 0 where
   pub messages : AreKept cluster.facts.flight cluster.facts.processes cluster.facts.cuts
   pub replicas : AreCaughtUp cluster
@@ -151,4 +163,5 @@ IsTick _ = Unit {0}
 -- each of so many steps of one kind brings its tick and nothing else
 unfoldable pub BringsTicks : Cluster → Step → ℕ → Type 0
 BringsTicks cluster step zero = Unit {0}
-BringsTicks cluster step (suc count) = (next_events cluster step ≡ event_of cluster kinds.Tick) × BringsTicks (cluster_over cluster (next_events cluster step)) step count
+BringsTicks cluster step (suc count) = (next_events cluster step ≡ event_of cluster kinds.Tick)
+    × BringsTicks (cluster_over cluster (next_events cluster step)) step count

@@ -28,4 +28,7 @@ loss_at commit member s = loss_if member (is_lacking commit s)
 -- the server of a member begins on this timeline, and then it may be told that it lacks an acknowledged commit
 abbrev pub beginning_at : Cluster → Member → ℕ → List Event
 beginning_at cluster member timeline =
-    events_of cluster (kinds.Server (servers.Began (server_of member) timeline) ∷ kinds_of (option_and_then (loss_of_any cluster.facts.acknowledged member) (slice_get cluster.facts.servers member.id.number)))
+    events_of cluster
+    (kinds.Server (servers.Began (server_of member) timeline)
+    ∷ kinds_of (option_and_then (loss_of_any cluster.facts.acknowledged member)
+    (slice_get cluster.facts.servers member.id.number)))

@@ -1,4 +1,5 @@
--- How far a cluster may go, and how often the parts of a step count any one counter up at most: at most once an event, but for the inputs of agents.
+-- How far a cluster may go, and how often the parts of a step count any one
+-- counter up at most: at most once an event, but for the inputs of agents.
 use Rattle.std.specs.Prelude.{ℕ, ◌+◌, ◌*◌, ◌^◌, ◌<◌, ◌≤◌, All, Option, IfSome}
 use Rattle.event_book.specs.declared.event.AgentEvent.{AgentEvent}
 use Rattle.event_book.specs.declared.event.AgentEvent.TheVariants as agents

@@ -32,7 +32,8 @@ use Rattle.world_model.proofs.ServerRooms.{All-at}
 use Rattle.world_model.proofs.Taking.{Emits-weaker, found-took}
 
 -- the snapshot that an agent shows is read beside the view alone
-reply-without-seen : (view : AgentView) (seen : Option SnapshotFacts) (lag : Option (List ℕ)) (body : List ℕ) (ask : Ask) → answer_by (record view { seen = None }) seen lag body ask ≡ answer_by view seen lag body ask
+reply-without-seen : (view : AgentView) (seen : Option SnapshotFacts) (lag : Option (List ℕ)) (body : List ℕ)
+    (ask : Ask) → answer_by (record view { seen = None }) seen lag body ask ≡ answer_by view seen lag body ask
 reply-without-seen view seen lag body asks.NotFound = refl
 reply-without-seen view seen lag body asks.NotAllowed = refl
 reply-without-seen view seen lag body (asks.Health endpoint true) = refl
@@ -52,29 +53,35 @@ reply-without-seen view seen lag body (asks.Change changes.ReplaceConfiguration)
 reply-without-seen view seen lag body (asks.Change changes.Failsafe) = refl
 
 -- an agent answers by what it shows
-answered-same : (view : AgentView) (now : Ticks) (o : Outcome) (asked : RequestText) → record view { seen = None } ≡ shown now o → option_copied view.seen ≡ o.knows.seen
+answered-same : (view : AgentView) (now : Ticks) (o : Outcome) (asked : RequestText)
+    → record view { seen = None } ≡ shown now o → option_copied view.seen ≡ o.knows.seen
     → answer_to view (option_copied view.seen) asked ≡ answer_at now o asked
 answered-same view now o asked shows seen =
-    sym (reply-without-seen view (option_copied view.seen) (lag_of asked.target) asked.body (ask_of asked.verb (path_of asked.target)))
+    sym (reply-without-seen view (option_copied view.seen) (lag_of asked.target) asked.body
+    (ask_of asked.verb (path_of asked.target)))
     ∙ ap (λ (v : AgentView). answer_to v (option_copied view.seen) asked) shows
     ∙ ap (λ (s : Option SnapshotFacts). answer_to (shown now o) s asked) seen
 
 no-agent : (agent : AgentFacts) → ◌≡◌ {A = Option AgentFacts} None (Some agent) → ⊥
 no-agent agent e = cc
 
-some-agent : (found : Option (Option AgentFacts)) (agent : AgentFacts) → option_and_then (λ (a : Option AgentFacts). a) found ≡ Some agent → found ≡ Some (Some agent)
+some-agent : (found : Option (Option AgentFacts)) (agent : AgentFacts)
+    → option_and_then (λ (a : Option AgentFacts). a) found ≡ Some agent → found ≡ Some (Some agent)
 some-agent (Some (Some other)) agent is = ap Some is
 some-agent (Some None) agent is = absurd (no-agent agent is)
 some-agent None agent is = absurd (no-agent agent is)
 
 -- an agent has a number for its next message
-pub numbers-left : (cluster : Cluster) (member : Member) (agent : AgentFacts) → HasRoom cluster request_cost → agent_at cluster.agents member.id.number ≡ Some agent → agent.knows.sequence < most_messages
+pub numbers-left : (cluster : Cluster) (member : Member) (agent : AgentFacts) → HasRoom cluster request_cost
+    → agent_at cluster.agents member.id.number ≡ Some agent → agent.knows.sequence < most_messages
 numbers-left cluster member agent room is =
-    let has : HasNumbers request_cost (Some agent) = All-at (Option AgentFacts) (HasNumbers request_cost) cluster.agents member.id.number (Some agent) room.agents (some-agent (slice_get cluster.agents member.id.number) agent is) in
+    let has : HasNumbers request_cost (Some agent) = All-at (Option AgentFacts) (HasNumbers request_cost) cluster.agents
+    member.id.number (Some agent) room.agents (some-agent (slice_get cluster.agents member.id.number) agent is) in
     omega (arith, has)
 
 -- an agent that stands with its machine shows this, and its next message has this number
-pub record IsAsked (cluster : Cluster) (member : Member) (agent : AgentFacts) (machine : Machine) (view : AgentView) (request : ℕ) : Type 0 where
+pub record IsAsked (cluster : Cluster) (member : Member) (agent : AgentFacts) (machine : Machine)
+    (view : AgentView) (request : ℕ) : Type 0 where
   pub agent_is : agent_at cluster.agents member.id.number ≡ Some agent
   pub machine_is : machine_of cluster member ≡ Some machine
   pub shows : record view { seen = None } ≡ shown (moment_of cluster) (outcome_from agent.role agent.knows machine [])
@@ -82,9 +89,13 @@ pub record IsAsked (cluster : Cluster) (member : Member) (agent : AgentFacts) (m
   pub next : request ≡ agent.knows.sequence + 1
 
 -- an agent is found with its machine, and asked by what it shows at this moment
-pub found-asked : (cluster : Cluster) (member : Member) (agent : AgentFacts) (machine : Machine) (view : AgentView) (request : ℕ) (moment : Ticks) (found : Option AgentFacts) (has : Option Machine)
-    → found ≡ agent_at cluster.agents member.id.number → found ≡ Some agent → has ≡ machine_of cluster member → has ≡ Some machine → moment.0 ≡ cluster.facts.clock
-    → record view { seen = None } ≡ shown moment (outcome_from agent.role agent.knows machine []) → option_copied view.seen ≡ agent.knows.seen → request ≡ agent.knows.sequence + 1 → IsAsked cluster member agent machine view request
+pub found-asked : (cluster : Cluster) (member : Member) (agent : AgentFacts) (machine : Machine)
+    (view : AgentView) (request : ℕ) (moment : Ticks) (found : Option AgentFacts) (has : Option Machine)
+    → found ≡ agent_at cluster.agents member.id.number → found ≡ Some agent → has ≡ machine_of cluster member
+    → has ≡ Some machine → moment.0 ≡ cluster.facts.clock
+    → record view { seen = None } ≡ shown moment (outcome_from agent.role agent.knows machine [])
+    → option_copied view.seen ≡ agent.knows.seen → request ≡ agent.knows.sequence + 1
+    → IsAsked cluster member agent machine view request
 found-asked cluster member agent machine view request moment found has at is its there clock shows seen next = record {
   agent_is = sym at ∙ is;
   machine_is = sym its ∙ there;
@@ -93,30 +104,46 @@ found-asked cluster member agent machine view request moment found has at is its
   next = next;
 }
 
-module _ (cluster : Cluster) (member : Member) (agent : AgentFacts) (machine : Machine) (view : AgentView) (request : ℕ) (asks : IsAsked cluster member agent machine view request) where
+module _ (cluster : Cluster) (member : Member) (agent : AgentFacts) (machine : Machine) (view : AgentView)
+    (request : ℕ) (asks : IsAsked cluster member agent machine view request) where
   abbrev stands : Outcome
   stands = outcome_from agent.role agent.knows machine []
 
   stands-so : standing_of cluster member ≡ Some stands
-  stands-so = ap (λ (a : Option AgentFacts). standing a (machine_of cluster member)) asks.agent_is ∙ ap (λ (m : Option Machine). standing (Some agent) m) asks.machine_is
+  stands-so = ap (λ (a : Option AgentFacts). standing a (machine_of cluster member)) asks.agent_is
+      ∙ ap (λ (m : Option Machine). standing (Some agent) m) asks.machine_is
 
-  answered-took : (after : Cluster) (call : RequestText) (answer : Answered) (had has : Listed) → answer ≡ answer_to view (option_copied view.seen) call
-      → Emits cluster after had has (answered_events cluster member stands answer) request_cost → Emits cluster after had has (for_some (standing_of cluster member) (request_events_of cluster call member)) request_cost
+  answered-took : (after : Cluster) (call : RequestText) (answer : Answered) (had has : Listed)
+      → answer ≡ answer_to view (option_copied view.seen) call
+      → Emits cluster after had has (answered_events cluster member stands answer) request_cost
+      → Emits cluster after had has
+      (for_some (standing_of cluster member) (request_events_of cluster call member)) request_cost
   answered-took after call answer had has is took =
-      found-took Outcome cluster after had has (request_events_of cluster call member) (standing_of cluster member) stands request_cost stands-so
-      (subst (λ (a : Answered). Emits cluster after had has (answered_events cluster member stands a) request_cost) (is ∙ answered-same view (moment_of cluster) stands call asks.shows asks.seen) took)
+      found-took Outcome cluster after had has (request_events_of cluster call member)
+      (standing_of cluster member) stands request_cost stands-so
+      (subst (λ (a : Answered). Emits cluster after had has (answered_events cluster member stands a) request_cost)
+      (is ∙ answered-same view (moment_of cluster) stands call asks.shows asks.seen) took)
 
   -- it does what it is asked
-  pub acts-took : (after : Cluster) (call : RequestText) (asked : OperatorRequest) (had has : Listed) → Acts asked ≡ answer_to view (option_copied view.seen) call
-      → Emits cluster after had has (operate_events cluster member (record { request = request; asked = asked })) request_cost
-      → Emits cluster after had has (for_some (standing_of cluster member) (request_events_of cluster call member)) request_cost
+  pub acts-took : (after : Cluster) (call : RequestText) (asked : OperatorRequest) (had has : Listed)
+      → Acts asked ≡ answer_to view (option_copied view.seen) call
+      → Emits cluster after had has
+      (operate_events cluster member (record { request = request; asked = asked })) request_cost
+      → Emits cluster after had has
+      (for_some (standing_of cluster member) (request_events_of cluster call member)) request_cost
   acts-took after call asked had has is took =
       answered-took after call (Acts asked) had has is
-      (subst (λ (n : ℕ). Emits cluster after had has (operate_events cluster member (record { request = n; asked = asked })) request_cost) asks.next took)
+      (subst (λ (n : ℕ).
+      Emits cluster after had has (operate_events cluster member (record { request = n; asked = asked })) request_cost)
+      asks.next took)
 
   -- or replies at once
-  pub replies-took : (after : Cluster) (call : RequestText) (reply : ReplyText) (kind : EventKind) (had has : Listed) → Replies reply ≡ answer_to view (option_copied view.seen) call → kind ≡ replying member reply
-      → Emits cluster after had has (event_of cluster kind) 1 → Emits cluster after had has (for_some (standing_of cluster member) (request_events_of cluster call member)) request_cost
+  pub replies-took : (after : Cluster) (call : RequestText) (reply : ReplyText) (kind : EventKind) (had has : Listed)
+      → Replies reply ≡ answer_to view (option_copied view.seen) call → kind ≡ replying member reply
+      → Emits cluster after had has (event_of cluster kind) 1
+      → Emits cluster after had has
+      (for_some (standing_of cluster member) (request_events_of cluster call member)) request_cost
   replies-took after call reply kind had has is kind_is took =
       answered-took after call (Replies reply) had has is
-      (Emits-weaker cluster after had has (event_of cluster (replying member reply)) 1 request_cost (subst (λ (k : EventKind). Emits cluster after had has (event_of cluster k) 1) kind_is took) (omega arith))
+      (Emits-weaker cluster after had has (event_of cluster (replying member reply)) 1 request_cost
+      (subst (λ (k : EventKind). Emits cluster after had has (event_of cluster k) 1) kind_is took) (omega arith))

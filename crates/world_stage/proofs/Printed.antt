@@ -24,16 +24,20 @@ printed_at tick text = record { tick = tick; kind = kinds.Note (CtlLine text) }
 abbrev pub printed : Cluster → String Global → Event
 printed cluster line = printed_at (record { 0 = cluster.facts.clock }) (string_bytes line)
 
-printed-each : (cluster : Cluster) (lines : List (String Global)) → each ctl_line_events cluster (map string_bytes lines) ≡ map (printed cluster) lines
+printed-each : (cluster : Cluster) (lines : List (String Global))
+    → each ctl_line_events cluster (map string_bytes lines) ≡ map (printed cluster) lines
 printed-each cluster [] = refl
 printed-each cluster (line ∷ lines) = ap (λ es. printed cluster line ∷ es) (printed-each cluster lines)
 
-printed-still : (cluster : Cluster) (lines : List (String Global)) → cluster_over cluster (map (printed cluster) lines) ≡ cluster
+printed-still : (cluster : Cluster) (lines : List (String Global))
+    → cluster_over cluster (map (printed cluster) lines) ≡ cluster
 printed-still cluster [] = refl
 printed-still cluster (line ∷ lines) = printed-still cluster lines
 
 -- they were written down
-pub printed-took : (cluster : Cluster) (lines : List (String Global)) (had has : Listed) → has ≡ had +++ map (printed cluster) lines → Emits cluster cluster had has (each ctl_line_events cluster (map string_bytes lines)) 0
+pub printed-took : (cluster : Cluster) (lines : List (String Global)) (had has : Listed)
+    → has ≡ had +++ map (printed cluster) lines
+    → Emits cluster cluster had has (each ctl_line_events cluster (map string_bytes lines)) 0
 printed-took cluster lines had has is = record {
   state = sym (ap (cluster_over cluster) (printed-each cluster lines) ∙ printed-still cluster lines);
   event = is ∙ ap (λ es. had +++ es) (sym (printed-each cluster lines));
@@ -41,11 +45,16 @@ printed-took cluster lines had has is = record {
 }
 
 -- one more is written down
-pub printed-more : (cluster : Cluster) (first had has : Listed) (done : List (String Global)) (line : String Global) (tick : Ticks) (text : List ℕ) → had ≡ first +++ map (printed cluster) done
-    → has ≡ had +++ record { tick = tick; kind = kinds.Note (CtlLine text) } ∷ [] → tick.0 ≡ cluster.facts.clock → text ≡ string_bytes line → has ≡ first +++ map (printed cluster) (done ++ line ∷ [])
+pub printed-more : (cluster : Cluster) (first had has : Listed) (done : List (String Global))
+    (line : String Global) (tick : Ticks) (text : List ℕ) → had ≡ first +++ map (printed cluster) done
+    → has ≡ had +++ record { tick = tick; kind = kinds.Note (CtlLine text) } ∷ [] → tick.0 ≡ cluster.facts.clock
+    → text ≡ string_bytes line → has ≡ first +++ map (printed cluster) (done ++ line ∷ [])
 printed-more cluster first had has done line tick text was is at said =
-    let same : printed_at tick text ≡ printed cluster line = ap (λ (n : ℕ). printed_at (record { 0 = n }) text) at ∙ ap (λ (t : List ℕ). printed_at (record { 0 = cluster.facts.clock }) t) said in
-    is ∙ ap (λ e. had +++ e ∷ []) same ∙ ap (λ es. es +++ printed cluster line ∷ []) was ∙ appended_assoc first (map (printed cluster) done) (printed cluster line ∷ []) ∙ ap (λ es. first +++ es) (sym (map-append (printed cluster) done (line ∷ [])))
+    let same : printed_at tick text ≡ printed cluster line = ap (λ (n : ℕ). printed_at (record { 0 = n }) text) at
+    ∙ ap (λ (t : List ℕ). printed_at (record { 0 = cluster.facts.clock }) t) said in
+    is ∙ ap (λ e. had +++ e ∷ []) same ∙ ap (λ es. es +++ printed cluster line ∷ []) was
+    ∙ appended_assoc first (map (printed cluster) done) (printed cluster line ∷ [])
+    ∙ ap (λ es. first +++ es) (sym (map-append (printed cluster) done (line ∷ [])))
 
 -- none is left
 pub none-left : (lines : List (String Global)) (count : ℕ) → count ≡ length lines → count ≡ 0 → lines ≡ []

@@ -26,7 +26,8 @@ use Rattle.world_stage.proofs.Streams.{with_servers}
 use Rattle.world_model.proofs.Taking.{Emits-nothing}
 
 -- two changes that make the same of the server at a place
-same-change : (known : List ServerFacts) (place : ℕ) (f g : ServerFacts → ServerFacts) (s : ServerFacts) → slice_get known place ≡ Some s → f s ≡ g s → with_changed known place f ≡ with_changed known place g
+same-change : (known : List ServerFacts) (place : ℕ) (f g : ServerFacts → ServerFacts) (s : ServerFacts)
+    → slice_get known place ≡ Some s → f s ≡ g s → with_changed known place f ≡ with_changed known place g
 same-change known place f g s is same = ap (changed_at known place f) is ∙ set ∙ sym (ap (changed_at known place g) is)
   where
     set : changed_at known place f (Some s) ≡ changed_at known place g (Some s)
@@ -36,14 +37,18 @@ same-change known place f g s is same = ap (changed_at known place f) is ∙ set
 no-rewind : (rewind : Rewound) → None ≡ Some rewind → ⊥
 no-rewind rewind e = cc
 
-rewindable : (able accepts : Bool) (x rewind : Rewound) → cond (able && accepts) (Some x) None ≡ Some rewind → able ≡ true
+rewindable : (able accepts : Bool) (x rewind : Rewound) → cond (able && accepts) (Some x) None ≡ Some rewind
+    → able ≡ true
 rewindable true accepts x rewind e = refl
 rewindable false accepts x rewind e = absurd (no-rewind rewind e)
 
-back : (kept : ℕ) (s source : ServerFacts) → is_rewindable s.state ≡ true → rewound_to kept s source ≡ goes_back kept (Some source) s
+back : (kept : ℕ) (s source : ServerFacts) → is_rewindable s.state ≡ true
+    → rewound_to kept s source ≡ goes_back kept (Some source) s
 back kept s source able = sym (ap (λ (b : Bool). cond b (rewound_to kept s source) (cut_to kept s)) able)
 
-rewound-by : (known : List ServerFacts) (place from : ℕ) (rewind : Rewound) (own source : Option ServerFacts) → slice_get known place ≡ own → slice_get known from ≡ source → rewind_between own source ≡ Some rewind → rewind_at known place from ≡ Some rewind
+rewound-by : (known : List ServerFacts) (place from : ℕ) (rewind : Rewound) (own source : Option ServerFacts)
+    → slice_get known place ≡ own → slice_get known from ≡ source → rewind_between own source ≡ Some rewind
+    → rewind_at known place from ≡ Some rewind
     → rewound_at known place from ≡ with_changed known place (goes_back rewind.kept source)
 rewound-by known place from rewind None source p q e is = absurd (no-rewind rewind e)
 rewound-by known place from rewind (Some s) None p q e is = absurd (no-rewind rewind e)
@@ -53,42 +58,71 @@ rewound-by known place from rewind (Some s) (Some source) p q e is =
     (back rewind.kept s source (rewindable (is_rewindable s.state) (writes source.state) _ rewind e))
 
 -- the servers after a rewind are as its event tells
-rewound-told : (known : List ServerFacts) (place from : ℕ) (rewind : Rewound) → rewind_at known place from ≡ Some rewind → rewound_at known place from ≡ with_changed known place (goes_back rewind.kept (slice_get known from))
-rewound-told known place from rewind is = rewound-by known place from rewind (slice_get known place) (slice_get known from) refl refl is is
+rewound-told : (known : List ServerFacts) (place from : ℕ) (rewind : Rewound) → rewind_at known place from ≡ Some rewind
+    → rewound_at known place from ≡ with_changed known place (goes_back rewind.kept (slice_get known from))
+rewound-told known place from rewind is =
+    rewound-by known place from rewind (slice_get known place) (slice_get known from) refl refl is is
 
-pub rewound-took : (cluster : Cluster) (member leader : Member) (rewind : Rewound) (server from : ServerOf) (known : List ServerFacts) (tick : Ticks) (had has : Listed)
-    → rewind_at cluster.facts.servers member.id.number leader.id.number ≡ Some rewind → known ≡ rewound_at cluster.facts.servers member.id.number leader.id.number
-    → server ≡ server_of member → from ≡ server_of leader → tick.0 ≡ cluster.facts.clock → has ≡ had +++ record { tick = tick; kind = kinds.Log (logs.Rewound server from rewind.kept rewind.at) } ∷ []
-    → Emits cluster (with_servers cluster known) had has (events_of cluster (kinds_of (option_map (rewinding member leader) (rewind_at cluster.facts.servers member.id.number leader.id.number)))) 1
+pub rewound-took : (cluster : Cluster) (member leader : Member) (rewind : Rewound) (server from : ServerOf)
+    (known : List ServerFacts) (tick : Ticks) (had has : Listed)
+    → rewind_at cluster.facts.servers member.id.number leader.id.number ≡ Some rewind
+    → known ≡ rewound_at cluster.facts.servers member.id.number leader.id.number
+    → server ≡ server_of member → from ≡ server_of leader → tick.0 ≡ cluster.facts.clock
+    → has ≡ had +++ record { tick = tick; kind = kinds.Log (logs.Rewound server from rewind.kept rewind.at) } ∷ []
+    → Emits cluster (with_servers cluster known) had has
+    (events_of cluster
+    (kinds_of (option_map (rewinding member leader)
+    (rewind_at cluster.facts.servers member.id.number leader.id.number))))
+    1
 rewound-took cluster member leader rewind server from known tick had has is state server_is from_is moment has_is =
     let place = member.id.number in
     let written : has ≡ had +++ record { tick = tick; kind = rewinding member leader rewind } ∷ [] = has_is
-    ∙ ap (λ (s : ServerOf). had +++ record { tick = tick; kind = kinds.Log (logs.Rewound s from rewind.kept rewind.at) } ∷ []) server_is
-    ∙ ap (λ (s : ServerOf). had +++ record { tick = tick; kind = kinds.Log (logs.Rewound (server_of member) s rewind.kept rewind.at) } ∷ []) from_is in
-    subst (λ (o : Option Rewound). Emits cluster (with_servers cluster known) had has (events_of cluster (kinds_of (option_map (rewinding member leader) o))) 1) (sym is)
-    (serving-took cluster (with_servers cluster known) (rewinding member leader rewind) tick had has tt tt (ap (with_servers cluster) (state ∙ rewound-told cluster.facts.servers place leader.id.number rewind is)) moment written)
+    ∙ ap (λ (s : ServerOf).
+    had +++ record { tick = tick; kind = kinds.Log (logs.Rewound s from rewind.kept rewind.at) } ∷ [])
+    server_is
+    ∙ ap (λ (s : ServerOf). had +++ record {
+      tick = tick;
+      kind = kinds.Log (logs.Rewound (server_of member) s rewind.kept rewind.at);
+    } ∷ []) from_is in
+    subst (λ (o : Option Rewound). Emits cluster (with_servers cluster known) had has
+    (events_of cluster (kinds_of (option_map (rewinding member leader) o))) 1)
+    (sym is)
+    (serving-took cluster (with_servers cluster known) (rewinding member leader rewind) tick had has tt tt
+    (ap (with_servers cluster) (state ∙ rewound-told cluster.facts.servers place leader.id.number rewind is))
+    moment written)
 
 not-may : (may : Bool) (x : Rewound) → cond may (Some x) None ≡ None → may ≡ false
 not-may false x e = refl
 not-may true x e = absurd (no-rewind x (sym e))
 
-not-rewound : (known : List ServerFacts) (place from : ℕ) (own source : Option ServerFacts) → slice_get known place ≡ own → slice_get known from ≡ source → rewind_between own source ≡ None → may_rewind_at known place from ≡ false
+not-rewound : (known : List ServerFacts) (place from : ℕ) (own source : Option ServerFacts)
+    → slice_get known place ≡ own → slice_get known from ≡ source → rewind_between own source ≡ None
+    → may_rewind_at known place from ≡ false
 not-rewound known place from None source p q e = rw p refl
 not-rewound known place from (Some s) None p q e = rw (p, q) refl
 not-rewound known place from (Some s) (Some source) p q e = rw (p, q) (not-may (may_rewind s source) _ e)
 
 -- nothing is rewound
 pub unrewound-took : (cluster : Cluster) (member leader : Member) (known : List ServerFacts) (had : Listed)
-    → rewind_at cluster.facts.servers member.id.number leader.id.number ≡ None → known ≡ rewound_at cluster.facts.servers member.id.number leader.id.number
-    → Emits cluster (with_servers cluster known) had had (events_of cluster (kinds_of (option_map (rewinding member leader) (rewind_at cluster.facts.servers member.id.number leader.id.number)))) 1
+    → rewind_at cluster.facts.servers member.id.number leader.id.number ≡ None
+    → known ≡ rewound_at cluster.facts.servers member.id.number leader.id.number
+    → Emits cluster (with_servers cluster known) had had
+    (events_of cluster
+    (kinds_of (option_map (rewinding member leader)
+    (rewind_at cluster.facts.servers member.id.number leader.id.number))))
+    1
 unrewound-took cluster member leader known had none state =
     let servers = cluster.facts.servers in
     let place = member.id.number in
     let from = leader.id.number in
     let may = not-rewound servers place from (slice_get servers place) (slice_get servers from) refl refl none in
-    let same : known ≡ servers = state ∙ ap (λ (b : Bool). cond b (changed_from servers place rewound (slice_get servers from)) servers) may in
-    subst (λ (o : Option Rewound). Emits cluster (with_servers cluster known) had had (events_of cluster (kinds_of (option_map (rewinding member leader) o))) 1) (sym none)
-    (subst (λ (s : List ServerFacts). Emits cluster (with_servers cluster s) had had [] 1) (sym same) (Emits-nothing cluster had 1))
+    let same : known ≡ servers = state
+    ∙ ap (λ (b : Bool). cond b (changed_from servers place rewound (slice_get servers from)) servers) may in
+    subst (λ (o : Option Rewound). Emits cluster (with_servers cluster known) had had
+    (events_of cluster (kinds_of (option_map (rewinding member leader) o))) 1)
+    (sym none)
+    (subst (λ (s : List ServerFacts). Emits cluster (with_servers cluster s) had had [] 1) (sym same)
+    (Emits-nothing cluster had 1))
 
 -- ---- a clone
 no-way : false ≡ true → ⊥
@@ -99,38 +133,65 @@ creating true accepts e = refl
 creating false accepts e = absurd (no-way e)
 
 copies : (s source : ServerFacts) → is_creating s.state ≡ true → cloned s source ≡ becomes_copy source s
-copies s source able = sym (ap (λ (b : Bool). cond b (cloned s source) (let other : ServerFacts = record s { log = source.log } in other)) able)
+copies s source able =
+    sym (ap (λ (b : Bool). cond b (cloned s source) (let other : ServerFacts = record s { log = source.log } in other))
+    able)
 
-cloned-by : (known : List ServerFacts) (place : ℕ) (own source : Option ServerFacts) → slice_get known place ≡ own → holds_between may_clone own source ≡ true → changed_from known place cloned source ≡ copied_by known place source
+cloned-by : (known : List ServerFacts) (place : ℕ) (own source : Option ServerFacts) → slice_get known place ≡ own
+    → holds_between may_clone own source ≡ true → changed_from known place cloned source ≡ copied_by known place source
 cloned-by known place None source p may = absurd (no-way may)
 cloned-by known place (Some s) None p may = absurd (no-way may)
 cloned-by known place (Some s) (Some source) p may =
-    same-change known place (λ t. cloned t source) (becomes_copy source) s p (copies s source (creating (is_creating s.state) (writes source.state) may))
+    same-change known place (λ t. cloned t source) (becomes_copy source) s p
+    (copies s source (creating (is_creating s.state) (writes source.state) may))
 
 -- the servers after a clone are as its event tells
-cloned-told : (known : List ServerFacts) (place from : ℕ) → may_clone_at known place from ≡ true → cloned_at known place from ≡ copied_by known place (slice_get known from)
+cloned-told : (known : List ServerFacts) (place from : ℕ) → may_clone_at known place from ≡ true
+    → cloned_at known place from ≡ copied_by known place (slice_get known from)
 cloned-told known place from may =
     ap (λ (b : Bool). cond b (changed_from known place cloned (slice_get known from)) known) may
     ∙ cloned-by known place (slice_get known place) (slice_get known from) refl may
 
-pub copied-took : (cluster : Cluster) (member leader : Member) (server from : ServerOf) (known : List ServerFacts) (tick : Ticks) (had has : Listed)
-    → may_clone_at cluster.facts.servers member.id.number leader.id.number ≡ true → known ≡ cloned_at cluster.facts.servers member.id.number leader.id.number
-    → server ≡ server_of member → from ≡ server_of leader → tick.0 ≡ cluster.facts.clock → has ≡ had +++ record { tick = tick; kind = kinds.Log (logs.Copied server from) } ∷ []
-    → Emits cluster (with_servers cluster known) had has (events_of cluster (kinds_of (if may_clone_at cluster.facts.servers member.id.number leader.id.number then Some (copying member leader) else None))) 1
+pub copied-took : (cluster : Cluster) (member leader : Member) (server from : ServerOf)
+    (known : List ServerFacts) (tick : Ticks) (had has : Listed)
+    → may_clone_at cluster.facts.servers member.id.number leader.id.number ≡ true
+    → known ≡ cloned_at cluster.facts.servers member.id.number leader.id.number
+    → server ≡ server_of member → from ≡ server_of leader → tick.0 ≡ cluster.facts.clock
+    → has ≡ had +++ record { tick = tick; kind = kinds.Log (logs.Copied server from) } ∷ []
+    → Emits cluster (with_servers cluster known) had has
+    (events_of cluster
+    (kinds_of (if may_clone_at cluster.facts.servers member.id.number leader.id.number
+    then Some (copying member leader) else None)))
+    1
 copied-took cluster member leader server from known tick had has may state server_is from_is moment has_is =
     let place = member.id.number in
     let written : has ≡ had +++ record { tick = tick; kind = copying member leader } ∷ [] = has_is
     ∙ ap (λ (s : ServerOf). had +++ record { tick = tick; kind = kinds.Log (logs.Copied s from) } ∷ []) server_is
-    ∙ ap (λ (s : ServerOf). had +++ record { tick = tick; kind = kinds.Log (logs.Copied (server_of member) s) } ∷ []) from_is in
-    subst (λ (b : Bool). Emits cluster (with_servers cluster known) had has (events_of cluster (kinds_of (if b then Some (copying member leader) else None))) 1) (sym may)
-    (serving-took cluster (with_servers cluster known) (copying member leader) tick had has tt tt (ap (with_servers cluster) (state ∙ cloned-told cluster.facts.servers place leader.id.number may)) moment written)
+    ∙ ap (λ (s : ServerOf). had +++ record { tick = tick; kind = kinds.Log (logs.Copied (server_of member) s) } ∷ [])
+    from_is in
+    subst (λ (b : Bool). Emits cluster (with_servers cluster known) had has
+    (events_of cluster (kinds_of (if b then Some (copying member leader) else None))) 1)
+    (sym may)
+    (serving-took cluster (with_servers cluster known) (copying member leader) tick had has tt tt
+    (ap (with_servers cluster) (state ∙ cloned-told cluster.facts.servers place leader.id.number may)) moment written)
 
 -- nothing is copied
 pub uncopied-took : (cluster : Cluster) (member leader : Member) (known : List ServerFacts) (had : Listed)
-    → may_clone_at cluster.facts.servers member.id.number leader.id.number ≡ false → known ≡ cloned_at cluster.facts.servers member.id.number leader.id.number
-    → Emits cluster (with_servers cluster known) had had (events_of cluster (kinds_of (if may_clone_at cluster.facts.servers member.id.number leader.id.number then Some (copying member leader) else None))) 1
+    → may_clone_at cluster.facts.servers member.id.number leader.id.number ≡ false
+    → known ≡ cloned_at cluster.facts.servers member.id.number leader.id.number
+    → Emits cluster (with_servers cluster known) had had
+    (events_of cluster
+    (kinds_of (if may_clone_at cluster.facts.servers member.id.number leader.id.number
+    then Some (copying member leader) else None)))
+    1
 uncopied-took cluster member leader known had may state =
     let servers = cluster.facts.servers in
-    let same : known ≡ servers = state ∙ ap (λ (b : Bool). cond b (changed_from servers member.id.number cloned (slice_get servers leader.id.number)) servers) may in
-    subst (λ (b : Bool). Emits cluster (with_servers cluster known) had had (events_of cluster (kinds_of (if b then Some (copying member leader) else None))) 1) (sym may)
-    (subst (λ (s : List ServerFacts). Emits cluster (with_servers cluster s) had had [] 1) (sym same) (Emits-nothing cluster had 1))
+    let same : known ≡ servers = state
+    ∙ ap (λ (b : Bool).
+    cond b (changed_from servers member.id.number cloned (slice_get servers leader.id.number)) servers)
+    may in
+    subst (λ (b : Bool). Emits cluster (with_servers cluster known) had had
+    (events_of cluster (kinds_of (if b then Some (copying member leader) else None))) 1)
+    (sym may)
+    (subst (λ (s : List ServerFacts). Emits cluster (with_servers cluster s) had had [] 1) (sym same)
+    (Emits-nothing cluster had 1))

@@ -5,5 +5,8 @@ use Rattle.cluster_model.specs.State.{Cluster}
 use Rattle.world_flight.specs.FlightIndex.{AreTended, IndexFacts, may_move}
 use Rattle.world_model.proofs.Silence.{kept-still}
 
-pub held-still : (cluster : Cluster) (index : IndexFacts) (number : ℕ) → AreTended index cluster.facts.flight cluster.facts.processes cluster.facts.cuts → may_move index number ≡ false → message_events cluster number ≡ []
-held-still cluster index number tended out = kept-still cluster number (λ message is. (tended number message is out).suspended)
+pub held-still : (cluster : Cluster) (index : IndexFacts) (number : ℕ)
+    → AreTended index cluster.facts.flight cluster.facts.processes cluster.facts.cuts
+    → may_move index number ≡ false → message_events cluster number ≡ []
+held-still cluster index number tended out =
+    kept-still cluster number (λ message is. (tended number message is out).suspended)

@@ -12,8 +12,10 @@ use Rattle.cluster_model.specs.State.{Cluster}
 abbrev pub agent_of : Cluster → MemberId → Option Outcome
 agent_of cluster id = option_and_then (standing_of cluster) (declared cluster id)
 
--- this view, or none, is what the agent of the member of this number shows at the cluster's moment: a view is there exactly where such an agent is
--- with its machine, and it shows them, and the newest snapshot that the agent knows
+-- this view, or none, is what the agent of the member of this number shows at the cluster's moment: a view is there
+-- exactly where such an agent is with its machine, and it shows them, and the newest snapshot that the agent knows
 pub record IsViewOf (cluster : Cluster) (id : MemberId) (view : Option AgentView) : Type 0 where
-  pub shows : option_map (λ (v : AgentView). let unread : AgentView = record v { seen = None } in unread) view ≡ option_map (shown (moment_of cluster)) (agent_of cluster id)
-  pub seen : option_and_then (λ (v : AgentView). option_copied v.seen) view ≡ option_and_then (λ (o : Outcome). o.knows.seen) (agent_of cluster id)
+  pub shows : option_map (λ (v : AgentView). let unread : AgentView = record v { seen = None } in unread) view
+      ≡ option_map (shown (moment_of cluster)) (agent_of cluster id)
+  pub seen : option_and_then (λ (v : AgentView). option_copied v.seen) view
+      ≡ option_and_then (λ (o : Outcome). o.knows.seen) (agent_of cluster id)

@@ -21,24 +21,30 @@ use Rattle.world_stage.specs.declared.arrival.Arrival.TheVariants as arrivals
 
 -- where a message of this number comes that goes to this receiver, and what an agent does on it
 abbrev pub ArrivesAt : Cluster → ℕ → InFlightFacts → LinkEnd → List Output → Arrival → Type 0
-ArrivesAt cluster number message link_ends.Store outputs (arrivals.AtStore stored) = (stored ≡ message.message) × (outputs ≡ [])
+ArrivesAt cluster number message link_ends.Store outputs (arrivals.AtStore stored) =
+    (stored ≡ message.message) × (outputs ≡ [])
 ArrivesAt cluster number message (link_ends.Member member) outputs (arrivals.AtAgent to heard) =
-    (to ≡ member) × (heard ≡ heard_message number message) × (outputs ≡ outputs_of (outcome_of_heard cluster member (heard_from cluster message)))
+    (to ≡ member) × (heard ≡ heard_message number message)
+    × (outputs ≡ outputs_of (outcome_of_heard cluster member (heard_from cluster message)))
 ArrivesAt cluster number message to outputs _ = ⊥
 
 -- it reached this receiver, where an agent acted on it
-pub record Reaches (before after : Cluster) (outputs : List Output) (number : ℕ) (message : InFlightFacts) (to : LinkEnd) (arrival : Arrival) : Type 0 where
+pub record Reaches (before after : Cluster) (outputs : List Output) (number : ℕ) (message : InFlightFacts)
+    (to : LinkEnd) (arrival : Arrival) : Type 0 where
   pub state : after ≡ record before { agents = agent_facts_reached_at before message to }
   pub arrives : ArrivesAt before number message to outputs arrival
 
 -- a message in flight came to its receiver, and that was written down
-pub record Comes (before after : Cluster) (had has : Listed) (outputs : List Output) (number : ℕ) (message : InFlightFacts) (arrival : Arrival) : Type 0 where
+pub record Comes (before after : Cluster) (had has : Listed) (outputs : List Output) (number : ℕ)
+    (message : InFlightFacts) (arrival : Arrival) : Type 0 where
   pub emits : Emits before after had has (event_of before (kinds.Message (Delivered number))) hearing_cost
   pub arrives : ArrivesAt before number message message.message.to outputs arrival
   pub sent : IsSent message
 
 -- it did where it was in flight, and else nothing happened
-abbrev pub Landed : Cluster → Cluster → Listed → Listed → List Output → ℕ → Option InFlightFacts → Option Arrival → Type 0
+abbrev pub Landed : Cluster → Cluster → Listed → Listed → List Output → ℕ → Option InFlightFacts
+    → Option Arrival → Type 0
 Landed before after had has outputs number None None = (after ≡ before) × (has ≡ had) × (outputs ≡ [])
-Landed before after had has outputs number (Some message) (Some arrival) = Comes before after had has outputs number message arrival
+Landed before after had has outputs number (Some message) (Some arrival) =
+    Comes before after had has outputs number message arrival
 Landed before after had has outputs number _ _ = ⊥

@@ -8,7 +8,12 @@ use Rattle.cluster_model.specs.declared.beginning.Completion.{Completion}
 use Rattle.cluster_model.specs.Beginnings.{completion_of}
 use Rattle.cluster_model.specs.State.{Cluster}
 
-pub completion-read : (cluster : Cluster) (member : Member) (now : Ticks) (known : List ServerFacts) (found : Option Completion) → now.0 ≡ cluster.facts.clock → known ≡ cluster.facts.servers
-    → found ≡ option_and_then (completion_of now.0) (slice_get known member.id.number) → option_and_then (completion_of cluster.facts.clock) (slice_get cluster.facts.servers member.id.number) ≡ found
+pub completion-read : (cluster : Cluster) (member : Member) (now : Ticks) (known : List ServerFacts)
+    (found : Option Completion) → now.0 ≡ cluster.facts.clock → known ≡ cluster.facts.servers
+    → found ≡ option_and_then (completion_of now.0) (slice_get known member.id.number)
+    → option_and_then (completion_of cluster.facts.clock) (slice_get cluster.facts.servers member.id.number) ≡ found
 completion-read cluster member now known found at servers is =
-    sym (is ∙ ap (λ (n : ℕ). option_and_then (completion_of n) (slice_get known member.id.number)) at ∙ ap (λ (ss : List ServerFacts). option_and_then (completion_of cluster.facts.clock) (slice_get ss member.id.number)) servers)
+    sym (is ∙ ap (λ (n : ℕ). option_and_then (completion_of n) (slice_get known member.id.number)) at
+    ∙ ap (λ (ss : List ServerFacts).
+    option_and_then (completion_of cluster.facts.clock) (slice_get ss member.id.number))
+    servers)

@@ -5,7 +5,9 @@ use Rattle.agent_answers.proofs.OperatorAnswers.{right-causes, step-decides, ste
 use Rattle.agent_answers.proofs.laws.refusals_and_delays_are_told_for_cause.Goals as goal
 
 pub returns-clause-causes : goal.returns-clause-causes
-returns-clause-causes c now points heard role knows machine = right-causes now heard (outcome_from role knows machine []) (step now points heard (outcome_from role knows machine [])) (step-right now points heard role knows machine)
+returns-clause-causes c now points heard role knows machine =
+    right-causes now heard (outcome_from role knows machine [])
+    (step now points heard (outcome_from role knows machine [])) (step-right now points heard role knows machine)
 
 pub returns-clause-decisions : goal.returns-clause-decisions
 returns-clause-decisions c now points heard role knows machine = step-decides now points heard role knows machine

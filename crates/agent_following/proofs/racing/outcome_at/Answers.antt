@@ -4,4 +4,6 @@ use Rattle.agent_model.proofs.Judging.{outcome-shown}
 use Rattle.agent_following.proofs.racing.outcome_at.Goals as goal
 
 pub returns : goal.returns
-returns c = outcome-shown c.view_of-view.result (view_of c.args.now c.args.word c.args.knows.now c.args.machine.now) c.args.knows.now.seen c.in-Some.seen c.args.knows.now.answers c.err.result (search rules) (search rules) (search rules)
+returns c = outcome-shown c.view_of-view.result
+    (view_of c.args.now c.args.word c.args.knows.now c.args.machine.now) c.args.knows.now.seen c.in-Some.seen
+    c.args.knows.now.answers c.err.result (search rules) (search rules) (search rules)

@@ -7,4 +7,5 @@ pub returns-clause-ends : goal.returns-clause-ends
 returns-clause-ends c now points heard o ends = input-ends now points heard o ends
 
 pub returns-clause-counted : goal.returns-clause-counted
-returns-clause-counted c now points heard o counted = input-counts now points heard o (step now points heard o) refl counted
+returns-clause-counted c now points heard o counted =
+    input-counts now points heard o (step now points heard o) refl counted

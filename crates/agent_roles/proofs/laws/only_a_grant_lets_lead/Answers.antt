@@ -17,10 +17,12 @@ pub returns-clause-answer : goal.returns-clause-answer
 returns-clause-answer c now points sequence answer o = answered-brings now sequence answer o
 
 pub returns-clause-failsafe_ask : goal.returns-clause-failsafe_ask
-returns-clause-failsafe_ask c now points from incarnation sequence ttl o = failsafe-asked-brings now from incarnation sequence ttl o
+returns-clause-failsafe_ask c now points from incarnation sequence ttl o =
+    failsafe-asked-brings now from incarnation sequence ttl o
 
 pub returns-clause-failsafe_answer : goal.returns-clause-failsafe_answer
-returns-clause-failsafe_answer c now points from sequence accepted sent o = failsafe-answered-brings now from sequence accepted sent o
+returns-clause-failsafe_answer c now points from sequence accepted sent o =
+    failsafe-answered-brings now from sequence accepted sent o
 
 pub returns-clause-action : goal.returns-clause-action
 returns-clause-action c now points action o = operated-brings now action o

@@ -18,10 +18,12 @@ pub returns-clause-answer : goal.returns-clause-answer
 returns-clause-answer c now points sequence answer o = answered-leaves now sequence answer o
 
 pub returns-clause-failsafe_ask : goal.returns-clause-failsafe_ask
-returns-clause-failsafe_ask c now points from incarnation sequence ttl o = request-leaves now from incarnation sequence ttl o
+returns-clause-failsafe_ask c now points from incarnation sequence ttl o =
+    request-leaves now from incarnation sequence ttl o
 
 pub returns-clause-failsafe_answer : goal.returns-clause-failsafe_answer
-returns-clause-failsafe_answer c now points from sequence accepted sent o = answer-leaves now from sequence accepted sent o
+returns-clause-failsafe_answer c now points from sequence accepted sent o =
+    answer-leaves now from sequence accepted sent o
 
 pub returns-clause-action : goal.returns-clause-action
 returns-clause-action c now points action o = operated-leaves now action o

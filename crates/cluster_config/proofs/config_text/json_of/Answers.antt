@@ -15,6 +15,7 @@ returns-in-Ok-clause-json c = rw (is_utf8-from_IsUtf8 c.args.bytes.now c.in-Ok.e
 pub returns-in_default : goal.returns-in_default
 returns-in_default c = record {
   json = no_json (is_utf8 c.args.bytes.now) (read c.args.bytes.now)
-      (λ e. c.in-Err.ensures.err (λ memory. c.in_default.not-Memory (c.classify.ensures.memory.1 memory)) (IsUtf8-from_is_utf8 c.args.bytes.now e));
+      (λ e. c.in-Err.ensures.err (λ memory. c.in_default.not-Memory (c.classify.ensures.memory.1 memory))
+      (IsUtf8-from_is_utf8 c.args.bytes.now e));
   nests = tt;
 }

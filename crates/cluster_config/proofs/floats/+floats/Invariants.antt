@@ -5,7 +5,9 @@ use Rattle.cluster_config.proofs.floats.+floats.Given as goal
 
 -- what is left has a float exactly where the whole has
 abbrev pub invariant-items_have_float-loop-item : goal.invariant-items_have_float-loop-item
-invariant-items_have_float-loop-item l = items_have_float (items_view l.item-items) ≡ items_have_float (items_view (drop l.item-index l.item-items))
+invariant-items_have_float-loop-item l =
+    items_have_float (items_view l.item-items) ≡ items_have_float (items_view (drop l.item-index l.item-items))
 
 abbrev pub invariant-members_have_float-loop-value : goal.invariant-members_have_float-loop-value
-invariant-members_have_float-loop-value l = members_have_float (members_view l.members.entries) ≡ members_have_float (members_view l.value-iterator)
+invariant-members_have_float-loop-value l =
+    members_have_float (members_view l.members.entries) ≡ members_have_float (members_view l.value-iterator)

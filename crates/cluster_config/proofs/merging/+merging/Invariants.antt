@@ -5,4 +5,5 @@ use Rattle.cluster_config.proofs.merging.+merging.Given as goal
 
 -- merging what is left gives the whole
 abbrev pub invariant-merged-loop-name : goal.invariant-merged-loop-name
-invariant-merged-loop-name l = merged (members_view l.object.entries) (members_view l.name-iterator) ≡ merged (members_view l.fn.present.entries) (members_view l.patch.entries)
+invariant-merged-loop-name l = merged (members_view l.object.entries) (members_view l.name-iterator)
+    ≡ merged (members_view l.fn.present.entries) (members_view l.patch.entries)

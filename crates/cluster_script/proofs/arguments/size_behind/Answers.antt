@@ -5,4 +5,5 @@ use Rattle.cluster_script.proofs.Behind.{word_behind-is}
 use Rattle.cluster_script.proofs.arguments.size_behind.Goals as goal
 
 pub returns : goal.returns
-returns c = word_behind-is _ _ commit_size_in _ _ _ _ _ (ap (λ o. option_copied o) c.in-Some.is) c.cut_word.ensures c.commit_size_in.ensures c.last_both.ensures
+returns c = word_behind-is _ _ commit_size_in _ _ _ _ _
+    (ap (λ o. option_copied o) c.in-Some.is) c.cut_word.ensures c.commit_size_in.ensures c.last_both.ensures

@@ -10,8 +10,10 @@ use Rattle.cluster_script.proofs.draft.apply.Goals as goal
 
 pub returns-in_ok-insert-in-Member-clause-members : goal.returns-in_ok-insert-in-Member-clause-members
 returns-in_ok-insert-in-Member-clause-members c =
-    let is_new : (length (members_in c.args.members.now.entries) < MOST_MEMBERS) × (place_of (member_names (members_in c.args.members.now.entries)) c.in-Member.name ≡ None) =
+    let is_new : (length (members_in c.args.members.now.entries) < MOST_MEMBERS)
+    × (place_of (member_names (members_in c.args.members.now.entries)) c.in-Member.name ≡ None) =
     subst (λ (a : Addition). IsNew (members_in c.args.members.now.entries) a) c.in-Member.is c.requires
     in
     rw c.in-Member.is (ap (λ es. members_in es) c.in_ok-insert-in-Member.ensures.entries
-    ∙ members-insert_entry _ c.in-Member.name c.in-Member.options (λ m. same_fields-Decides c.in-Member.name m) c.args.members.now.entries is_new.1)
+    ∙ members-insert_entry _ c.in-Member.name c.in-Member.options
+    (λ m. same_fields-Decides c.in-Member.name m) c.args.members.now.entries is_new.1)

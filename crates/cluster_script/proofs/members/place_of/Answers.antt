@@ -5,4 +5,5 @@ use Rattle.script_grammar.proofs.Places.{place_of-position}
 use Rattle.cluster_script.proofs.members.place_of.Goals as goal
 
 pub returns-clause-place : goal.returns-clause-place
-returns-clause-place c = c.get_index_of.ensures.index ∙ place_of-position _ c.args.name (λ m. same_fields-Decides c.args.name m) (keys c.args.members.now)
+returns-clause-place c = c.get_index_of.ensures.index
+    ∙ place_of-position _ c.args.name (λ m. same_fields-Decides c.args.name m) (keys c.args.members.now)

@@ -10,18 +10,23 @@ returns-clause-script g c =
     IfOk-weaker c.script_in.result _ _
     (λ script read all is.
     let front = sym (c.deref.ensures.value ∙ c.in_ok-bytes.ensures.bytes all is) in
-    let none = ap (limit_of c.args.waited) front ∙ read.0 in
-    (sym (limit_of-take c.args.waited all) ∙ none, ap script_of (sym (reads-all c.args.waited all none).0 ∙ front) ∙ read.1))
+    let none = ap (limit_of c.args.waited) front ∙ read.0 in (
+      sym (limit_of-take c.args.waited all) ∙ none,
+      ap script_of (sym (reads-all c.args.waited all none).0 ∙ front) ∙ read.1,
+    ))
     c.script_in.ensures.script
 
 pub returns-clause-end : goal.returns-clause-end
 returns-clause-end g c =
     IfOk-weaker c.script_in.result _ _
-    (λ script read all is. c.in_ok-bytes.ensures.after all is ∙ ap Some (reads-all c.args.waited all (ap (limit_of c.args.waited) (sym (c.deref.ensures.value ∙ c.in_ok-bytes.ensures.bytes all is)) ∙ read.0)).1)
+    (λ script read all is. c.in_ok-bytes.ensures.after all is ∙ ap Some
+    (reads-all c.args.waited all
+    (ap (limit_of c.args.waited) (sym (c.deref.ensures.value ∙ c.in_ok-bytes.ensures.bytes all is)) ∙ read.0)).1)
     c.script_in.ensures.script
 
 pub returns-clause-refuses : goal.returns-clause-refuses
 returns-clause-refuses g c =
     IfErr-weaker c.script_in.result _ _
-    (λ ending refuses all is. Refuses-all c.args.waited ending _ all (c.deref.ensures.value ∙ c.in_ok-bytes.ensures.bytes all is) refuses)
+    (λ ending refuses all is.
+    Refuses-all c.args.waited ending _ all (c.deref.ensures.value ∙ c.in_ok-bytes.ensures.bytes all is) refuses)
     c.script_in.ensures.refuses

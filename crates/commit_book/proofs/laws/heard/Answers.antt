@@ -2,4 +2,10 @@ use Rattle.commit_book.proofs.Hearing.{heard-snapshot, heard-lease, heard-write,
 use Rattle.commit_book.proofs.laws.heard.Goals as goal
 
 pub returns : goal.returns
-returns c = record { snapshot = heard-snapshot; leased = heard-lease; written = heard-write; other = heard-other; refused = heard-refused }
+returns c = record {
+  snapshot = heard-snapshot;
+  leased = heard-lease;
+  written = heard-write;
+  other = heard-other;
+  refused = heard-refused;
+}

@@ -7,5 +7,6 @@ pub returns : goal.returns
 returns c = record {
   alone = alone-moves;
   answers = answer-moves;
-  begins = λ setup past states cluster member s same sound ahead agents is with_data here. begin-moves setup past states cluster member same sound ahead agents s is with_data here;
+  begins = λ setup past states cluster member s same sound ahead agents is with_data here.
+      begin-moves setup past states cluster member same sound ahead agents s is with_data here;
 }

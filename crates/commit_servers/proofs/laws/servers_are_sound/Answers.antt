@@ -3,4 +3,13 @@ use Rattle.commit_servers.proofs.Keeping.{sound-by, leaves-sound, live-log, writ
 use Rattle.commit_servers.proofs.laws.servers_are_sound.Goals as goal
 
 pub returns : goal.returns
-returns c = record { first = sound-first; each = sound-by; may = leaves-sound; bytes = bytes-first; members = in-place; sets = set-within; writers = writes-live; logs = live-log }
+returns c = record {
+  first = sound-first;
+  each = sound-by;
+  may = leaves-sound;
+  bytes = bytes-first;
+  members = in-place;
+  sets = set-within;
+  writers = writes-live;
+  logs = live-log;
+}

@@ -2,4 +2,10 @@ use Rattle.lease_book.proofs.Hearing.{heard-snapshot, heard-granted, heard-refus
 use Rattle.lease_book.proofs.laws.heard.Goals as goal
 
 pub returns : goal.returns
-returns c = record { snapshot = heard-snapshot; granted = heard-granted; refused = heard-refused; failsafe_request = heard-failsafe_request; acknowledgement = heard-acknowledgement }
+returns c = record {
+  snapshot = heard-snapshot;
+  granted = heard-granted;
+  refused = heard-refused;
+  failsafe_request = heard-failsafe_request;
+  acknowledgement = heard-acknowledgement;
+}

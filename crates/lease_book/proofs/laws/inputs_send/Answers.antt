@@ -6,6 +6,7 @@ use Rattle.lease_book.proofs.laws.inputs_send.Goals as goal
 
 pub returns : goal.returns
 returns c = record {
-  flight = λ declared past volatile_states m input was agent events all. old-or-sent (MaySend (state_of declared past volatile_states) m input was agent) past.clock past events refl all;
+  flight = λ declared past volatile_states m input was agent events all.
+      old-or-sent (MaySend (state_of declared past volatile_states) m input was agent) past.clock past events refl all;
   gone = heard-gone;
 }

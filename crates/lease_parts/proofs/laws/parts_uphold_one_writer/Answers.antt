@@ -13,7 +13,8 @@ returns c = record {
   ticks = λ head is. keeps-tick head (few-names head is);
   receipts = keeps-receive-at-most;
   acknowledgements = keeps-acknowledge;
-  arrivals = λ head book cluster number message good found to. kept-store-arrival head book cluster number message good found to;
+  arrivals = λ head book cluster number message good found to.
+      kept-store-arrival head book cluster number message good found to;
   losses = λ head number book cluster good. kept-loss head book cluster number good;
   notes = λ head note book cluster good. kept-quiet head book cluster (kinds.Note note) tt good;
   restarts = λ head id is book cluster good. kept-restarts head (few-names head is) book cluster id good;

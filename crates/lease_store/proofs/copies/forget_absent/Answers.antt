@@ -8,4 +8,6 @@ use Rattle.lease_store.proofs.copies.forget_absent.Goals as goal
 pub returns-else-has_absent : goal.returns-else-has_absent
 returns-else-has_absent c =
     subst (λ (pairs : List (Key × KeyEntry)). AreCopies pairs c.args.copies.now)
-    (sym (all-present c.args.now.0 c.args.entries.now (λ some. sym c.if-has_absent.false ∙ c.has_absent.ensures.1 some))) c.requires.copies
+    (sym (all-present c.args.now.0 c.args.entries.now
+    (λ some. sym c.if-has_absent.false ∙ c.has_absent.ensures.1 some)))
+    c.requires.copies

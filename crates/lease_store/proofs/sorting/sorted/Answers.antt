@@ -8,7 +8,8 @@ use Rattle.lease_store.proofs.sorting.sorted.Goals as goal
 
 pub loop-key-preserved : goal.loop-key-preserved
 loop-key-preserved c =
-    ap (λ (ordered : List (Key × KeyEntry)). put_all ordered c.pop.new.self.items) (c.put.ensures.pairs ∙ ap (put key_cmp c.in-Some.key c.in-Some.stored) c.in_ok-reserve.ensures.items)
+    ap (λ (ordered : List (Key × KeyEntry)). put_all ordered c.pop.new.self.items)
+    (c.put.ensures.pairs ∙ ap (put key_cmp c.in-Some.key c.in-Some.stored) c.in_ok-reserve.ensures.items)
     ∙ sym (put_all-last c.loop-key.ordered.items c.pop.new.self.items (c.in-Some.key, c.in-Some.stored))
     ∙ ap (put_all c.loop-key.ordered.items) (sym c.in-Some.ensures.items)
     ∙ c.loop-key.invariant

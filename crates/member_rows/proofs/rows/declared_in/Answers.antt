@@ -5,5 +5,6 @@ use Rattle.member_rows.proofs.rows.declared_in.Goals as goal
 
 pub returns : goal.returns
 returns c =
-    let there : option_copied c.get.result ≡ slice_get c.members.result.now c.args.member.number = grind (arith, common_steps, gets) in
+    let there : option_copied c.get.result ≡ slice_get c.members.result.now c.args.member.number =
+    grind (arith, common_steps, gets) in
     c.copied.ensures ∙ there ∙ ap (λ members. slice_get members c.args.member.number) c.members.ensures

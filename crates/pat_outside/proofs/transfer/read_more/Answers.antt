@@ -3,7 +3,9 @@ use Rattle.std.proofs.lemmas.Bool.{false≢true}
 use Rattle.pat_outside.proofs.transfer.read_more.Goals as goal
 
 pub returns-in_err-count-clause-consumed : goal.returns-in_err-count-clause-consumed
-returns-in_err-count-clause-consumed g c = record { some = λ all told. (0, omega arith, c.in_err-count.ensures.same ∙ told) }
+returns-in_err-count-clause-consumed g c = record {
+  some = λ all told. (0, omega arith, c.in_err-count.ensures.same ∙ told);
+}
 
 pub returns-in_err-count-clause-fault : goal.returns-in_err-count-clause-fault
 returns-in_err-count-clause-fault g c _ = c.in_err-count.ensures.failed

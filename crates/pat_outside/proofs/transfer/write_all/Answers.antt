@@ -12,21 +12,26 @@ rest-fits : (bytes : List ℕ) (at n : ℕ) → length bytes ≤ n → length (t
 rest-fits bytes at n h = rw (slice_rest at bytes) (omega (arith, length-drop at bytes))
 
 -- a write failed that had no room for the rest
-Written-stop : {K : Type 0} {sink : Ghosts K} {a b c : K} {bytes : List ℕ} {at : ℕ} (final : Result (Unit {0}) Failed) → IsErr final → Written sink a b bytes at → sink.content c ≡ sink.content b → Rose (sink.faults b) (sink.faults c) → sink.faults b ≤ sink.faults c
-    → ((n : ℕ) → sink.can_take b n → length (take (length bytes - at) (drop at bytes)) ≤ n → ⊥) → Prints sink a c failed final bytes
+Written-stop : {K : Type 0} {sink : Ghosts K} {a b c : K} {bytes : List ℕ} {at : ℕ} (final : Result (Unit {0}) Failed)
+    → IsErr final → Written sink a b bytes at → sink.content c ≡ sink.content b
+    → Rose (sink.faults b) (sink.faults c) → sink.faults b ≤ sink.faults c
+    → ((n : ℕ) → sink.can_take b n → length (take (length bytes - at) (drop at bytes)) ≤ n → ⊥)
+    → Prints sink a c failed final bytes
 Written-stop (Ok x) is w same rose grows full = absurd (no is)
   where
     no : IsErr {E = Failed} (Ok x) → ⊥
     no e = cc
-Written-stop {sink = sink} {a = a} {b = b} {c = c} {bytes = bytes} {at = at} (Err e) is w same rose grows full = record {
-  ok = tt;
-  part = Grew-front (sink.content a) (sink.content b) (sink.content c) bytes at w.grew same;
-  write = λ e. Rose-earlier (sink.faults a) (sink.faults b) (sink.faults c) w.grows rose;
-  grows = omega (arith, w.grows);
-  room = λ n can fits. absurd (full (n - at) (w.room n can fits) (rest-fits bytes at n fits));
-}
+Written-stop {sink = sink} {a = a} {b = b} {c = c} {bytes = bytes} {at = at} (Err e) is w same rose grows full =
+    record {
+      ok = tt;
+      part = Grew-front (sink.content a) (sink.content b) (sink.content c) bytes at w.grew same;
+      write = λ e. Rose-earlier (sink.faults a) (sink.faults b) (sink.faults c) w.grows rose;
+      grows = omega (arith, w.grows);
+      room = λ n can fits. absurd (full (n - at) (w.room n can fits) (rest-fits bytes at n fits));
+    }
 
-Written-end : {K : Type 0} {sink : Ghosts K} {a b : K} {bytes : List ℕ} {at : ℕ} → Written sink a b bytes at → length bytes ≤ at → Prints {X = Unit {0}} sink a b failed (Ok tt) bytes
+Written-end : {K : Type 0} {sink : Ghosts K} {a b : K} {bytes : List ℕ} {at : ℕ} → Written sink a b bytes at
+    → length bytes ≤ at → Prints {X = Unit {0}} sink a b failed (Ok tt) bytes
 Written-end {sink = sink} {a = a} {b = b} {bytes = bytes} {at = at} w end = record {
   ok = subst (λ (t : List ℕ). Grew (sink.content a) (sink.content b) t) (take_all at bytes end) w.grew;
   part = tt;
@@ -39,18 +44,21 @@ Written-end {sink = sink} {a = a} {b = b} {bytes = bytes} {at = at} w end = reco
 
 pub loop-at-preserved : goal.loop-at-preserved
 loop-at-preserved g c = record {
-  within = within-more c.args.bytes.now c.loop-at.at c.in_ok-at.field-0 c.loop-at.invariant.within c.in_ok-at.ensures.within;
+  within =
+      within-more c.args.bytes.now c.loop-at.at c.in_ok-at.field-0 c.loop-at.invariant.within c.in_ok-at.ensures.within;
   grew = Grew-more _ _ _ _ c.loop-at.at c.in_ok-at.field-0 c.loop-at.invariant.grew c.in_ok-at.ensures.grown;
   grows = omega arith;
   room = λ n could all.
-      let taken = c.in_ok-at.ensures.room (n - c.loop-at.at) (c.loop-at.invariant.room n could all) (rest-fits c.args.bytes.now c.loop-at.at n all) in
+      let taken = c.in_ok-at.ensures.room (n - c.loop-at.at) (c.loop-at.invariant.room n could all)
+      (rest-fits c.args.bytes.now c.loop-at.at n all) in
       let e : (n - c.loop-at.at) - c.in_ok-at.field-0 ≡ n - (c.loop-at.at + c.in_ok-at.field-0) = omega arith in
       rw (← e) taken;
 }
 
 pub returns-in_err-at : goal.returns-in_err-at
 returns-in_err-at g c =
-    Written-stop c.from_residual.result c.from_residual.ensures.0 c.loop-at.invariant c.in_err-at.ensures.same c.in_err-at.ensures.failed c.write.ensures.grows
+    Written-stop c.from_residual.result c.from_residual.ensures.0 c.loop-at.invariant c.in_err-at.ensures.same
+    c.in_err-at.ensures.failed c.write.ensures.grows
     (λ n can fits. c.in_err-at.ensures.room n can fits)
 
 pub returns : goal.returns

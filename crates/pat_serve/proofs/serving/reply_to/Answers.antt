@@ -11,7 +11,8 @@ use Rattle.pat_serve.proofs.Replied.{first-waits, replied-later, replied-so}
 use Rattle.pat_serve.proofs.serving.reply_to.Goals as goal
 
 pub bring-requires-clause-room : goal.bring-requires-clause-room
-bring-requires-clause-room g c = steps-left-fewer (g.W.Simulation.facts c.args.world.now) (most_waiting + 2) 1 (omega arith) c.requires.room
+bring-requires-clause-room g c =
+    steps-left-fewer (g.W.Simulation.facts c.args.world.now) (most_waiting + 2) 1 (omega arith) c.requires.room
 
 pub returns-in_err-reply-clause-brings : goal.returns-in_err-reply-clause-brings
 returns-in_err-reply-clause-brings g c =
@@ -19,22 +20,30 @@ returns-in_err-reply-clause-brings g c =
     none-brought c.from_residual.result _ p.0 p.1
 
 pub awaited_reply-requires-clause-room : goal.awaited_reply-requires-clause-room
-awaited_reply-requires-clause-room g c = room-behind (g.W.Simulation.facts c.args.world.now) (g.W.Simulation.facts c.bring.new.world) _ _ (steps.Connection c.args.member c.args.visit ∷ []) (most_waiting + 2) (most_waiting + 1) c.in_ok-reply.ensures.brings (omega arith) c.requires.room
+awaited_reply-requires-clause-room g c = room-behind (g.W.Simulation.facts c.args.world.now)
+    (g.W.Simulation.facts c.bring.new.world) _ _ (steps.Connection c.args.member c.args.visit ∷ [])
+    (most_waiting + 2) (most_waiting + 1) c.in_ok-reply.ensures.brings (omega arith) c.requires.room
 
 pub awaited_reply-requires-clause-declared : goal.awaited_reply-requires-clause-declared
-awaited_reply-requires-clause-declared g c = brings-declared (g.W.Simulation.facts c.args.world.now) (g.W.Simulation.facts c.bring.new.world) _ _ (steps.Connection c.args.member c.args.visit ∷ []) c.args.member c.in_ok-reply.ensures.brings c.requires.declared
+awaited_reply-requires-clause-declared g c =
+    brings-declared (g.W.Simulation.facts c.args.world.now) (g.W.Simulation.facts c.bring.new.world) _ _
+    (steps.Connection c.args.member c.args.visit ∷ []) c.args.member c.in_ok-reply.ensures.brings c.requires.declared
 
 pub returns-in-Some-clause-brings : goal.returns-in-Some-clause-brings
 returns-in-Some-clause-brings g c =
     let told = sym c.in_ok-reply.ensures.replied ∙ ap (option_map reply_text) c.in-Some.is in
-    brings-so (sym (first-replied (g.W.Simulation.facts c.args.world.now).cluster c.args.member c.args.visit (reply_text c.in-Some.reply) told)) c.in_ok-reply.ensures.brings
+    brings-so (sym (first-replied (g.W.Simulation.facts c.args.world.now).cluster c.args.member c.args.visit
+    (reply_text c.in-Some.reply) told))
+    c.in_ok-reply.ensures.brings
 
 pub returns-in-Some-clause-replied : goal.returns-in-Some-clause-replied
 returns-in-Some-clause-replied g c =
     let cluster = (g.W.Simulation.facts c.args.world.now).cluster in
     let told = sym c.in_ok-reply.ensures.replied ∙ ap (option_map reply_text) c.in-Some.is in
-    sym (replied-once cluster c.args.member (steps.Connection c.args.member c.args.visit) (reply_text c.in-Some.reply) told)
-    ∙ ap (replied cluster c.args.member) (sym (first-replied cluster c.args.member c.args.visit (reply_text c.in-Some.reply) told))
+    sym (replied-once cluster c.args.member (steps.Connection c.args.member c.args.visit)
+    (reply_text c.in-Some.reply) told)
+    ∙ ap (replied cluster c.args.member)
+    (sym (first-replied cluster c.args.member c.args.visit (reply_text c.in-Some.reply) told))
 
 pub returns-in-None-clause-brings : goal.returns-in-None-clause-brings
 returns-in-None-clause-brings g c =
@@ -44,7 +53,9 @@ returns-in-None-clause-brings g c =
     let first = c.in_ok-reply.ensures.brings in
     on_ok_weaker c.awaited_reply.result
     (λ b. brings-so (sym (first-waits before.cluster later.cluster c.args.member c.args.visit first.cluster none))
-    (Brings-then before later (g.W.Simulation.facts c.awaited_reply.new.world) _ _ _ (steps.Connection c.args.member c.args.visit ∷ []) (waiting_steps later.cluster c.args.member most_waiting) first b))
+    (Brings-then before later (g.W.Simulation.facts c.awaited_reply.new.world) _ _ _
+    (steps.Connection c.args.member c.args.visit ∷ [])
+    (waiting_steps later.cluster c.args.member most_waiting) first b))
     c.awaited_reply.ensures.brings
 
 pub returns-in-None-clause-replied : goal.returns-in-None-clause-replied
@@ -54,6 +65,8 @@ returns-in-None-clause-replied g c =
     let none = sym c.in_ok-reply.ensures.replied ∙ ap (option_map reply_text) c.in-None.is in
     let comes = c.in_ok-reply.ensures.brings.cluster in
     replied-so c.awaited_reply.result
-    (sym (replied-later before.cluster later.cluster c.args.member (steps.Connection c.args.member c.args.visit) (waiting_steps later.cluster c.args.member most_waiting) comes none)
-    ∙ ap (replied before.cluster c.args.member) (sym (first-waits before.cluster later.cluster c.args.member c.args.visit comes none)))
+    (sym (replied-later before.cluster later.cluster c.args.member (steps.Connection c.args.member c.args.visit)
+    (waiting_steps later.cluster c.args.member most_waiting) comes none)
+    ∙ ap (replied before.cluster c.args.member)
+    (sym (first-waits before.cluster later.cluster c.args.member c.args.visit comes none)))
     c.awaited_reply.ensures.replied

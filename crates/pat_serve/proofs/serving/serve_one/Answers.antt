@@ -5,5 +5,11 @@ use Rattle.pat_serve.proofs.serving.serve_one.Goals as goal
 pub returns-clause-serves : goal.returns-clause-serves
 returns-clause-serves g c =
     on_ok_weaker c.serve_present-served.result
-    (λ s. (s.0, s.1, serves-ended g.D.Door c.args.door.now c.serve_present-served.new.door c.hang_up.new.self (g.W.Simulation.facts c.args.world.now).cluster c.args.member s.0 s.2 c.hang_up.ensures.after c.hang_up.ensures.line))
+    (λ s. (
+      s.0,
+      s.1,
+      serves-ended g.D.Door c.args.door.now c.serve_present-served.new.door c.hang_up.new.self
+          (g.W.Simulation.facts c.args.world.now).cluster c.args.member s.0 s.2 c.hang_up.ensures.after
+          c.hang_up.ensures.line,
+    ))
     c.serve_present-served.ensures.serves

@@ -13,7 +13,8 @@ returns-in_err-asks-clause-serves g c =
     none-brought c.from_residual.result _ p.0 p.1
 
 pub fail-requires-clause-room : goal.fail-requires-clause-room
-fail-requires-clause-room g c = steps-left-fewer (g.W.Simulation.facts c.args.world.now) connection_cost 1 (omega arith) c.requires.room
+fail-requires-clause-room g c =
+    steps-left-fewer (g.W.Simulation.facts c.args.world.now) connection_cost 1 (omega arith) c.requires.room
 
 pub returns-in-Some-clause-serves : goal.returns-in-Some-clause-serves
 returns-in-Some-clause-serves g c =
@@ -22,8 +23,11 @@ returns-in-Some-clause-serves g c =
     (λ a. (
       connection_of c.in-Some.asks (course_of a.0),
       a.1.brings,
-      serves-answered g.D.Door c.args.door.now c.asked_on.new.door c.answer_to.new.door (g.W.Simulation.facts c.args.world.now) (g.W.Simulation.facts c.answer_to.new.world) _ _ c.args.member c.in-Some.asks a.0
-          known c.in_ok-asks.ensures.left c.in_ok-asks.ensures.grows (λ n takes. (c.in_ok-asks.ensures.reliable n takes).0) a.1,
+      serves-answered g.D.Door c.args.door.now c.asked_on.new.door c.answer_to.new.door
+          (g.W.Simulation.facts c.args.world.now)
+          (g.W.Simulation.facts c.answer_to.new.world) _ _ c.args.member c.in-Some.asks a.0
+          known c.in_ok-asks.ensures.left c.in_ok-asks.ensures.grows
+          (λ n takes. (c.in_ok-asks.ensures.reliable n takes).0) a.1,
     ))
     c.answer_to.ensures.answers
 
@@ -33,7 +37,9 @@ returns-in-None-clause-serves g c =
     (λ b. (
       unread,
       b,
-      serves-unread g.D.Door c.args.door.now c.asked_on.new.door (g.W.Simulation.facts c.args.world.now).cluster c.args.member
-          c.in_ok-asks.ensures.left (c.in_ok-asks.ensures.failed c.in-None.is) (λ n takes. (c.in_ok-asks.ensures.reliable n takes).1 (ap Ok c.in-None.is)),
+      serves-unread g.D.Door c.args.door.now c.asked_on.new.door
+          (g.W.Simulation.facts c.args.world.now).cluster c.args.member
+          c.in_ok-asks.ensures.left (c.in_ok-asks.ensures.failed c.in-None.is)
+          (λ n takes. (c.in_ok-asks.ensures.reliable n takes).1 (ap Ok c.in-None.is)),
     ))
     c.fail.ensures

@@ -10,4 +10,7 @@ returns-clause-replied g c =
     let member = c.args.member in
     let has : Listed = c.step.new.events in
     c.in_ok-reply.ensures ∙ ap (reply_in member) c.kept.ensures ∙ kept-reply has.traced member has.items
-    ∙ ap (λ (l : Listed). reply_in member l.items) (c.in_ok-step.ensures.emits.event ∙ ap (λ (l : Listed). l +++ next_events (g.W.Simulation.facts c.args.world.now).cluster c.args.step.now) c.new-brought.ensures)
+    ∙ ap (λ (l : Listed). reply_in member l.items)
+    (c.in_ok-step.ensures.emits.event
+    ∙ ap (λ (l : Listed). l +++ next_events (g.W.Simulation.facts c.args.world.now).cluster c.args.step.now)
+    c.new-brought.ensures)

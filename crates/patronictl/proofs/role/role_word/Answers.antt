@@ -9,5 +9,6 @@ pub returns : goal.returns
 returns c =
     c.word_of.ensures
     ∙ ap word_of c.unwrap_or.ensures
-    ∙ ap (λ found. word_of (unwrap_or found REPLICA)) (c.first.ensures.first ∙ ap (λ facts. first_answer facts role_rows) c.fact_word.ensures)
+    ∙ ap (λ found. word_of (unwrap_or found REPLICA))
+    (c.first.ensures.first ∙ ap (λ facts. first_answer facts role_rows) c.fact_word.ensures)
     ∙ table-words c.args.leads c.args.standby

@@ -7,4 +7,5 @@ abbrev pub invariant-loop-part : goal.invariant-loop-part
 invariant-loop-part l = string_bytes l.body ≡ flat_map opened (map (λ part. part.now) (take l.part-index l.path))
 
 abbrev pub invariant-loop-step : goal.invariant-loop-step
-invariant-loop-step l = string_bytes l.body ≡ flat_map opened (map (λ part. part.now) l.path) ++ (l.value ++ replicate l._step 125)
+invariant-loop-step l =
+    string_bytes l.body ≡ flat_map opened (map (λ part. part.now) l.path) ++ (l.value ++ replicate l._step 125)

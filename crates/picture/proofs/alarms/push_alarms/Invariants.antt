@@ -5,4 +5,5 @@ use Rattle.picture.proofs.alarms.push_alarms.Given as goal
 
 abbrev pub invariant-loop-line : goal.invariant-loop-line
 invariant-loop-line l =
-    string_bytes l.out ++ forest_text (alarms_tree l.frame.end l.height l.sights (drop l.line-index l.answers)) ≡ string_bytes l.fn.out ++ forest_text (alarms_tree l.frame.end l.height l.sights l.answers)
+    string_bytes l.out ++ forest_text (alarms_tree l.frame.end l.height l.sights (drop l.line-index l.answers))
+    ≡ string_bytes l.fn.out ++ forest_text (alarms_tree l.frame.end l.height l.sights l.answers)

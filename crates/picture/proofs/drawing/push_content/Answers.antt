@@ -5,7 +5,10 @@ use Rattle.picture.proofs.drawing.push_content.Goals as goal
 
 pub returns : goal.returns
 returns c =
-    content-grew c.args.run.now (string_bytes c.args.out.now) (string_bytes c.push_upper.new.out) (string_bytes c.push_axis_with_alarms.new.out) (string_bytes c.push_legend.new.out) c.of-frame.result.end c.lanes_height-height.result c.names-2.result.now c.sights.result.now c.sights-2.result.now c.answers.result.now c.answers-2.result.now c.left_out.result (record {
+    content-grew c.args.run.now (string_bytes c.args.out.now) (string_bytes c.push_upper.new.out)
+    (string_bytes c.push_axis_with_alarms.new.out)
+    (string_bytes c.push_legend.new.out) c.of-frame.result.end c.lanes_height-height.result c.names-2.result.now
+    c.sights.result.now c.sights-2.result.now c.answers.result.now c.answers-2.result.now c.left_out.result (record {
       end_is = c.of-frame.ensures;
       height_is = c.lanes_height-height.ensures.value ∙ ap (λ names. lanes_height (length names)) c.names.ensures.value;
       names_are = c.names-2.ensures.value;

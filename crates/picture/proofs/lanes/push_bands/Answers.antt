@@ -12,6 +12,10 @@ returns c =
     let lane = c.args.lane in
     let y = c.args.y in
     let sights = c.args.sights.now in
-    grew_by_both (string_bytes c.args.out.now) (string_bytes c.push_band-2.new.out) (string_bytes c.push_band-3.new.out) (beside (band_tree end Server lane (y + 18) 14 sights) (band_tree end Key lane (y + 34) 6 sights)) (band_tree end Agent lane (y + 42) 6 sights)
-    (grew_by_both (string_bytes c.args.out.now) (string_bytes c.push_band.new.out) (string_bytes c.push_band-2.new.out) (band_tree end Server lane (y + 18) 14 sights) (band_tree end Key lane (y + 34) 6 sights) c.in_ok-push_band.ensures c.in_ok-push_band-2.ensures)
+    grew_by_both (string_bytes c.args.out.now) (string_bytes c.push_band-2.new.out) (string_bytes c.push_band-3.new.out)
+    (beside (band_tree end Server lane (y + 18) 14 sights) (band_tree end Key lane (y + 34) 6 sights))
+    (band_tree end Agent lane (y + 42) 6 sights)
+    (grew_by_both (string_bytes c.args.out.now) (string_bytes c.push_band.new.out)
+    (string_bytes c.push_band-2.new.out) (band_tree end Server lane (y + 18) 14 sights)
+    (band_tree end Key lane (y + 34) 6 sights) c.in_ok-push_band.ensures c.in_ok-push_band-2.ensures)
     c.in_ok-push_band-3.ensures

@@ -13,4 +13,6 @@ unfolding ground_tree
 returns c =
     let area : Area = record { x = LEFT; y = c.args.y + 16; width = AXIS; height = 34 } in
     let spot : Spot = record { x = 8; y = c.args.y + 30 } in
-    grew_by_both (string_bytes c.args.out.now) (string_bytes c.push_rect.new.out) (string_bytes c.push_label.new.out) (rect_tree area Ground c.args.name.now) (label_tree spot Heading c.args.name.now) c.in_ok-push_rect.ensures c.in_ok-push_label.ensures
+    grew_by_both (string_bytes c.args.out.now) (string_bytes c.push_rect.new.out)
+    (string_bytes c.push_label.new.out) (rect_tree area Ground c.args.name.now)
+    (label_tree spot Heading c.args.name.now) c.in_ok-push_rect.ensures c.in_ok-push_label.ensures

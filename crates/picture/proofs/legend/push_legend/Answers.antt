@@ -9,6 +9,8 @@ pub returns : goal.returns
 unfolding legend_tree
 returns c =
     let y = c.args.y in
-    grew_by_both (string_bytes c.args.out.now) (string_bytes c.push_left.new.out) (string_bytes c.push_answers.new.out) (beside (keys_tree y) (left_tree (y + 2 * LINE) c.args.left_out)) (answers_tree (y + 3 * LINE) c.args.answers.now)
-    (grew_by_both (string_bytes c.args.out.now) (string_bytes c.push_keys.new.out) (string_bytes c.push_left.new.out) (keys_tree y) (left_tree (y + 2 * LINE) c.args.left_out) c.in_ok-push_keys.ensures c.in_ok-push_left.ensures)
+    grew_by_both (string_bytes c.args.out.now) (string_bytes c.push_left.new.out) (string_bytes c.push_answers.new.out)
+    (beside (keys_tree y) (left_tree (y + 2 * LINE) c.args.left_out)) (answers_tree (y + 3 * LINE) c.args.answers.now)
+    (grew_by_both (string_bytes c.args.out.now) (string_bytes c.push_keys.new.out) (string_bytes c.push_left.new.out)
+    (keys_tree y) (left_tree (y + 2 * LINE) c.args.left_out) c.in_ok-push_keys.ensures c.in_ok-push_left.ensures)
     c.in_ok-push_answers.ensures

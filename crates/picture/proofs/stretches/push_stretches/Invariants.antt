@@ -5,4 +5,5 @@ use Rattle.picture.proofs.stretches.push_stretches.Given as goal
 
 abbrev pub invariant-loop-sight : goal.invariant-loop-sight
 invariant-loop-sight l =
-    string_bytes l.out ++ forest_text (stretches_tree l.frame.end l.height l.last (drop l.sight-index l.sights)) ≡ string_bytes l.fn.out ++ forest_text (stretches_tree l.frame.end l.height 0 l.sights)
+    string_bytes l.out ++ forest_text (stretches_tree l.frame.end l.height l.last (drop l.sight-index l.sights))
+    ≡ string_bytes l.fn.out ++ forest_text (stretches_tree l.frame.end l.height 0 l.sights)

@@ -7,7 +7,9 @@ use Rattle.rest_answer.proofs.Deciding.{check-passes, fault-passes}
 use Rattle.rest_answer.proofs.decisions.configuring.Goals as goal
 
 pub returns-in-Ok : goal.returns-in-Ok
-returns-in-Ok c = λ answer answers. check-passes requests.Configuration c.in-Ok.config answer (subst (λ (r : Result Settings CheckFault). Answers r answer) c.in-Ok.is answers)
+returns-in-Ok c = λ answer answers. check-passes requests.Configuration c.in-Ok.config answer
+    (subst (λ (r : Result Settings CheckFault). Answers r answer) c.in-Ok.is answers)
 
 pub returns-in-Err : goal.returns-in-Err
-returns-in-Err c = λ answer answers. fault-passes requests.Configuration c.in-Err.fault answer (subst (λ (r : Result Settings CheckFault). Answers r answer) c.in-Err.is answers)
+returns-in-Err c = λ answer answers. fault-passes requests.Configuration c.in-Err.fault answer
+    (subst (λ (r : Result Settings CheckFault). Answers r answer) c.in-Err.is answers)

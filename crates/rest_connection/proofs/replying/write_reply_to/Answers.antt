@@ -5,4 +5,5 @@ use Rattle.rest_connection.proofs.Writing.{front-nothing}
 use Rattle.rest_connection.proofs.replying.write_reply_to.Goals as goal
 
 pub returns-in_err-bytes-clause-front : goal.returns-in_err-bytes-clause-front
-returns-in_err-bytes-clause-front g c = OnErr-holds _ (front-nothing (g.D.Door.told c.args.door.now) (reply_bytes (reply_text c.args.reply.now) c.args.head_only))
+returns-in_err-bytes-clause-front g c = OnErr-holds _
+    (front-nothing (g.D.Door.told c.args.door.now) (reply_bytes (reply_text c.args.reply.now) c.args.head_only))

@@ -25,14 +25,18 @@ returns-in_err-at-clause-front g c =
 
 pub loop-at-preserved : goal.loop-at-preserved
 loop-at-preserved g c = record {
-  within = within-more c.args.bytes.now c.loop-at.at c.in_ok-at.field-0 c.loop-at.invariant.within c.in_ok-at.ensures.within;
-  grew = written-more _ _ _ c.args.bytes.now c.loop-at.at c.in_ok-at.field-0 c.loop-at.invariant.grew c.in_ok-at.ensures.grown;
-  present = λ some facts is. c.in_ok-at.ensures.present (after_write (take c.loop-at.at c.args.bytes.now) facts) (c.loop-at.invariant.grew facts is);
+  within =
+      within-more c.args.bytes.now c.loop-at.at c.in_ok-at.field-0 c.loop-at.invariant.within c.in_ok-at.ensures.within;
+  grew = written-more _ _ _ c.args.bytes.now c.loop-at.at c.in_ok-at.field-0 c.loop-at.invariant.grew
+      c.in_ok-at.ensures.grown;
+  present = λ some facts is. c.in_ok-at.ensures.present (after_write (take c.loop-at.at c.args.bytes.now) facts)
+      (c.loop-at.invariant.grew facts is);
   grows = omega arith;
   calm = c.write.ensures.door ∙ c.loop-at.invariant.calm;
   served = λ n serves. c.write.ensures.served n (c.loop-at.invariant.served n serves);
   room = λ n takes all.
-      let taken = c.in_ok-at.ensures.room (n - c.loop-at.at) (c.loop-at.invariant.room n takes all) (rest-fits c.args.bytes.now c.loop-at.at n all) in
+      let taken = c.in_ok-at.ensures.room (n - c.loop-at.at) (c.loop-at.invariant.room n takes all)
+      (rest-fits c.args.bytes.now c.loop-at.at n all) in
       let e : (n - c.loop-at.at) - c.in_ok-at.field-0 ≡ n - (c.loop-at.at + c.in_ok-at.field-0) = omega arith in
       rw (← e) taken;
 }

@@ -8,4 +8,6 @@ returns-clause-named c = λ view seen lag. ok-where _ (Decides-and _ _ (load-dec
 pub returns-clause-unnamed : goal.returns-clause-unnamed
 returns-clause-unnamed c = λ view seen lag.
     let unnamed = Decides-and _ _ (load-decides view) (Decides-not _ (standby-decides view seen)) in
-    ok-where _ (Decides-like _ (λ all. (all.0.0, all.0.1, all.1)) (λ all. ((all.0, all.1), all.2)) (Decides-and _ _ unnamed (lag-decides view seen lag)))
+    ok-where _
+    (Decides-like _ (λ all. (all.0.0, all.0.1, all.1)) (λ all. ((all.0, all.1), all.2))
+    (Decides-and _ _ unnamed (lag-decides view seen lag)))

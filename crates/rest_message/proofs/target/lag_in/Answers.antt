@@ -8,7 +8,8 @@ pub returns-then-is_some : goal.returns-then-is_some
 returns-then-is_some c =
     let next = next-parameter c.parameters.rest.now c.in-Some.place (sym c.separator_in.ensures ∙ c.in-Some.is) in
     sym (sym c.parameters.invariant ∙ (next
-    ∙ (ap (λ value. option_or value (lag_in (drop (c.in-Some.place + 1) c.parameters.rest.now))) (sym (c.lag_value-value.ensures ∙ ap lag_value c.before-in-Some.ensures))
+    ∙ (ap (λ value. option_or value (lag_in (drop (c.in-Some.place + 1) c.parameters.rest.now)))
+    (sym (c.lag_value-value.ensures ∙ ap lag_value c.before-in-Some.ensures))
     ∙ found-here (λ x. x.now) c.lag_value-value.result _ (sym c.is_some.ensures ∙ c.if-is_some.true))))
 
 pub parameters-preserved : goal.parameters-preserved
@@ -16,9 +17,12 @@ parameters-preserved c =
     let next = next-parameter c.parameters.rest.now c.in-Some.place (sym c.separator_in.ensures ∙ c.in-Some.is) in
     ap lag_in c.behind-rest.ensures
     ∙ (sym (found-later (λ x. x.now) c.lag_value-value.result _ (sym c.is_some.ensures ∙ c.if-is_some.false))
-    ∙ (ap (λ value. option_or value (lag_in (drop (c.in-Some.place + 1) c.parameters.rest.now))) (c.lag_value-value.ensures ∙ ap lag_value c.before-in-Some.ensures)
+    ∙ (ap (λ value. option_or value (lag_in (drop (c.in-Some.place + 1) c.parameters.rest.now)))
+    (c.lag_value-value.ensures ∙ ap lag_value c.before-in-Some.ensures)
     ∙ (sym next ∙ c.parameters.invariant)))
 
 pub returns : goal.returns
 returns c =
-    c.lag_value.ensures ∙ (sym (last-parameter c.parameters.rest.now (sym c.separator_in.ensures ∙ c.in_default.is)) ∙ c.parameters.invariant)
+    c.lag_value.ensures
+    ∙ (sym (last-parameter c.parameters.rest.now (sym c.separator_in.ensures ∙ c.in_default.is))
+    ∙ c.parameters.invariant)

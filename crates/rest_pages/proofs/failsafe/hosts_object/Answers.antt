@@ -10,5 +10,6 @@ pub loop-number-preserved : goal.loop-number-preserved
 loop-number-preserved c =
     c.in_ok-put_found.ensures
     ∙ ap (with_found with_host (object_members c.loop-number.hosts)) c.listed_numbered.ensures
-    ∙ ap (λ hosts. with_found with_host hosts (listed_numbered c.args.snapshot.now c.args.members c.loop-number.number)) c.loop-number.invariant
+    ∙ ap (λ hosts. with_found with_host hosts (listed_numbered c.args.snapshot.now c.args.members c.loop-number.number))
+    c.loop-number.invariant
     ∙ sym (walk-more with_host no_members (listed_numbered c.args.snapshot.now c.args.members) c.loop-number.number)

@@ -10,7 +10,9 @@ pub returns-clause-others : goal.returns-clause-others
 returns-clause-others c = others-have-one
 
 pub returns-clause-behind : goal.returns-clause-behind
-returns-clause-behind c = λ status end lag sum. let missing : status.position - end.position ≡ lag = omega (arith, sum) in ap natural missing
+returns-clause-behind c = λ status end lag sum. let missing : status.position - end.position ≡ lag =
+    omega (arith, sum) in ap natural missing
 
 pub returns-clause-ahead : goal.returns-clause-ahead
-returns-clause-ahead c = λ status end above. let missing : status.position - end.position ≡ 0 = omega (arith, above) in ap natural missing
+returns-clause-ahead c = λ status end above. let missing : status.position - end.position ≡ 0 = omega (arith, above) in
+    ap natural missing

@@ -10,11 +10,15 @@ after-requires c =
 
 pub returns-in-Ok-Complete : goal.returns-in-Ok-Complete
 returns-in-Ok-Complete c =
-    complete c.args.bytes.now c.args.room.now _ c.parse_request.new.headers c.in-Ok-Complete.head c.request_at.result c.requires.room c.after.ensures (rw c.in-Ok-Complete.field-0-is at c.in-Ok-Complete.ensures.complete) c.request_at.ensures
+    complete c.args.bytes.now c.args.room.now _ c.parse_request.new.headers c.in-Ok-Complete.head
+    c.request_at.result c.requires.room c.after.ensures
+    (rw c.in-Ok-Complete.field-0-is at c.in-Ok-Complete.ensures.complete) c.request_at.ensures
 
 pub returns-in-Ok-Partial : goal.returns-in-Ok-Partial
 returns-in-Ok-Partial c =
-    unfinished c.args.bytes.now c.args.room.now c.before_head.result c.requires.room (rw c.in-Ok-Partial.field-0-is at c.in-Ok-Partial.ensures.partial) (rw c.in-Ok-Partial.field-0-is at c.in-Ok-Partial.ensures.unfinished) c.before_head.ensures
+    unfinished c.args.bytes.now c.args.room.now c.before_head.result c.requires.room
+    (rw c.in-Ok-Partial.field-0-is at c.in-Ok-Partial.ensures.partial)
+    (rw c.in-Ok-Partial.field-0-is at c.in-Ok-Partial.ensures.unfinished) c.before_head.ensures
 
 pub returns-in-Err : goal.returns-in-Err
 returns-in-Err c =

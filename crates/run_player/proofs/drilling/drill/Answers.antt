@@ -16,12 +16,14 @@ use Rattle.run_player.proofs.Whole.{left-by, summary-is}
 use Rattle.run_player.proofs.drilling.drill.Goals as goal
 
 pub drill-requires-clause-room : goal.drill-requires-clause-room
-drill-requires-clause-room g c = steps-left-fewer (player_of g.W.Simulation.facts c.in_ok-player.player).world most_steps (length (steps_of c.args.script.body)) c.requires c.in_ok-player.ensures.room
+drill-requires-clause-room g c = steps-left-fewer (player_of g.W.Simulation.facts c.in_ok-player.player).world
+    most_steps (length (steps_of c.args.script.body)) c.requires c.in_ok-player.ensures.room
 
 pub drill-requires-clause-members : goal.drill-requires-clause-members
 drill-requires-clause-members g c =
     let start = c.in_ok-player.ensures.world ∙ ap (λ h. cluster_of h) c.head.ensures.value in
-    ap (λ (w : Cluster). names_in w.facts.members) start ∙ names-start c.args.script.head (c.head.ensures.script).head.few
+    ap (λ (w : Cluster). names_in w.facts.members) start
+    ∙ names-start c.args.script.head (c.head.ensures.script).head.few
 
 pub returns-in_err-player-clause-printed : goal.returns-in_err-player-clause-printed
 returns-in_err-player-clause-printed g c =
@@ -35,7 +37,9 @@ returns-in-Ok-clause-printed g c =
     let first = c.in_ok-player.ensures in
     Prints-ok Write c.into_world.result
     (subst (λ (t : List ℕ). Prints {X = Unit {0}} g.K.Sink c.args.out.now c.drill.new.out Write (Ok tt) t)
-    (summary-is script.head (steps_of script.body) player.world.cluster player.summary (first.world ∙ ap (λ h. cluster_of h) c.head.ensures.value) (first.summary ∙ ap (λ h. first_summary h) c.head.ensures.value))
+    (summary-is script.head (steps_of script.body) player.world.cluster player.summary
+    (first.world ∙ ap (λ h. cluster_of h) c.head.ensures.value)
+    (first.summary ∙ ap (λ h. first_summary h) c.head.ensures.value))
     c.in-Ok.ensures.printed)
 
 pub returns-in-Ok-clause-world : goal.returns-in-Ok-clause-world
@@ -43,7 +47,9 @@ returns-in-Ok-clause-world g c =
     let script = c.args.script in
     let start = c.in_ok-player.ensures.world ∙ ap (λ h. cluster_of h) c.head.ensures.value in
     let first = c.in_ok-player.ensures in
-    left-by script.head (steps_of script.body) (player_of g.W.Simulation.facts c.in_ok-player.player).world _ (g.W.Simulation.facts c.into_world.result) c.requires start first.steps first.room first.counted c.in-Ok.ensures.world c.in-Ok.ensures.taken (ap g.W.Simulation.facts c.into_world.ensures)
+    left-by script.head (steps_of script.body) (player_of g.W.Simulation.facts c.in_ok-player.player).world _
+    (g.W.Simulation.facts c.into_world.result) c.requires start first.steps first.room first.counted
+    c.in-Ok.ensures.world c.in-Ok.ensures.taken (ap g.W.Simulation.facts c.into_world.ensures)
 
 pub returns-in-Err-clause-printed : goal.returns-in-Err-clause-printed
 returns-in-Err-clause-printed g c =
@@ -52,7 +58,9 @@ returns-in-Err-clause-printed g c =
     let first = c.in_ok-player.ensures in
     Prints-err
     (subst (λ (t : List ℕ). Prints {X = Unit {0}} g.K.Sink c.args.out.now c.drill.new.out Write (Err c.in-Err.error) t)
-    (summary-is script.head (steps_of script.body) player.world.cluster player.summary (first.world ∙ ap (λ h. cluster_of h) c.head.ensures.value) (first.summary ∙ ap (λ h. first_summary h) c.head.ensures.value))
+    (summary-is script.head (steps_of script.body) player.world.cluster player.summary
+    (first.world ∙ ap (λ h. cluster_of h) c.head.ensures.value)
+    (first.summary ∙ ap (λ h. first_summary h) c.head.ensures.value))
     c.in-Err.ensures.printed)
 
 pub returns-in-Err-clause-memory : goal.returns-in-Err-clause-memory

@@ -11,7 +11,9 @@ nothing (byte ∷ text) e = absurd (omega (arith, e))
 
 pub loop-rest-preserved : goal.loop-rest-preserved
 loop-rest-preserved g c =
-    IsPrinting-more c.split_at.result.1.now c.loop-rest.invariant (rw (c.split_at.ensures.front, c.split_at.ensures.back) (sym (take-append-drop c.line_length.result c.loop-rest.rest.now)))
+    IsPrinting-more c.split_at.result.1.now c.loop-rest.invariant
+    (rw (c.split_at.ensures.front, c.split_at.ensures.back)
+    (sym (take-append-drop c.line_length.result c.loop-rest.rest.now)))
     (Prints-ok {Y = Unit {0}} failed tt c.in_ok-write_all.ensures)
 
 pub returns-in_err-write_all : goal.returns-in_err-write_all
@@ -20,9 +22,12 @@ returns-in_err-write_all g c =
     let p = err_from_is_err_and final c.from_residual.ensures.1 in
     let done = c.loop-rest.invariant in
     let parts : c.loop-rest.rest.now ≡ c.split_at.result.0.now ++ c.split_at.result.1.now
-    = rw (c.split_at.ensures.front, c.split_at.ensures.back) (sym (take-append-drop c.line_length.result c.loop-rest.rest.now)) in
-    subst (λ (t : List ℕ). Prints g.K.Sink c.args.out.now c.write_all.new.sink failed final t) (ap (λ t. done.done ++ t) (sym parts) ∙ done.parts)
-    (Prints-then final done.printed (Prints-stop failed failed final c.split_at.result.1.now c.in_err-write_all.ensures (p.1 ∙ ap Err p.2) (λ e. refl)))
+    = rw (c.split_at.ensures.front, c.split_at.ensures.back)
+    (sym (take-append-drop c.line_length.result c.loop-rest.rest.now)) in
+    subst (λ (t : List ℕ). Prints g.K.Sink c.args.out.now c.write_all.new.sink failed final t)
+    (ap (λ t. done.done ++ t) (sym parts) ∙ done.parts)
+    (Prints-then final done.printed
+    (Prints-stop failed failed final c.split_at.result.1.now c.in_err-write_all.ensures (p.1 ∙ ap Err p.2) (λ e. refl)))
 
 pub returns : goal.returns
 returns g c =

@@ -7,4 +7,7 @@ use Rattle.run_printing.proofs.printing.set_text.Goals as goal
 pub returns : goal.returns
 returns c =
     let events = c.args.events.now in
-    on_ok_weaker c.set_lines.result (λ same. same ∙ ap (lines_of c.args.trace) c.kept.ensures ∙ kept-lines events.traced c.args.trace events.items c.requires) c.set_lines.ensures
+    on_ok_weaker c.set_lines.result
+    (λ same. same ∙ ap (lines_of c.args.trace) c.kept.ensures
+    ∙ kept-lines events.traced c.args.trace events.items c.requires)
+    c.set_lines.ensures

@@ -10,12 +10,14 @@ loop-events-init g c = Showing-start g.K.Sink c.args.summary.now c.args.trace c.
 pub loop-events-preserved : goal.loop-events-preserved
 loop-events-preserved g c =
     Showing-more c.events-item.result.items _ c.loop-events.invariant
-    (next-brought (λ v. v.items) c.args.brought.now c.loop-events.events-index c.events-item.result (omega (arith, c.loop-events-test.true)) c.events-item.is)
+    (next-brought (λ v. v.items) c.args.brought.now c.loop-events.events-index c.events-item.result
+    (omega (arith, c.loop-events-test.true)) c.events-item.is)
     c.in_ok-note.ensures
     (c.as_bytes.ensures.value ∙ c.in_ok-set_text.ensures) c.in_ok-print_lines.ensures
 
 pub set_text-requires : goal.set_text-requires
-set_text-requires g c = λ on. traced-there c.args.brought.now c.loop-events.events-index c.events-item.result (omega (arith, c.loop-events-test.true)) c.events-item.is c.requires
+set_text-requires g c = λ on. traced-there c.args.brought.now c.loop-events.events-index c.events-item.result
+    (omega (arith, c.loop-events-test.true)) c.events-item.is c.requires
 
 pub returns-in_err-note : goal.returns-in_err-note
 returns-in_err-note g c =
@@ -33,8 +35,11 @@ returns-in_err-print_lines g c =
     let final = c.from_residual-in_err-print_lines.result in
     let p = err_from_is_err_and final c.from_residual-in_err-print_lines.ensures.1 in
     Showing-stop final c.events-item.result.items _ c.loop-events.invariant
-    (next-brought (λ v. v.items) c.args.brought.now c.loop-events.events-index c.events-item.result (omega (arith, c.loop-events-test.true)) c.events-item.is)
+    (next-brought (λ v. v.items) c.args.brought.now c.loop-events.events-index c.events-item.result
+    (omega (arith, c.loop-events-test.true)) c.events-item.is)
     (c.as_bytes.ensures.value ∙ c.in_ok-set_text.ensures) c.in_err-print_lines.ensures (p.1 ∙ ap Err p.2)
 
 pub returns : goal.returns
-returns g c = Showing-end c.loop-events.invariant (ap (map (λ v. v.items)) (drop_all c.loop-events.events-index c.args.brought.now (omega (arith, c.loop-events-test.false))))
+returns g c = Showing-end c.loop-events.invariant
+    (ap (map (λ v. v.items))
+    (drop_all c.loop-events.events-index c.args.brought.now (omega (arith, c.loop-events-test.false))))

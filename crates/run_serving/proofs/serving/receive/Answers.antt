@@ -12,20 +12,30 @@ pub returns-in_default : goal.returns-in_default
 returns-in_default g c =
     let e = c.in_default.ensures in (
       [],
-      Receives-none g.K.Sink g.D.Door (player_of g.W.Simulation.facts c.args.player.now) (player_of g.W.Simulation.facts c.args.player.now) c.args.out.now c.args.door.now c.open.new.self Door (Err Door) c.args.service.now.member c.args.service.now.count refl door-is-no-write
-          (Came-refused g.D.Door c.args.door.now c.open.new.self (player_of g.W.Simulation.facts c.args.player.now).world.cluster c.args.service.now.member c.args.service.now.count e.same e.failed e.grows e.line
-          (λ more serves. err-is-not-ok (Unit {0}) c.in_default.field-0 (e.served (c.args.service.now.count + more) serves).0)),
+      Receives-none g.K.Sink g.D.Door (player_of g.W.Simulation.facts c.args.player.now)
+          (player_of g.W.Simulation.facts c.args.player.now) c.args.out.now c.args.door.now c.open.new.self Door
+          (Err Door) c.args.service.now.member c.args.service.now.count refl door-is-no-write
+          (Came-refused g.D.Door c.args.door.now c.open.new.self
+          (player_of g.W.Simulation.facts c.args.player.now).world.cluster c.args.service.now.member
+          c.args.service.now.count e.same e.failed e.grows e.line
+          (λ more serves.
+          err-is-not-ok (Unit {0}) c.in_default.field-0 (e.served (c.args.service.now.count + more) serves).0)),
     )
 
 pub loop-init : goal.loop-init
 loop-init g c =
-    let e = c.in-Ok.ensures in
-    ([], Receives-start g.K.Sink g.D.Door (player_of g.W.Simulation.facts c.args.player.now) c.args.out.now c.args.door.now c.open.new.self c.args.service.now.member e.same e.grows e.line (λ n serves. (e.served n serves).1))
+    let e = c.in-Ok.ensures in (
+      [],
+      Receives-start g.K.Sink g.D.Door (player_of g.W.Simulation.facts c.args.player.now) c.args.out.now c.args.door.now
+          c.open.new.self c.args.service.now.member e.same e.grows e.line (λ n serves. (e.served n serves).1),
+    )
 
 pub receive_next-requires-clause-room : goal.receive_next-requires-clause-room
 receive_next-requires-clause-room g c =
-    steps-left-fewer (player_of g.W.Simulation.facts c.loop.player).world (connection_cost * (c.args.service.now.count - c.loop.counter)) connection_cost (omega (arith, c.loop-test.true))
-    (room-behind c.loop.counter c.args.service.now.count (omega (arith, c.loop-test.true)) c.loop.invariant.1 c.requires.room)
+    steps-left-fewer (player_of g.W.Simulation.facts c.loop.player).world
+    (connection_cost * (c.args.service.now.count - c.loop.counter)) connection_cost (omega (arith, c.loop-test.true))
+    (room-behind c.loop.counter c.args.service.now.count
+    (omega (arith, c.loop-test.true)) c.loop.invariant.1 c.requires.room)
 
 pub receive_next-requires-clause-declared : goal.receive_next-requires-clause-declared
 receive_next-requires-clause-declared g c = received-members c.loop.invariant.1 c.requires.declared
@@ -45,4 +55,5 @@ loop-preserved g c =
     (c.loop.invariant.0 ++ r.0, Receives-then (Ok tt) refl c.loop.invariant.1 r.1)
 
 pub returns : goal.returns
-returns g c = (c.loop.invariant.0, Receives-so (omega (arith, c.loop-test.false, c.loop.auto.counter-end)) c.loop.invariant.1)
+returns g c =
+    (c.loop.invariant.0, Receives-so (omega (arith, c.loop-test.false, c.loop.auto.counter-end)) c.loop.invariant.1)

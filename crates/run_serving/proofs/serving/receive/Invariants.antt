@@ -5,4 +5,7 @@ use Rattle.run_player.specs.Playing.{player_of}
 use Rattle.run_serving.proofs.serving.receive.Given as goal
 
 abbrev pub invariant-loop : goal.invariant-loop
-invariant-loop g l = (visitors : List Connection) × Receives {X = Unit {0}} g.K.Sink g.D.Door (player_of g.W.Simulation.facts l.fn.player) (player_of g.W.Simulation.facts l.player) l.fn.out l.out l.fn.door l.door (Ok tt) l.service.member l.counter visitors
+invariant-loop g l = (visitors : List Connection)
+    × Receives {X = Unit {0}} g.K.Sink g.D.Door (player_of g.W.Simulation.facts l.fn.player)
+    (player_of g.W.Simulation.facts l.player) l.fn.out l.out l.fn.door l.door
+    (Ok tt) l.service.member l.counter visitors

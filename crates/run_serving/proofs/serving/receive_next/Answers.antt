@@ -12,8 +12,12 @@ pub returns-in_default : goal.returns-in_default
 returns-in_default g c =
     let e = c.in_default.ensures in (
       [],
-      Receives-none g.K.Sink g.D.Door (player_of g.W.Simulation.facts c.args.player.now) (player_of g.W.Simulation.facts c.args.player.now) c.args.out.now c.args.door.now c.accept.new.self Door (Err Door) c.args.member 1 refl door-is-no-write
-          (Came-refused g.D.Door c.args.door.now c.accept.new.self (player_of g.W.Simulation.facts c.args.player.now).world.cluster c.args.member 1 e.same e.failed e.grows e.line
+      Receives-none g.K.Sink g.D.Door (player_of g.W.Simulation.facts c.args.player.now)
+          (player_of g.W.Simulation.facts c.args.player.now) c.args.out.now c.args.door.now c.accept.new.self Door
+          (Err Door) c.args.member 1 refl door-is-no-write
+          (Came-refused g.D.Door c.args.door.now c.accept.new.self
+          (player_of g.W.Simulation.facts c.args.player.now).world.cluster c.args.member 1 e.same e.failed
+          e.grows e.line
           (λ more serves. err-is-not-ok (Unit {0}) c.in_default.field-0 (e.served (1 + more) serves (omega arith)).0)),
     )
 
@@ -23,16 +27,25 @@ returns-in_err-serve_one g c =
     let a = c.in-Ok.ensures in
     let s = c.in_err-serve_one.ensures in (
       [],
-      Receives-none g.K.Sink g.D.Door (player_of g.W.Simulation.facts c.args.player.now) _ c.args.out.now c.args.door.now c.serve_one.new.door Memory c.from_residual.result c.args.member 1 (p.1 ∙ ap Err p.2) memory-is-no-write
-          (Came-none-since g.D.Door c.args.door.now c.serve_one.new.door (player_of g.W.Simulation.facts c.args.player.now).world.cluster c.args.member 1 (omega (arith, a.grows, s.door)) (omega (arith, a.line, s.grows))),
+      Receives-none g.K.Sink g.D.Door (player_of g.W.Simulation.facts c.args.player.now) _ c.args.out.now
+          c.args.door.now c.serve_one.new.door Memory c.from_residual.result c.args.member 1
+          (p.1 ∙ ap Err p.2) memory-is-no-write
+          (Came-none-since g.D.Door c.args.door.now c.serve_one.new.door
+          (player_of g.W.Simulation.facts c.args.player.now).world.cluster c.args.member 1
+          (omega (arith, a.grows, s.door)) (omega (arith, a.line, s.grows))),
     )
 
 pub show-requires : goal.show-requires
 show-requires g c =
     let s = c.in_ok-serve_one.ensures in
-    let after : PlayerFacts = record { world = g.W.Simulation.facts c.serve_one.new.world; trace = c.args.player.now.trace; summary = c.args.player.now.summary } in
+    let after : PlayerFacts = record {
+      world = g.W.Simulation.facts c.serve_one.new.world;
+      trace = c.args.player.now.trace;
+      summary = c.args.player.now.summary;
+    } in
     subst (All (λ (l : Listed). IsTrue l.traced)) (sym c.deref.ensures.value)
-    (all-traced g.K.Sink (player_of g.W.Simulation.facts c.args.player.now) after c.args.out.now c.args.out.now c.args.member s.serves.0 _ _ c.new-brought.ensures.items s.serves.1)
+    (all-traced g.K.Sink (player_of g.W.Simulation.facts c.args.player.now) after c.args.out.now
+    c.args.out.now c.args.member s.serves.0 _ _ c.new-brought.ensures.items s.serves.1)
 
 pub returns-in_err-show : goal.returns-in_err-show
 returns-in_err-show g c =
@@ -40,12 +53,21 @@ returns-in_err-show g c =
     let p = err_from_is_err_and final c.from_residual-in_err-show.ensures.1 in
     let a = c.in-Ok.ensures in
     let s = c.in_ok-serve_one.ensures in
-    let come = accepted g.D.Door c.args.door.now c.accept.new.self c.serve_one.new.door (player_of g.W.Simulation.facts c.args.player.now).world.cluster c.args.member s.serves.0 a.some a.after a.grows a.line (λ n serves above. (a.served n serves above).1) s.serves.2 s.grows s.door s.served in
-    let after : PlayerFacts = record { world = g.W.Simulation.facts c.serve_one.new.world; trace = c.args.player.now.trace; summary = c.show.new.summary } in (
+    let come = accepted g.D.Door c.args.door.now c.accept.new.self c.serve_one.new.door
+    (player_of g.W.Simulation.facts c.args.player.now).world.cluster c.args.member s.serves.0 a.some a.after
+    a.grows a.line (λ n serves above. (a.served n serves above).1) s.serves.2 s.grows s.door s.served in
+    let after : PlayerFacts = record {
+      world = g.W.Simulation.facts c.serve_one.new.world;
+      trace = c.args.player.now.trace;
+      summary = c.show.new.summary;
+    } in (
       s.serves.0 ∷ [],
-      receives-one g.K.Sink g.D.Door (player_of g.W.Simulation.facts c.args.player.now) after c.args.out.now c.show.new.out c.args.door.now c.serve_one.new.door c.args.member s.serves.0 final
+      receives-one g.K.Sink g.D.Door (player_of g.W.Simulation.facts c.args.player.now) after c.args.out.now
+          c.show.new.out c.args.door.now c.serve_one.new.door c.args.member s.serves.0 final
           (not-door c.in_err-show.field-0.0 final (p.1 ∙ ap Err p.2))
-          (prints-part g.K.Sink (player_of g.W.Simulation.facts c.args.player.now) after c.args.out.now c.show.new.out c.args.member s.serves.0 _ _ c.in_err-show.field-0.0 final c.new-brought.ensures.items s.serves.1 (shows-so (λ v. v.items) c.deref.ensures.value c.in_err-show.ensures) (p.1 ∙ ap Err p.2))
+          (prints-part g.K.Sink (player_of g.W.Simulation.facts c.args.player.now) after c.args.out.now c.show.new.out
+          c.args.member s.serves.0 _ _ c.in_err-show.field-0.0 final c.new-brought.ensures.items s.serves.1
+          (shows-so (λ v. v.items) c.deref.ensures.value c.in_err-show.ensures) (p.1 ∙ ap Err p.2))
           (no-plays final _ (p.1 ∙ ap Err p.2)) come,
     )
 
@@ -53,10 +75,22 @@ pub returns : goal.returns
 returns g c =
     let a = c.in-Ok.ensures in
     let s = c.in_ok-serve_one.ensures in
-    let come = accepted g.D.Door c.args.door.now c.accept.new.self c.serve_one.new.door (player_of g.W.Simulation.facts c.args.player.now).world.cluster c.args.member s.serves.0 a.some a.after a.grows a.line (λ n serves above. (a.served n serves above).1) s.serves.2 s.grows s.door s.served in
-    let after : PlayerFacts = record { world = g.W.Simulation.facts c.serve_one.new.world; trace = c.args.player.now.trace; summary = c.show.new.summary } in (
+    let come = accepted g.D.Door c.args.door.now c.accept.new.self c.serve_one.new.door
+    (player_of g.W.Simulation.facts c.args.player.now).world.cluster c.args.member s.serves.0 a.some a.after
+    a.grows a.line (λ n serves above. (a.served n serves above).1) s.serves.2 s.grows s.door s.served in
+    let after : PlayerFacts = record {
+      world = g.W.Simulation.facts c.serve_one.new.world;
+      trace = c.args.player.now.trace;
+      summary = c.show.new.summary;
+    } in (
       s.serves.0 ∷ [],
-      receives-one g.K.Sink g.D.Door (player_of g.W.Simulation.facts c.args.player.now) after c.args.out.now c.show.new.out c.args.door.now c.serve_one.new.door c.args.member s.serves.0 (Ok tt) ok-is-no-door
-          (prints-visit g.K.Sink (player_of g.W.Simulation.facts c.args.player.now) after c.args.out.now c.show.new.out c.args.member s.serves.0 _ _ c.new-brought.ensures.items s.serves.1 (shows-so (λ v. v.items) c.deref.ensures.value c.in_ok-show.ensures))
-          (plays-visit g.K.Sink (player_of g.W.Simulation.facts c.args.player.now) after c.args.out.now c.show.new.out c.args.member s.serves.0 _ _ c.new-brought.ensures.items s.serves.1 refl (shows-so (λ v. v.items) c.deref.ensures.value c.in_ok-show.ensures)) come,
+      receives-one g.K.Sink g.D.Door (player_of g.W.Simulation.facts c.args.player.now) after c.args.out.now
+          c.show.new.out c.args.door.now c.serve_one.new.door c.args.member s.serves.0 (Ok tt) ok-is-no-door
+          (prints-visit g.K.Sink (player_of g.W.Simulation.facts c.args.player.now) after c.args.out.now
+          c.show.new.out c.args.member s.serves.0 _ _ c.new-brought.ensures.items s.serves.1
+          (shows-so (λ v. v.items) c.deref.ensures.value c.in_ok-show.ensures))
+          (plays-visit g.K.Sink (player_of g.W.Simulation.facts c.args.player.now) after c.args.out.now
+          c.show.new.out c.args.member s.serves.0 _ _ c.new-brought.ensures.items s.serves.1 refl
+          (shows-so (λ v. v.items) c.deref.ensures.value c.in_ok-show.ensures))
+          come,
     )

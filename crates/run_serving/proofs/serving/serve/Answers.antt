@@ -14,17 +14,23 @@ use Rattle.run_model.specs.Watches.{first_summary}
 
 pub returns-in_err-player : goal.returns-in_err-player
 returns-in_err-player g c =
-    let p = err_from_is_err_and c.from_residual.result c.from_residual.ensures.1 in
-    ([], serves-none g.K.Sink g.D.Door g.W.Simulation.facts c.args.out.now c.args.door.now c.from_residual.result c.args.script c.args.service.now.member c.args.service.now.count (p.1 ∙ ap Err p.2))
+    let p = err_from_is_err_and c.from_residual.result c.from_residual.ensures.1 in (
+      [],
+      serves-none g.K.Sink g.D.Door g.W.Simulation.facts c.args.out.now c.args.door.now c.from_residual.result
+          c.args.script c.args.service.now.member c.args.service.now.count (p.1 ∙ ap Err p.2),
+    )
 
 pub receive_all-requires-clause-room : goal.receive_all-requires-clause-room
 receive_all-requires-clause-room g c =
-    steps-left-fewer (player_of g.W.Simulation.facts c.in_ok-player.player).world most_steps (length (steps_of c.args.script.body) + connection_cost * c.args.service.now.count) c.requires.room c.in_ok-player.ensures.room
+    steps-left-fewer (player_of g.W.Simulation.facts c.in_ok-player.player).world most_steps
+    (length (steps_of c.args.script.body) + connection_cost * c.args.service.now.count) c.requires.room
+    c.in_ok-player.ensures.room
 
 pub receive_all-requires-clause-members : goal.receive_all-requires-clause-members
 receive_all-requires-clause-members g c =
     let start = c.in_ok-player.ensures.world ∙ ap (λ h. cluster_of h) c.head.ensures.value in
-    ap (λ (w : Cluster). names_in w.facts.members) start ∙ names-start c.args.script.head (c.head.ensures.script).head.few
+    ap (λ (w : Cluster). names_in w.facts.members) start
+    ∙ names-start c.args.script.head (c.head.ensures.script).head.few
 
 pub returns-in-Ok : goal.returns-in-Ok
 returns-in-Ok g c =
@@ -32,9 +38,13 @@ returns-in-Ok g c =
     let player = (player_of g.W.Simulation.facts c.in_ok-player.player) in
     let r = c.in-Ok.ensures in (
       r.0,
-      serves-all g.K.Sink g.D.Door g.W.Simulation.facts player (player_of g.W.Simulation.facts c.receive_all.new.player) c.args.out.now c.receive_all.new.out c.args.door.now c.receive_all.new.door c.args.script c.args.service.now.member c.args.service.now.count r.0
-          (first.world ∙ ap (λ h. cluster_of h) c.head.ensures.value) first.trace (first.summary ∙ ap (λ h. first_summary h) c.head.ensures.value)
-          c.into_world.result first.steps first.room first.counted c.requires.room (ap g.W.Simulation.facts c.into_world.ensures) r.1,
+      serves-all g.K.Sink g.D.Door g.W.Simulation.facts player
+          (player_of g.W.Simulation.facts c.receive_all.new.player) c.args.out.now c.receive_all.new.out
+          c.args.door.now c.receive_all.new.door c.args.script c.args.service.now.member c.args.service.now.count r.0
+          (first.world ∙ ap (λ h. cluster_of h) c.head.ensures.value) first.trace
+          (first.summary ∙ ap (λ h. first_summary h) c.head.ensures.value)
+          c.into_world.result first.steps first.room first.counted c.requires.room
+          (ap g.W.Simulation.facts c.into_world.ensures) r.1,
     )
 
 pub returns-in-Err : goal.returns-in-Err
@@ -43,7 +53,10 @@ returns-in-Err g c =
     let player = (player_of g.W.Simulation.facts c.in_ok-player.player) in
     let r = c.in-Err.ensures in (
       r.0,
-      serves-part g.K.Sink g.D.Door g.W.Simulation.facts player (player_of g.W.Simulation.facts c.receive_all.new.player) c.args.out.now c.receive_all.new.out c.args.door.now c.receive_all.new.door c.args.script c.args.service.now.member c.args.service.now.count r.0
-          (first.world ∙ ap (λ h. cluster_of h) c.head.ensures.value) first.trace (first.summary ∙ ap (λ h. first_summary h) c.head.ensures.value)
+      serves-part g.K.Sink g.D.Door g.W.Simulation.facts player
+          (player_of g.W.Simulation.facts c.receive_all.new.player) c.args.out.now c.receive_all.new.out
+          c.args.door.now c.receive_all.new.door c.args.script c.args.service.now.member c.args.service.now.count r.0
+          (first.world ∙ ap (λ h. cluster_of h) c.head.ensures.value) first.trace
+          (first.summary ∙ ap (λ h. first_summary h) c.head.ensures.value)
           c.in-Err.error r.1,
     )

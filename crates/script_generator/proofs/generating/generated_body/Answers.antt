@@ -6,4 +6,6 @@ use Rattle.script_generator.proofs.generating.generated_body.Goals as goal
 
 pub loop-drawn-preserved : goal.loop-drawn-preserved
 loop-drawn-preserved c =
-    drawn-step (generated_body c.args.seed c.args.count) _ _ (lines.Run ticks_behind ∷ []) c.loop-drawn.number c.next_number-number.result c.loop-drawn._drawn (c.loop-drawn._drawn + 1) c.args.count c.loop-drawn-test.true (omega arith) c.next_number-number.ensures c.in_ok-push_drawn.ensures c.loop-drawn.invariant
+    drawn-step (generated_body c.args.seed c.args.count) _ _ (lines.Run ticks_behind ∷ []) c.loop-drawn.number
+    c.next_number-number.result c.loop-drawn._drawn (c.loop-drawn._drawn + 1) c.args.count c.loop-drawn-test.true
+    (omega arith) c.next_number-number.ensures c.in_ok-push_drawn.ensures c.loop-drawn.invariant

@@ -4,4 +4,5 @@ use Rattle.generator_model.specs.Generating.{ticks_behind, drawn_lines, generate
 use Rattle.script_generator.proofs.generating.generated_body.Given as goal
 
 abbrev pub invariant-loop-drawn : goal.invariant-loop-drawn
-invariant-loop-drawn l = l.body.items ++ (drawn_lines l.number (l.count - l._drawn) ++ lines.Run ticks_behind ∷ []) ≡ generated_body l.seed l.count
+invariant-loop-drawn l = l.body.items ++ (drawn_lines l.number (l.count - l._drawn) ++ lines.Run ticks_behind ∷ [])
+    ≡ generated_body l.seed l.count

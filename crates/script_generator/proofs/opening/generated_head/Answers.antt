@@ -10,8 +10,14 @@ use Rattle.script_generator.proofs.opening.generated_head.Goals as goal
 pub new-requires : goal.new-requires
 new-requires c = record {
   configured = subst IsConfiguration (sym c.in_ok-config.ensures) default-IsConfiguration;
-  head = generated-IsHead c.name.result c.in_ok-config.config (members_in c.in_ok-members.members.entries) c.in_ok-members.ensures;
+  head = generated-IsHead c.name.result c.in_ok-config.config
+      (members_in c.in_ok-members.members.entries) c.in_ok-members.ensures;
 }
 
 pub returns : goal.returns
-returns c = c.new.ensures ∙ (λ i. record { cluster = name_bytes-injective c.name.result generated_cluster c.name.ensures i; config = c.in_ok-config.ensures i; base = default_base; members = c.in_ok-members.ensures i })
+returns c = c.new.ensures ∙ (λ i. record {
+  cluster = name_bytes-injective c.name.result generated_cluster c.name.ensures i;
+  config = c.in_ok-config.ensures i;
+  base = default_base;
+  members = c.in_ok-members.ensures i;
+})

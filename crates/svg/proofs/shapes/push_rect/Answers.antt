@@ -9,5 +9,8 @@ returns c =
     let had : List ℕ = string_bytes c.args.out.now in
     let area = c.args.area in
     c.in_ok-push_str-2.ensures.bytes
-    ∙ ap (λ t. t ++ codes "</title>\n</rect>\n") (c.in_ok-push_escaped.ensures ∙ ap (λ t. t ++ escaped c.args.title.now) (c.in_ok-push_str.ensures.bytes ∙ ap (λ t. t ++ codes "<title>") c.in_ok-open_rect.ensures))
-    ∙ titled had (rect_opening area.x area.y area.width area.height c.args.paint) (codes "<title>") (escaped c.args.title.now) (codes "</title>\n") (codes "</rect>\n")
+    ∙ ap (λ t. t ++ codes "</title>\n</rect>\n")
+    (c.in_ok-push_escaped.ensures ∙ ap (λ t. t ++ escaped c.args.title.now)
+    (c.in_ok-push_str.ensures.bytes ∙ ap (λ t. t ++ codes "<title>") c.in_ok-open_rect.ensures))
+    ∙ titled had (rect_opening area.x area.y area.width area.height c.args.paint) (codes "<title>")
+    (escaped c.args.title.now) (codes "</title>\n") (codes "</rect>\n")

@@ -6,5 +6,7 @@ use Rattle.sync_state.proofs.candidates.name_of.Goals as goal
 
 pub returns : goal.returns
 returns c =
-    let there : option_copied c.get.result ≡ slice_get c.members.result.now c.args.member.number = grind (arith, common_steps, gets) in
-    c.name_by.ensures ∙ ap name_by there ∙ ap (λ members. name_by (slice_get members c.args.member.number)) c.members.ensures
+    let there : option_copied c.get.result ≡ slice_get c.members.result.now c.args.member.number =
+    grind (arith, common_steps, gets) in
+    c.name_by.ensures ∙ ap name_by there
+    ∙ ap (λ members. name_by (slice_get members c.args.member.number)) c.members.ensures

@@ -8,5 +8,6 @@ use Rattle.text_table.proofs.printing.rule_line.Goals as goal
 pub returns-clause-ascii : goal.returns-clause-ascii
 returns-clause-ascii c =
     let slots = c.args.slots.now in
-    let all : take c.loop-slot.slot-index slots ≡ slots = take_all c.loop-slot.slot-index slots c.loop-slot-test.false in
+    let all : take c.loop-slot.slot-index slots ≡ slots =
+    take_all c.loop-slot.slot-index slots c.loop-slot-test.false in
     subst IsAscii (sym (c.loop-slot.invariant ∙ ap rule_line all)) (ascii-rule slots)

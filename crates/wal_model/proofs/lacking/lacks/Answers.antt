@@ -10,7 +10,8 @@ returns-then-lacks_of_run c =
     let runs = c.runs-runs.result.now in
     let i = c.loop-run.run-index in
     let run = c.run-item.result in
-    let here : true ≡ lacks_in log (serials_of_run run) = sym c.if-lacks_of_run.true ∙ c.lacks_of_run.ensures log c.in_ok-serials.ensures in
+    let here : true ≡ lacks_in log (serials_of_run run) = sym c.if-lacks_of_run.true
+    ∙ c.lacks_of_run.ensures log c.in_ok-serials.ensures in
     ap (λ b. b || lacks_in log (serials_in (drop (i + 1) runs))) here
     ∙ sym (lacks-runs log runs i run c.loop-run-test.true c.run-item.is)
     ∙ c.loop-run.invariant
@@ -21,7 +22,8 @@ loop-run-preserved c =
     let runs = c.runs-runs.result.now in
     let i = c.loop-run.run-index in
     let run = c.run-item.result in
-    let here : false ≡ lacks_in log (serials_of_run run) = sym c.if-lacks_of_run.false ∙ c.lacks_of_run.ensures log c.in_ok-serials.ensures in
+    let here : false ≡ lacks_in log (serials_of_run run) = sym c.if-lacks_of_run.false
+    ∙ c.lacks_of_run.ensures log c.in_ok-serials.ensures in
     ap (λ b. b || lacks_in log (serials_in (drop (i + 1) runs))) here
     ∙ sym (lacks-runs log runs i run c.loop-run-test.true c.run-item.is)
     ∙ c.loop-run.invariant

@@ -7,12 +7,15 @@ use Rattle.wal_model.proofs.lacking.lacks_of_run.Goals as goal
 pub returns-then-not-contains : goal.returns-then-not-contains
 returns-then-not-contains c = λ log same.
     let serial = c.loop-serial.serial-counter in
-    sym (lacks-first log serial c.args.run.last (sym (same serial) ∙ sym c.contains.ensures ∙ c.if-not-contains.true)) ∙ c.loop-serial.invariant log same
+    sym (lacks-first log serial c.args.run.last (sym (same serial) ∙ sym c.contains.ensures ∙ c.if-not-contains.true))
+    ∙ c.loop-serial.invariant log same
 
 pub loop-serial-preserved : goal.loop-serial-preserved
 loop-serial-preserved c = λ log same.
     let serial = c.loop-serial.serial-counter in
-    lacks-rest log serial c.args.run.last c.loop-serial-test.true (sym (same serial) ∙ sym c.contains.ensures ∙ c.if-not-contains.false) ∙ c.loop-serial.invariant log same
+    lacks-rest log serial c.args.run.last c.loop-serial-test.true
+    (sym (same serial) ∙ sym c.contains.ensures ∙ c.if-not-contains.false)
+    ∙ c.loop-serial.invariant log same
 
 pub returns : goal.returns
 returns c = λ log same.

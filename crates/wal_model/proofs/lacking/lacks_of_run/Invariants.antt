@@ -8,4 +8,6 @@ use Rattle.wal_model.specs.Serials.{serials_of_run}
 use Rattle.wal_model.proofs.lacking.lacks_of_run.Given as goal
 
 abbrev pub invariant-loop-serial : goal.invariant-loop-serial
-invariant-loop-serial l = (log : List Entry) → ((q : ℕ) → contains nat_cmp l.serials q ≡ has_serial log q) → lacks_in log (range_with_len l.serial-counter (l.run.last - l.serial-counter + 1)) ≡ lacks_in log (serials_of_run l.run)
+invariant-loop-serial l = (log : List Entry) → ((q : ℕ) → contains nat_cmp l.serials q ≡ has_serial log q)
+    → lacks_in log (range_with_len l.serial-counter (l.run.last - l.serial-counter + 1))
+    ≡ lacks_in log (serials_of_run l.run)

@@ -12,8 +12,11 @@ loop-place-preserved c = record {
   asleep = λ place least most. elim (cases_eq place c.loop-place.place) [
     | inl e ↦
         let item : Member = get_or c.args.members.now c.loop-place.place c.index-members-place.result in
-        let here : slice_get c.args.members.now place ≡ Some item = ap (slice_get c.args.members.now) e ∙ slice_get-get_or c.args.members.now c.loop-place.place c.index-members-place.result c.loop-place-test.true in
-        subst (λ (o : Option Member). IfSome o (λ member. c.args.moment.0 < until_of c.args.asleep.now member.id.number)) (sym here) (omega (arith, c.until.ensures, c.if-until-moment.false))
+        let here : slice_get c.args.members.now place ≡ Some item = ap (slice_get c.args.members.now) e
+        ∙ slice_get-get_or c.args.members.now c.loop-place.place c.index-members-place.result c.loop-place-test.true in
+        subst (λ (o : Option Member).
+        IfSome o (λ member. c.args.moment.0 < until_of c.args.asleep.now member.id.number))
+        (sym here) (omega (arith, c.until.ensures, c.if-until-moment.false))
     | inr other ↦ c.loop-place.invariant.asleep place least (omega (arith, most, other))
   ];
 }

@@ -9,5 +9,6 @@ returns c =
     let process = c.in-Some.process in
     let ready : may_act process ≡ true = sym c.may_act.ensures ∙ c.if-not-may_act.false in
     on_ok_weaker c.awaken.result
-    (λ took. turn-took c.args.stage.now c.awaken.new.stage c.args.member process c.args.events.now c.awaken.new.events (sym c.process.ensures ∙ c.in-Some.is) ready took)
+    (λ took. turn-took c.args.stage.now c.awaken.new.stage c.args.member process c.args.events.now c.awaken.new.events
+    (sym c.process.ensures ∙ c.in-Some.is) ready took)
     c.awaken.ensures

@@ -13,6 +13,8 @@ pub returns-else-stops_quietly : goal.returns-else-stops_quietly
 returns-else-stops_quietly c =
     let s = without_spare c.in-Some.server.now in
     let there : slice_get c.args.servers.now c.args.place ≡ Some s = search rules in
-    let loud : stops_quietly s ≡ false = ap (λ (state : State). is_up state && (not (is_primary state) || not (s.stop_delay.0 == 0))) (sym c.state.ensures)
-    ∙ ap (λ (delay : Ticks). is_up c.state.result && (not (is_primary c.state.result) || not (delay.0 == 0))) (sym c.stop_delay.ensures.value) ∙ sym c.stops_quietly.ensures ∙ c.if-stops_quietly.false in
+    let loud : stops_quietly s ≡ false =
+    ap (λ (state : State). is_up state && (not (is_primary state) || not (s.stop_delay.0 == 0))) (sym c.state.ensures)
+    ∙ ap (λ (delay : Ticks). is_up c.state.result && (not (is_primary c.state.result) || not (delay.0 == 0)))
+    (sym c.stop_delay.ensures.value) ∙ sym c.stops_quietly.ensures ∙ c.if-stops_quietly.false in
     not-quiet c.args.servers.now c.args.place c.args.now.0 s there loud

@@ -28,10 +28,13 @@ returns-in-Act c =
     let request = c.next_number-number.result in
     let call : RequestText = record { verb = c.args.verb; target = c.args.target.now; body = c.args.body.now } in
     let asks : IsAsked cluster member agent machine view request =
-    found-asked cluster member agent machine view request c.clock.result _ _ c.agent.ensures (ap option_copied c.in-Some-agent.is) c.machine.ensures.machine c.in-Some.is c.clock.ensures c.view-view.ensures.shown c.view-view.ensures.seen c.next_number-number.ensures in
+    found-asked cluster member agent machine view request c.clock.result _ _ c.agent.ensures
+    (ap option_copied c.in-Some-agent.is) c.machine.ensures.machine c.in-Some.is c.clock.ensures
+    c.view-view.ensures.shown c.view-view.ensures.seen c.next_number-number.ensures in
     let answers : Acts c.in-Act.asked ≡ answer_to view (option_copied view.seen) call = search rules in
     on_ok_weaker c.operate.result
-    (λ took. acts-took cluster member agent machine view request asks c.operate.new.stage call c.in-Act.asked c.args.events.now c.operate.new.events answers took)
+    (λ took. acts-took cluster member agent machine view request asks c.operate.new.stage call c.in-Act.asked
+    c.args.events.now c.operate.new.events answers took)
     c.operate.ensures
 
 pub returns-in-Now : goal.returns-in-Now
@@ -44,9 +47,12 @@ returns-in-Now c =
     let request = c.next_number-number.result in
     let call : RequestText = record { verb = c.args.verb; target = c.args.target.now; body = c.args.body.now } in
     let asks : IsAsked cluster member agent machine view request =
-    found-asked cluster member agent machine view request c.clock.result _ _ c.agent.ensures (ap option_copied c.in-Some-agent.is) c.machine.ensures.machine c.in-Some.is c.clock.ensures c.view-view.ensures.shown c.view-view.ensures.seen c.next_number-number.ensures in
+    found-asked cluster member agent machine view request c.clock.result _ _ c.agent.ensures
+    (ap option_copied c.in-Some-agent.is) c.machine.ensures.machine c.in-Some.is c.clock.ensures
+    c.view-view.ensures.shown c.view-view.ensures.seen c.next_number-number.ensures in
     let reply = reply_text c.in-Now.reply in
     let answers : Replies reply ≡ answer_to view (option_copied view.seen) call = search rules in
     on_ok_weaker c.happen.result
-    (λ took. replies-took cluster member agent machine view request asks c.happen.new.self call reply c.replying.result c.args.events.now c.happen.new.events answers c.replying.ensures.kind took)
+    (λ took. replies-took cluster member agent machine view request asks c.happen.new.self call reply
+    c.replying.result c.args.events.now c.happen.new.events answers c.replying.ensures.kind took)
     c.happen.ensures

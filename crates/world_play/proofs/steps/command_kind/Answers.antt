@@ -11,6 +11,10 @@ pub returns-in-Commit-clause-comes : goal.returns-in-Commit-clause-comes
 returns-in-Commit-clause-comes c =
     let member = c.declared-member-in-Commit.result in
     let bytes = c.in-Commit.size.bytes in
-    let is = c.commit_of.ensures ∙ ap (λ (known : List ServerFacts). commit_of member (entry_for known member.id.number (c.commits.result + 1) bytes)) c.servers-in-Commit.ensures
-    ∙ ap (λ (n : ℕ). commit_of member (entry_for c.args.stage.now.facts.servers member.id.number (n + 1) bytes)) c.commits.ensures in
+    let is = c.commit_of.ensures
+    ∙ ap (λ (known : List ServerFacts).
+    commit_of member (entry_for known member.id.number (c.commits.result + 1) bytes))
+    c.servers-in-Commit.ensures
+    ∙ ap (λ (n : ℕ). commit_of member (entry_for c.args.stage.now.facts.servers member.id.number (n + 1) bytes))
+    c.commits.ensures in
     subst (λ (k : EventKind). MayCome c.args.stage.now k) (sym is) (commit-comes c.args.stage.now member bytes)

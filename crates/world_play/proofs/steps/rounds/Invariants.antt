@@ -9,6 +9,7 @@ use Rattle.world_play.proofs.steps.rounds.Given as goal
 -- so many rounds may still follow
 abbrev pub invariant-loop-done : goal.invariant-loop-done
 invariant-loop-done l = record {
-  left : Left l.fn.stage l.stage l.fn.events l.events (rounds_events l.fn.stage most_rounds) (rounds_events l.stage (most_rounds - l.done)) rounds_cost (round_cost * (most_rounds - l.done));
+  left : Left l.fn.stage l.stage l.fn.events l.events (rounds_events l.fn.stage most_rounds)
+      (rounds_events l.stage (most_rounds - l.done)) rounds_cost (round_cost * (most_rounds - l.done));
   asleep : AreAsleep l.asleep l.stage;
 }

@@ -12,13 +12,19 @@ use Rattle.world_stage.proofs.beginning.begin_on.Goals as goal
 
 pub happen_then-requires-clause-first : goal.happen_then-requires-clause-first
 happen_then-requires-clause-first c =
-    subst (λ (x : ServerOf). MayCome c.args.stage.now (kinds.Server (servers.Began x c.args.timeline))) (sym c.of-server.ensures) c.requires.comes
+    subst (λ (x : ServerOf). MayCome c.args.stage.now (kinds.Server (servers.Began x c.args.timeline)))
+    (sym c.of-server.ensures) c.requires.comes
 
 pub returns : goal.returns
 returns c =
     let place = c.args.member.id.number in
-    let told = c.in_ok-loss.ensures.kind ∙ ap (λ (cs : List ℕ). option_and_then (loss_of_any cs c.args.member) (slice_get c.servers.result.now place)) c.acknowledged.ensures
-    ∙ ap (λ (known : List ServerFacts). option_and_then (loss_of_any c.args.stage.now.facts.acknowledged c.args.member) (slice_get known place)) c.servers.ensures in
+    let told = c.in_ok-loss.ensures.kind
+    ∙ ap (λ (cs : List ℕ). option_and_then (loss_of_any cs c.args.member) (slice_get c.servers.result.now place))
+    c.acknowledged.ensures
+    ∙ ap (λ (known : List ServerFacts).
+    option_and_then (loss_of_any c.args.stage.now.facts.acknowledged c.args.member) (slice_get known place))
+    c.servers.ensures in
     on_ok_weaker c.happen_then.result
-    (λ took. began-took c.args.stage.now c.happen_then.new.self c.args.member c.args.timeline c.of-server.result c.in_ok-loss.loss c.args.events.now c.happen_then.new.events c.of-server.ensures told took)
+    (λ took. began-took c.args.stage.now c.happen_then.new.self c.args.member c.args.timeline c.of-server.result
+    c.in_ok-loss.loss c.args.events.now c.happen_then.new.events c.of-server.ensures told took)
     c.happen_then.ensures

@@ -9,5 +9,6 @@ if-ok (Err e) P Q f p = tt
 
 pub returns : goal.returns
 returns c =
-    if-ok c.new.result (λ shared. shared ≡ c.in_ok-hosts_of.field-0) (λ hosts. hosts.items ≡ hosts_of c.args.options.now c.args.members.now)
+    if-ok c.new.result (λ shared. shared ≡ c.in_ok-hosts_of.field-0)
+    (λ hosts. hosts.items ≡ hosts_of c.args.options.now c.args.members.now)
     (λ shared same. ap (λ v. v.items) same ∙ c.in_ok-hosts_of.ensures) c.new.ensures

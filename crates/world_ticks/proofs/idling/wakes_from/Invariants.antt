@@ -6,4 +6,5 @@ use Rattle.world_ticks.proofs.idling.wakes_from.Given as goal
 
 -- before the first moment so far, the agents at the places so far aren't to be woken
 abbrev pub invariant-loop-place : goal.invariant-loop-place
-invariant-loop-place l = (l.first.0 ≤ l.fn.most.0) × AreSoTo (λ (now : ℕ) (member : Member). SleepsAt now l.stage member) l.first.0 l.stage.facts.members l.place
+invariant-loop-place l = (l.first.0 ≤ l.fn.most.0)
+    × AreSoTo (λ (now : ℕ) (member : Member). SleepsAt now l.stage member) l.first.0 l.stage.facts.members l.place

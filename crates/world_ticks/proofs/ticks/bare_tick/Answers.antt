@@ -9,5 +9,6 @@ pass-requires c = omega (arith, c.requires.room.clock)
 pub returns-clause-emits : goal.returns-clause-emits
 returns-clause-emits c =
     on_ok_weaker c.write_down.result
-    (λ noted. bare-took c.args.stage.now c.pass.new.self c.args.events.now c.write_down.new.events c.clock.result c.pass.ensures c.clock.ensures noted c.requires.ends)
+    (λ noted. bare-took c.args.stage.now c.pass.new.self c.args.events.now c.write_down.new.events
+    c.clock.result c.pass.ensures c.clock.ensures noted c.requires.ends)
     c.write_down.ensures

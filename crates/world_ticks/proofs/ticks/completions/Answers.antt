@@ -7,20 +7,32 @@ use Rattle.world_model.proofs.Taking.{Emits-weaker}
 use Rattle.world_ticks.proofs.ticks.completions.Goals as goal
 
 pub member-member-requires : goal.member-member-requires
-member-member-requires c = omega (arith, c.loop-place-test.true, c.member_count-place-end.ensures.count, ap length (EachLeft-members _ _ _ _ _ _ _ _ _ c.loop-place.invariant))
+member-member-requires c = omega (
+  arith,
+  c.loop-place-test.true,
+  c.member_count-place-end.ensures.count,
+  ap length (EachLeft-members _ _ _ _ _ _ _ _ _ c.loop-place.invariant),
+)
 
 pub complete-requires : goal.complete-requires
 complete-requires c =
-    let few : length c.args.stage.now.facts.members ≤ MOST_MEMBERS = omega (arith, c.member_count-place-end.ensures.few, c.member_count-place-end.ensures.count) in
-    EachLeft-room _ _ beginning_cost _ _ _ _ _ c.loop-place.place _ c.loop-place.invariant (EachLeft-place _ _ _ _ _ _ _ _ c.loop-place.invariant c.member-member.ensures)
-    (HasRoom-fewer _ completions_cost (beginning_cost * length c.args.stage.now.facts.members) (omega (arith, few)) c.requires)
+    let few : length c.args.stage.now.facts.members ≤ MOST_MEMBERS =
+    omega (arith, c.member_count-place-end.ensures.few, c.member_count-place-end.ensures.count) in
+    EachLeft-room _ _ beginning_cost _ _ _ _ _ c.loop-place.place _ c.loop-place.invariant
+    (EachLeft-place _ _ _ _ _ _ _ _ c.loop-place.invariant c.member-member.ensures)
+    (HasRoom-fewer _ completions_cost (beginning_cost * length c.args.stage.now.facts.members)
+    (omega (arith, few)) c.requires)
 
 pub loop-place-preserved : goal.loop-place-preserved
 loop-place-preserved c =
-    EachLeft-more _ _ _ _ _ _ _ _ _ _ c.loop-place.place _ c.loop-place.invariant (EachLeft-place _ _ _ _ _ _ _ _ c.loop-place.invariant c.member-member.ensures) c.in_ok-complete.ensures
+    EachLeft-more _ _ _ _ _ _ _ _ _ _ c.loop-place.place _ c.loop-place.invariant
+    (EachLeft-place _ _ _ _ _ _ _ _ c.loop-place.invariant c.member-member.ensures) c.in_ok-complete.ensures
 
 pub returns : goal.returns
 returns c =
-    let few : length c.args.stage.now.facts.members ≤ MOST_MEMBERS = omega (arith, c.member_count-place-end.ensures.few, c.member_count-place-end.ensures.count) in
-    let over : length c.args.stage.now.facts.members ≤ c.loop-place.place = omega (arith, c.loop-place-test.false, c.member_count-place-end.ensures.count) in
-    Emits-weaker _ _ _ _ _ _ completions_cost (EachLeft-end _ _ _ _ _ _ _ _ c.loop-place.place c.loop-place.invariant over) (omega (arith, few))
+    let few : length c.args.stage.now.facts.members ≤ MOST_MEMBERS =
+    omega (arith, c.member_count-place-end.ensures.few, c.member_count-place-end.ensures.count) in
+    let over : length c.args.stage.now.facts.members ≤ c.loop-place.place =
+    omega (arith, c.loop-place-test.false, c.member_count-place-end.ensures.count) in
+    Emits-weaker _ _ _ _ _ _ completions_cost
+    (EachLeft-end _ _ _ _ _ _ _ _ c.loop-place.place c.loop-place.invariant over) (omega (arith, few))

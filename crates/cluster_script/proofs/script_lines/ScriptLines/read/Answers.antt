@@ -8,6 +8,9 @@ use Rattle.cluster_script.proofs.script_lines.ScriptLines.read.Goals as goal
 pub finish-requires : goal.finish-requires
 finish-requires c =
     let all : after_lines 1 None (lines_in c.self.inside.bytes.now) ≡ Ok c.add_lines.new.self =
-    ap (λ (o : Option DraftText). after_lines 1 o (lines_in c.self.inside.bytes.now)) (sym c.new-draft.ensures) ∙ c.in_ok-end.ensures.value
+    ap (λ (o : Option DraftText). after_lines 1 o (lines_in c.self.inside.bytes.now)) (sym c.new-draft.ensures)
+    ∙ c.in_ok-end.ensures.value
     in
-    λ text f. (lines-read (lines_in c.self.inside.bytes.now) c.add_lines.new.self text (lines-cut c.self.inside.bytes.now) all f).script
+    λ text f.
+    (lines-read (lines_in c.self.inside.bytes.now) c.add_lines.new.self text
+    (lines-cut c.self.inside.bytes.now) all f).script

@@ -23,4 +23,6 @@ returns-clause-in_order c = in_key_order-sorted c.args.entries.items
 
 pub invariant_of-result : goal.invariant_of-result
 invariant_of-result c =
-    subst (λ (entries : List (Key × KeyEntry)). IsRead entries) (sym (ap (λ v. v.items) c.in_ok-new-2.ensures ∙ c.in_ok-in_key_order.ensures)) (read-in_key_order c.args.entries.items c.requires.kinds c.requires.config)
+    subst (λ (entries : List (Key × KeyEntry)). IsRead entries)
+    (sym (ap (λ v. v.items) c.in_ok-new-2.ensures ∙ c.in_ok-in_key_order.ensures))
+    (read-in_key_order c.args.entries.items c.requires.kinds c.requires.config)

@@ -10,13 +10,16 @@ use Rattle.lease_store.proofs.store.Store.drop_expired.Goals as goal
 pub invariant_of-self : goal.invariant_of-self
 invariant_of-self c = (
   kept_dropped _ _ _ c.drop_absent.ensures c.self.invariant.0,
-  subst (λ (pairs : List (Key × KeyEntry)). AreCopies pairs c.forget_absent.new.copies) (ap (present_pairs c.args.now.0) c.deref-2.ensures.value ∙ sym c.drop_absent.ensures) c.forget_absent.ensures,
+  subst (λ (pairs : List (Key × KeyEntry)). AreCopies pairs c.forget_absent.new.copies)
+      (ap (present_pairs c.args.now.0) c.deref-2.ensures.value ∙ sym c.drop_absent.ensures) c.forget_absent.ensures,
 )
 
 pub returns-clause-dropped : goal.returns-clause-dropped
 returns-clause-dropped c =
-    lost_where _ _ c.self.inside.entries.items c.args.self.now _ c.deref.ensures.value (ap (λ (s : Keys). s.pairs) c.self.view_is) c.self.invariant.0.kinds c.expired_holder-holder.ensures
+    lost_where _ _ c.self.inside.entries.items c.args.self.now _ c.deref.ensures.value
+    (ap (λ (s : Keys). s.pairs) c.self.view_is) c.self.invariant.0.kinds c.expired_holder-holder.ensures
 
 pub returns-clause-same : goal.returns-clause-same
 returns-clause-same c later key le =
-    same_later c.args.now.0 later key c.self.inside.entries.items _ c.args.self.now c.drop_absent.ensures c.self.invariant.0 (ap (λ (s : Keys). s.pairs) c.self.view_is) le
+    same_later c.args.now.0 later key c.self.inside.entries.items _ c.args.self.now c.drop_absent.ensures
+    c.self.invariant.0 (ap (λ (s : Keys). s.pairs) c.self.view_is) le

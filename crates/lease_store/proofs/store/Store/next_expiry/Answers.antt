@@ -7,9 +7,11 @@ use Rattle.lease_store.proofs.store.Store.next_expiry.Goals as goal
 
 pub returns-clause-before : goal.returns-clause-before
 returns-clause-before c now h =
-    ap (absent_keys now) (sym (c.deref.ensures.value ∙ ap (λ (k : Keys). k.pairs) c.self.view_is)) ∙ c.first_expiry.ensures.before now h
+    ap (absent_keys now) (sym (c.deref.ensures.value ∙ ap (λ (k : Keys). k.pairs) c.self.view_is))
+    ∙ c.first_expiry.ensures.before now h
 
 pub returns-clause-least : goal.returns-clause-least
 returns-clause-least c h =
-    subst (λ (es : List (Key × KeyEntry)). absent_keys c.first_expiry.result.0 es ≢ []) (c.deref.ensures.value ∙ ap (λ (k : Keys). k.pairs) c.self.view_is)
+    subst (λ (es : List (Key × KeyEntry)). absent_keys c.first_expiry.result.0 es ≢ [])
+    (c.deref.ensures.value ∙ ap (λ (k : Keys). k.pairs) c.self.view_is)
     (c.first_expiry.ensures.least h)

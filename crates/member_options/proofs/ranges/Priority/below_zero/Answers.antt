@@ -7,4 +7,5 @@ pub returns-then-number-gt-GREATEST_PRIORITY : goal.returns-then-number-gt-GREAT
 returns-then-number-gt-GREATEST_PRIORITY c = sym (priority_below_zero-None c.args.number (λ some few. omega arith))
 
 pub returns-else-number-gt-GREATEST_PRIORITY : goal.returns-else-number-gt-GREATEST_PRIORITY
-returns-else-number-gt-GREATEST_PRIORITY c = sym (priority_below_zero-is c.args.number _ (omega arith) (omega (arith, ints)))
+returns-else-number-gt-GREATEST_PRIORITY c =
+    sym (priority_below_zero-is c.args.number _ (omega arith) (omega (arith, ints)))

@@ -10,4 +10,5 @@ pub returns-clause-others : goal.returns-clause-others
 returns-clause-others c = clear_other c.args.self.bits c.args.member.number (omega arith) c.args.member.below
 
 pub returns-clause-less : goal.returns-clause-less
-returns-clause-less c = clear_less c.args.self.bits _ c.args.member.number (bit_at_clear_same w16 c.args.self.bits c.args.member.number c.args.member.below)
+returns-clause-less c = clear_less c.args.self.bits _ c.args.member.number
+    (bit_at_clear_same w16 c.args.self.bits c.args.member.number c.args.member.below)

@@ -7,7 +7,11 @@ use Rattle.pat_world.proofs.Stepping.{is-counted-first, steps-left-first}
 use Rattle.pat_world.proofs.world.World.new.Goals as goal
 
 pub invariant_of-result : goal.invariant_of-result
-invariant_of-result c = (idle-before-none steps.Scheduled c.in_ok-stage.stage, idle-before-none steps.Tick c.in_ok-stage.stage, c.unknown.ensures c.in_ok-stage.stage)
+invariant_of-result c = (
+  idle-before-none steps.Scheduled c.in_ok-stage.stage,
+  idle-before-none steps.Tick c.in_ok-stage.stage,
+  c.unknown.ensures c.in_ok-stage.stage,
+)
 
 pub returns-clause-book : goal.returns-clause-book
 returns-clause-book c = is-stands (cluster_of c.args.head.now) [] c.in_ok-stage.stage c.in_ok-stage.ensures

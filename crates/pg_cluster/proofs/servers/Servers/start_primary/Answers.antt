@@ -9,9 +9,12 @@ use Rattle.pg_cluster.proofs.servers.Servers.start_primary.Goals as goal
 pub invariant_of-self : goal.invariant_of-self
 invariant_of-self c =
     let after : c.start_primary.new.self ≡ primary_started c.args.now c.index_mut-server.result.now = search rules in
-    kept-read _ _ _ c.len.result _ _ c.self.invariant c.index_mut-server.ensures.value (search rules) (omega arith) (ap log_position_of after ∙ log_position-primary_started c.args.now c.index_mut-server.result.now)
+    kept-read _ _ _ c.len.result _ _ c.self.invariant c.index_mut-server.ensures.value (search rules) (omega arith)
+    (ap log_position_of after ∙ log_position-primary_started c.args.now c.index_mut-server.result.now)
 
 pub returns : goal.returns
 returns c =
     let after : c.start_primary.new.self ≡ primary_started c.args.now c.index_mut-server.result.now = search rules in
-    changed-read _ _ _ c.len.result c.index_mut-server.result.now _ _ c.self.view_is c.index_mut-server.ensures.value (search rules) (omega arith) (ap without_spare after ∙ without_spare-primary_started c.args.now c.index_mut-server.result.now)
+    changed-read _ _ _ c.len.result c.index_mut-server.result.now _ _ c.self.view_is c.index_mut-server.ensures.value
+    (search rules) (omega arith)
+    (ap without_spare after ∙ without_spare-primary_started c.args.now c.index_mut-server.result.now)

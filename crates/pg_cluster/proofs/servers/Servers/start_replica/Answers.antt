@@ -14,18 +14,31 @@ no e = cc
 
 pub invariant_of-self : goal.invariant_of-self
 invariant_of-self c =
-    let found : slice_get c.self.inside.servers.items c.args.place ≡ Some c.index_mut-server.result.now = slice_get_read c.self.inside.servers.items c.len.result c.args.place c.index_mut-server.result.now (search rules) (omega arith) c.index_mut-server.ensures.value in
+    let found : slice_get c.self.inside.servers.items c.args.place ≡ Some c.index_mut-server.result.now =
+    slice_get_read c.self.inside.servers.items c.len.result c.args.place c.index_mut-server.result.now
+    (search rules) (omega arith) c.index_mut-server.ensures.value in
     let long : c.len.result ≡ length c.self.inside.servers.items = search rules in
-    let mark : slice_get c.self.inside.in_step.items c.args.place ≡ Some c.index_mut.result.now = slice_get_read c.self.inside.in_step.items c.len.result c.args.place c.index_mut.result.now (long ∙ marks-length _ _ c.self.invariant) (omega arith) c.index_mut.ensures.value in
-    let after : c.start_replica.new.self ≡ replica_started c.args.now c.args.upstream c.index_mut-server.result.now = search rules in
-    followed-at c.self.inside.in_step.items c.self.inside.servers.items c.args.place c.index_mut-server.result.now c.start_replica.new.self (upstream_number_of c.args.upstream) c.index_mut.result.now c.match-upstream.is_same c.self.invariant found mark
+    let mark : slice_get c.self.inside.in_step.items c.args.place ≡ Some c.index_mut.result.now =
+    slice_get_read c.self.inside.in_step.items c.len.result c.args.place c.index_mut.result.now
+    (long ∙ marks-length _ _ c.self.invariant) (omega arith) c.index_mut.ensures.value in
+    let after : c.start_replica.new.self ≡ replica_started c.args.now c.args.upstream c.index_mut-server.result.now =
+    search rules in
+    followed-at c.self.inside.in_step.items c.self.inside.servers.items c.args.place
+    c.index_mut-server.result.now c.start_replica.new.self
+    (upstream_number_of c.args.upstream) c.index_mut.result.now c.match-upstream.is_same c.self.invariant found mark
     (ap log_position_of after ∙ log_position-replica_started c.args.now c.args.upstream c.index_mut-server.result.now)
     (λ e. elim c.match-upstream.branch [
-      | in-Some w ↦ is_place-number w.in-Some.upstream.number (upstream_number_of c.index_mut-server.result.now.upstream) (sym w.follows-is_same.ensures ∙ sym w.is_same-is ∙ e) ∙ ap upstream_number_of (sym w.in-Some.is)
+      | in-Some w ↦
+          is_place-number w.in-Some.upstream.number (upstream_number_of c.index_mut-server.result.now.upstream)
+          (sym w.follows-is_same.ensures ∙ sym w.is_same-is ∙ e)
+          ∙ ap upstream_number_of (sym w.in-Some.is)
       | in-None w ↦ absurd (no (sym w.is_same-is ∙ e))
     ])
 
 pub returns : goal.returns
 returns c =
-    let after : c.start_replica.new.self ≡ replica_started c.args.now c.args.upstream c.index_mut-server.result.now = search rules in
-    changed-read _ _ _ c.len.result c.index_mut-server.result.now _ _ c.self.view_is c.index_mut-server.ensures.value (search rules) (omega arith) (ap without_spare after ∙ without_spare-replica_started c.args.now c.args.upstream c.index_mut-server.result.now)
+    let after : c.start_replica.new.self ≡ replica_started c.args.now c.args.upstream c.index_mut-server.result.now =
+    search rules in
+    changed-read _ _ _ c.len.result c.index_mut-server.result.now _ _ c.self.view_is c.index_mut-server.ensures.value
+    (search rules) (omega arith)
+    (ap without_spare after ∙ without_spare-replica_started c.args.now c.args.upstream c.index_mut-server.result.now)

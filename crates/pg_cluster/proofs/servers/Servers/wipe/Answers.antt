@@ -11,12 +11,19 @@ use Rattle.pg_cluster.proofs.servers.Servers.wipe.Goals as goal
 
 pub invariant_of-self : goal.invariant_of-self
 invariant_of-self c =
-    let forgets : Forgets c.self.inside.in_step.items c.forget.new.in_step (map log_position_of (slice_set c.self.inside.servers.items c.args.place c.wipe.new.self)) c.args.place = rw (c.deref_mut.ensures.value, c.deref.ensures.value) at c.forget.ensures in
-    let items : (with_items c.self.inside.in_step c.forget.new.in_step).items ≡ c.forget.new.in_step = with_items_is c.self.inside.in_step c.forget.new.in_step (search rules) in
-    subst (λ marks. MarksHold marks (map log_position_of (slice_set c.self.inside.servers.items c.args.place c.wipe.new.self))) (sym items)
-    (forgotten-at c.self.inside.in_step.items c.forget.new.in_step c.self.inside.servers.items c.args.place c.wipe.new.self c.self.invariant forgets)
+    let forgets : Forgets c.self.inside.in_step.items c.forget.new.in_step
+    (map log_position_of (slice_set c.self.inside.servers.items c.args.place c.wipe.new.self)) c.args.place =
+    rw (c.deref_mut.ensures.value, c.deref.ensures.value) at c.forget.ensures in
+    let items : (with_items c.self.inside.in_step c.forget.new.in_step).items ≡ c.forget.new.in_step =
+    with_items_is c.self.inside.in_step c.forget.new.in_step (search rules) in
+    subst (λ marks.
+    MarksHold marks (map log_position_of (slice_set c.self.inside.servers.items c.args.place c.wipe.new.self)))
+    (sym items)
+    (forgotten-at c.self.inside.in_step.items c.forget.new.in_step c.self.inside.servers.items c.args.place
+    c.wipe.new.self c.self.invariant forgets)
 
 pub returns : goal.returns
 returns c =
     let after : c.wipe.new.self ≡ wiped c.index_mut-server.result.now = search rules in
-    changed-read _ _ _ c.len.result c.index_mut-server.result.now _ _ c.self.view_is c.index_mut-server.ensures.value (search rules) (omega arith) (ap without_spare after)
+    changed-read _ _ _ c.len.result c.index_mut-server.result.now _ _ c.self.view_is c.index_mut-server.ensures.value
+    (search rules) (omega arith) (ap without_spare after)

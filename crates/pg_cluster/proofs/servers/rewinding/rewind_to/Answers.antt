@@ -11,24 +11,45 @@ pub returns-then-place-from-clause-ok : goal.returns-then-place-from-clause-ok
 returns-then-place-from-clause-ok c =
     let s = get_or c.split_at_mut-low.result.0.now c.args.place c.index-low-place.result in
     let u = get_or c.split_at_mut-low.result.1.now 0 c.index-high-0.result in
-    let at_place : slice_get c.split_at_mut-low.result.0.now c.args.place ≡ Some s = slice_get-get_or c.split_at_mut-low.result.0.now c.args.place c.index-low-place.result (omega arith) in
-    let at_from : slice_get c.split_at_mut-low.result.1.now 0 ≡ Some u = slice_get-get_or c.split_at_mut-low.result.1.now 0 c.index-high-0.result (omega arith) in
-    on_ok_weaker c.rewind_one.result (λ is. changed-low may_rewind rewound c.args.servers.now c.split_at_mut-low.result.0.now c.split_at_mut-low.result.1.now c.args.place c.args.from s u c.rewind_one.new.server c.split_at_mut-low.ensures.value c.split_at_mut-low.ensures.front_len at_place at_from c.requires.may is) c.rewind_one.ensures.ok
+    let at_place : slice_get c.split_at_mut-low.result.0.now c.args.place ≡ Some s =
+    slice_get-get_or c.split_at_mut-low.result.0.now c.args.place c.index-low-place.result (omega arith) in
+    let at_from : slice_get c.split_at_mut-low.result.1.now 0 ≡ Some u =
+    slice_get-get_or c.split_at_mut-low.result.1.now 0 c.index-high-0.result (omega arith) in
+    on_ok_weaker c.rewind_one.result
+    (λ is. changed-low may_rewind rewound c.args.servers.now c.split_at_mut-low.result.0.now
+    c.split_at_mut-low.result.1.now c.args.place c.args.from s u c.rewind_one.new.server
+    c.split_at_mut-low.ensures.value c.split_at_mut-low.ensures.front_len at_place at_from c.requires.may is)
+    c.rewind_one.ensures.ok
 
 pub returns-else-place-from-clause-rewind : goal.returns-else-place-from-clause-rewind
 returns-else-place-from-clause-rewind c =
     let s = get_or c.split_at_mut-low-else-place-from.result.1.now 0 c.index-high-0-else-place-from.result in
     let u = get_or c.split_at_mut-low-else-place-from.result.0.now c.args.from c.index-low-from.result in
-    let at_place : slice_get c.split_at_mut-low-else-place-from.result.1.now 0 ≡ Some s = slice_get-get_or c.split_at_mut-low-else-place-from.result.1.now 0 c.index-high-0-else-place-from.result (omega arith) in
-    let at_from : slice_get c.split_at_mut-low-else-place-from.result.0.now c.args.from ≡ Some u = slice_get-get_or c.split_at_mut-low-else-place-from.result.0.now c.args.from c.index-low-from.result (omega arith) in
-    let own = got-high c.args.servers.now c.split_at_mut-low-else-place-from.result.0.now c.split_at_mut-low-else-place-from.result.1.now c.args.place s c.split_at_mut-low-else-place-from.ensures.value c.split_at_mut-low-else-place-from.ensures.front_len at_place in
-    let source = got-low c.args.servers.now c.split_at_mut-low-else-place-from.result.0.now c.split_at_mut-low-else-place-from.result.1.now c.args.from u c.split_at_mut-low-else-place-from.ensures.value at_from in
-    IfOk-weaker c.rewind_one-else-place-from.result _ _ (λ rewind is. is ∙ sym (rewind_at-of c.args.servers.now c.args.place c.args.from s u own source)) c.rewind_one-else-place-from.ensures.rewind
+    let at_place : slice_get c.split_at_mut-low-else-place-from.result.1.now 0 ≡ Some s = slice_get-get_or
+    c.split_at_mut-low-else-place-from.result.1.now 0 c.index-high-0-else-place-from.result (omega arith) in
+    let at_from : slice_get c.split_at_mut-low-else-place-from.result.0.now c.args.from ≡ Some u = slice_get-get_or
+    c.split_at_mut-low-else-place-from.result.0.now c.args.from c.index-low-from.result (omega arith) in
+    let own = got-high c.args.servers.now c.split_at_mut-low-else-place-from.result.0.now
+    c.split_at_mut-low-else-place-from.result.1.now c.args.place s c.split_at_mut-low-else-place-from.ensures.value
+    c.split_at_mut-low-else-place-from.ensures.front_len at_place in
+    let source = got-low c.args.servers.now c.split_at_mut-low-else-place-from.result.0.now
+    c.split_at_mut-low-else-place-from.result.1.now c.args.from u
+    c.split_at_mut-low-else-place-from.ensures.value at_from in
+    IfOk-weaker c.rewind_one-else-place-from.result _ _
+    (λ rewind is. is ∙ sym (rewind_at-of c.args.servers.now c.args.place c.args.from s u own source))
+    c.rewind_one-else-place-from.ensures.rewind
 
 pub returns-else-place-from-clause-ok : goal.returns-else-place-from-clause-ok
 returns-else-place-from-clause-ok c =
     let s = get_or c.split_at_mut-low-else-place-from.result.1.now 0 c.index-high-0-else-place-from.result in
     let u = get_or c.split_at_mut-low-else-place-from.result.0.now c.args.from c.index-low-from.result in
-    let at_place : slice_get c.split_at_mut-low-else-place-from.result.1.now 0 ≡ Some s = slice_get-get_or c.split_at_mut-low-else-place-from.result.1.now 0 c.index-high-0-else-place-from.result (omega arith) in
-    let at_from : slice_get c.split_at_mut-low-else-place-from.result.0.now c.args.from ≡ Some u = slice_get-get_or c.split_at_mut-low-else-place-from.result.0.now c.args.from c.index-low-from.result (omega arith) in
-    on_ok_weaker c.rewind_one-else-place-from.result (λ is. changed-high may_rewind rewound c.args.servers.now c.split_at_mut-low-else-place-from.result.0.now c.split_at_mut-low-else-place-from.result.1.now c.args.place c.args.from s u c.rewind_one-else-place-from.new.server c.split_at_mut-low-else-place-from.ensures.value c.split_at_mut-low-else-place-from.ensures.front_len at_place at_from c.requires.may is) c.rewind_one-else-place-from.ensures.ok
+    let at_place : slice_get c.split_at_mut-low-else-place-from.result.1.now 0 ≡ Some s = slice_get-get_or
+    c.split_at_mut-low-else-place-from.result.1.now 0 c.index-high-0-else-place-from.result (omega arith) in
+    let at_from : slice_get c.split_at_mut-low-else-place-from.result.0.now c.args.from ≡ Some u = slice_get-get_or
+    c.split_at_mut-low-else-place-from.result.0.now c.args.from c.index-low-from.result (omega arith) in
+    on_ok_weaker c.rewind_one-else-place-from.result
+    (λ is. changed-high may_rewind rewound c.args.servers.now c.split_at_mut-low-else-place-from.result.0.now
+    c.split_at_mut-low-else-place-from.result.1.now c.args.place c.args.from s u
+    c.rewind_one-else-place-from.new.server c.split_at_mut-low-else-place-from.ensures.value
+    c.split_at_mut-low-else-place-from.ensures.front_len at_place at_from c.requires.may is)
+    c.rewind_one-else-place-from.ensures.ok

@@ -14,11 +14,15 @@ pub returns-in_err-play_body-clause-printed : goal.returns-in_err-play_body-clau
 returns-in_err-play_body-clause-printed g c =
     let final = c.from_residual.result in
     let p = err_from_is_err_and final c.from_residual.ensures.1 in
-    Prints-none g.K.Sink c.args.out.now Write Memory final _ (p.1 ∙ ap Err (p.2 ∙ no-write _ _ _ _ _ tt c.in_err-play_body.ensures.printed)) memory-is-no-write
+    Prints-none g.K.Sink c.args.out.now Write Memory final _
+    (p.1 ∙ ap Err (p.2 ∙ no-write _ _ _ _ _ tt c.in_err-play_body.ensures.printed)) memory-is-no-write
 
 pub returns-clause-printed : goal.returns-clause-printed
 returns-clause-printed g c =
     let final = c.print_closing.result in
-    subst (λ (s : SummaryFacts). Prints g.K.Sink c.args.out.now c.print_closing.new.out Write final (closing_text s.watch.closing))
+    subst (λ (s : SummaryFacts).
+    Prints g.K.Sink c.args.out.now c.print_closing.new.out Write final (closing_text s.watch.closing))
     c.in_ok-play_body.ensures.summary
-    (subst (λ (closing : Closing). Prints g.K.Sink c.args.out.now c.print_closing.new.out Write final (closing_text closing)) c.closing.ensures c.print_closing.ensures.printed)
+    (subst (λ (closing : Closing).
+    Prints g.K.Sink c.args.out.now c.print_closing.new.out Write final (closing_text closing))
+    c.closing.ensures c.print_closing.ensures.printed)

@@ -23,10 +23,13 @@ pub returns-clause-printed : goal.returns-clause-printed
 returns-clause-printed g c =
     let player = (player_of g.W.Simulation.facts c.args.self.now) in
     let final = c.print_closing.result in
-    subst (λ (s : SummaryFacts). Prints g.K.Sink c.args.out.now c.print_closing.new.out Write final (printed_from player.world.cluster player.trace (steps_of c.args.script.body) ++ closing_text s.watch.closing))
+    subst (λ (s : SummaryFacts). Prints g.K.Sink c.args.out.now c.print_closing.new.out Write final
+    (printed_from player.world.cluster player.trace (steps_of c.args.script.body) ++ closing_text s.watch.closing))
     c.in_ok-play_body.ensures.summary
     (Prints-then final c.in_ok-play_body.ensures.printed
-    (subst (λ (closing : Closing). Prints g.K.Sink c.play_body.new.out c.print_closing.new.out Write final (closing_text closing)) c.closing.ensures c.print_closing.ensures.printed))
+    (subst (λ (closing : Closing).
+    Prints g.K.Sink c.play_body.new.out c.print_closing.new.out Write final (closing_text closing))
+    c.closing.ensures c.print_closing.ensures.printed))
 
 pub returns-in_err-play_body-clause-whole : goal.returns-in_err-play_body-clause-whole
 returns-in_err-play_body-clause-whole g c =
@@ -38,5 +41,9 @@ returns-clause-whole g c = λ e. record {
   done = steps_of c.args.script.body;
   more = [];
   parts = append-nil (steps_of c.args.script.body);
-  grew = subst (λ out. Grew (g.K.Sink.content c.args.out.now) (g.K.Sink.content out) (printed_from (player_of g.W.Simulation.facts c.args.self.now).world.cluster (player_of g.W.Simulation.facts c.args.self.now).trace (steps_of c.args.script.body))) (sym (c.print_closing.ensures.memory e)) c.in_ok-play_body.ensures.printed.ok;
+  grew =
+      subst (λ out. Grew (g.K.Sink.content c.args.out.now) (g.K.Sink.content out)
+      (printed_from (player_of g.W.Simulation.facts c.args.self.now).world.cluster
+      (player_of g.W.Simulation.facts c.args.self.now).trace (steps_of c.args.script.body)))
+      (sym (c.print_closing.ensures.memory e)) c.in_ok-play_body.ensures.printed.ok;
 }

@@ -7,7 +7,8 @@ use Rattle.run_player.proofs.player.Player.play_body.Given as goal
 
 abbrev pub invariant-loop-line : goal.invariant-loop-line
 invariant-loop-line g l =
-    Playing g.K.Sink (player_of g.W.Simulation.facts l.fn.self) (player_of g.W.Simulation.facts l.self) l.fn.out l.out (steps_of l.fn.script.body) (steps_of l.lines)
+    Playing g.K.Sink (player_of g.W.Simulation.facts l.fn.self)
+    (player_of g.W.Simulation.facts l.self) l.fn.out l.out (steps_of l.fn.script.body) (steps_of l.lines)
     × AllAreLines (names_of l.fn.script.head) l.lines
 
 abbrev pub decreases-loop-line : goal.decreases-loop-line

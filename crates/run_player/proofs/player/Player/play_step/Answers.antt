@@ -6,7 +6,12 @@ use Rattle.run_player.proofs.Played.{Plays-none, Plays-step, Plays-step-stop}
 use Rattle.run_player.proofs.player.Player.play_step.Goals as goal
 
 pub set_text-requires : goal.set_text-requires
-set_text-requires g c = λ on. ap (λ (l : Listed). l.traced) (c.in_ok-step.ensures.emits.event ∙ ap (λ (l : Listed). l +++ next_events (g.W.Simulation.facts c.args.self.now.world).cluster c.args.step.now) c.begin.ensures) ∙ on
+set_text-requires g c = λ on.
+    ap (λ (l : Listed). l.traced)
+    (c.in_ok-step.ensures.emits.event
+    ∙ ap (λ (l : Listed). l +++ next_events (g.W.Simulation.facts c.args.self.now.world).cluster c.args.step.now)
+    c.begin.ensures)
+    ∙ on
 
 pub returns-in_err-step : goal.returns-in_err-step
 returns-in_err-step g c =
@@ -29,7 +34,8 @@ pub returns-in_err-print_lines : goal.returns-in_err-print_lines
 returns-in_err-print_lines g c =
     let final = c.from_residual-in_err-print_lines.result in
     let p = err_from_is_err_and final c.from_residual-in_err-print_lines.ensures.1 in
-    Plays-step-stop final c.in_ok-step.ensures.emits c.begin.ensures (c.as_bytes.ensures.value ∙ c.in_ok-set_text.ensures) c.in_err-print_lines.ensures (p.1 ∙ ap Err p.2)
+    Plays-step-stop final c.in_ok-step.ensures.emits c.begin.ensures
+    (c.as_bytes.ensures.value ∙ c.in_ok-set_text.ensures) c.in_err-print_lines.ensures (p.1 ∙ ap Err p.2)
 
 pub returns : goal.returns
 returns g c =

@@ -5,10 +5,13 @@ use Rattle.wal_model.proofs.Chains.{chained-push, joined-push}
 use Rattle.wal_model.proofs.pieces.Pieces.put.Goals as goal
 
 kept : (c : goal.After-self-1) → joined c.cut.new.placed.items ≡ take c.args.next.before c.args.self.now
-kept c = c.cut.ensures.kept ∙ ap (λ t. take c.args.next.before (joined t)) c.in_ok-reserve.ensures.items ∙ ap (take c.args.next.before) c.self.view_is
+kept c = c.cut.ensures.kept ∙ ap (λ t. take c.args.next.before (joined t)) c.in_ok-reserve.ensures.items
+    ∙ ap (take c.args.next.before) c.self.view_is
 
-whole : (c : goal.After-self-1) → joined c.push.new.self.items ≡ take c.args.next.before c.args.self.now ++ c.args.next.piece
-whole c = ap joined c.in_ok-push.ensures.items ∙ joined-push c.cut.new.placed.items c.args.next ∙ ap (λ t. t ++ c.args.next.piece) (kept c)
+whole : (c : goal.After-self-1)
+    → joined c.push.new.self.items ≡ take c.args.next.before c.args.self.now ++ c.args.next.piece
+whole c = ap joined c.in_ok-push.ensures.items ∙ joined-push c.cut.new.placed.items c.args.next
+    ∙ ap (λ t. t ++ c.args.next.piece) (kept c)
 
 pub invariant_of-self-2 : goal.invariant_of-self-2
 invariant_of-self-2 c = record {

@@ -9,7 +9,8 @@ never true last h e = h refl
 never false last h e = e
 
 pub returns-then-last_stands_in-clause-test : goal.returns-then-last_stands_in-clause-test
-returns-then-last_stands_in-clause-test c = counted-test c.args.self.now c.args.of.now c.common.result c.len.result c.common.ensures.count c.len.ensures
+returns-then-last_stands_in-clause-test c =
+    counted-test c.args.self.now c.args.of.now c.common.result c.len.result c.common.ensures.count c.len.ensures
 
 pub returns-then-last_stands_in-clause-prefix : goal.returns-then-last_stands_in-clause-prefix
 returns-then-last_stands_in-clause-prefix c = (
@@ -19,4 +20,5 @@ returns-then-last_stands_in-clause-prefix c = (
 
 pub returns-else-last_stands_in-clause-test : goal.returns-else-last_stands_in-clause-test
 returns-else-last_stands_in-clause-test c =
-    never (is_prefix c.args.self.now c.args.of.now) c.last_stands_in.result (λ h. c.last_stands_in.ensures (is_prefix-to _ _ h)) c.if-last_stands_in.false
+    never (is_prefix c.args.self.now c.args.of.now) c.last_stands_in.result
+    (λ h. c.last_stands_in.ensures (is_prefix-to _ _ h)) c.if-last_stands_in.false

@@ -12,7 +12,9 @@ ordered : (flight : Flight) → IsFlight flight → IsStrictlySortedBy nat_cmp (
 ordered flight is = rise-sorted 0 is.rise.0 flight is.rise.1
 
 pub returns-then-len-eq0-clause-order : goal.returns-then-len-eq0-clause-order
-returns-then-len-eq0-clause-order c = subst (λ (flight : Flight). IsStrictlySortedBy nat_cmp (keys_of flight)) c.self.view_is (ordered (c.self.inside.earlier.entries ++ c.self.inside.latest.items) c.self.invariant)
+returns-then-len-eq0-clause-order c = subst (λ (flight : Flight). IsStrictlySortedBy nat_cmp (keys_of flight))
+    c.self.view_is (ordered (c.self.inside.earlier.entries ++ c.self.inside.latest.items) c.self.invariant)
 
 pub returns-else-len-eq0-clause-order : goal.returns-else-len-eq0-clause-order
-returns-else-len-eq0-clause-order c = subst (λ (flight : Flight). IsStrictlySortedBy nat_cmp (keys_of flight)) c.self.view_is (ordered (c.self.inside.earlier.entries ++ c.self.inside.latest.items) c.self.invariant)
+returns-else-len-eq0-clause-order c = subst (λ (flight : Flight). IsStrictlySortedBy nat_cmp (keys_of flight))
+    c.self.view_is (ordered (c.self.inside.earlier.entries ++ c.self.inside.latest.items) c.self.invariant)

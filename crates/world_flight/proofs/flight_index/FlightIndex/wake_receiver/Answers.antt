@@ -9,7 +9,8 @@ loop-from-init c = record { looser = looser-same c.args.self.now; woken = λ fro
 pub loop-from-preserved : goal.loop-from-preserved
 loop-from-preserved c = record {
   looser = looser-then _ _ _ c.loop-from.invariant.looser c.wake.ensures.looser;
-  woken = below_more _ _ (λ from below. c.wake.ensures.empty (way_of _ from) (c.loop-from.invariant.woken from below)) c.in_ok-wake.ensures.woken;
+  woken = below_more _ _ (λ from below. c.wake.ensures.empty (way_of _ from) (c.loop-from.invariant.woken from below))
+      c.in_ok-wake.ensures.woken;
 }
 
 pub returns-in_err-wake-clause-looser : goal.returns-in_err-wake-clause-looser

@@ -11,7 +11,11 @@ pub returns : goal.returns
 returns c =
     let before = seen c.self.inside in
     on_ok_weaker c.write_down.result
-    (λ has. subst (λ (b : Cluster). Emits b (with_servers before c.confirm.new.self) c.args.events.now c.write_down.new.events (confirm_events b c.args.member c.args.from) 1) c.self.view_is
-    (confirm-took before c.args.member c.args.from c.in-Some.end c.of.result c.confirm.new.self c.self.inside.clock c.args.events.now c.write_down.new.events
+    (λ has.
+    subst (λ (b : Cluster). Emits b (with_servers before c.confirm.new.self) c.args.events.now c.write_down.new.events
+    (confirm_events b c.args.member c.args.from) 1)
+    c.self.view_is
+    (confirm-took before c.args.member c.args.from c.in-Some.end c.of.result c.confirm.new.self
+    c.self.inside.clock c.args.events.now c.write_down.new.events
     (sym c.unconfirmed_end.ensures ∙ c.in-Some.is) c.of.ensures c.confirm.ensures refl has))
     c.write_down.ensures

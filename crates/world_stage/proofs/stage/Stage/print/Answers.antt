@@ -10,8 +10,10 @@ use Rattle.world_stage.proofs.stage.Stage.print.Goals as goal
 pub loop-line-preserved : goal.loop-line-preserved
 loop-line-preserved c =
     let at = c.loop-line in
-    let steps : into_iter_items at.line-iterator ≡ c.in-Some.line ∷ into_iter_items c.next.new.self = c.in-Some.ensures.steps.0 in (
-      printed-more c.args.self.now _ _ _ at.yielded c.in-Some.line c.self.inside.clock c.new.result at.invariant.0 c.in_ok-write_down.ensures (omega (arith, ap (λ (b : Cluster). b.facts.clock) c.self.view_is)) c.new.ensures,
+    let steps : into_iter_items at.line-iterator ≡ c.in-Some.line ∷ into_iter_items c.next.new.self =
+    c.in-Some.ensures.steps.0 in (
+      printed-more c.args.self.now _ _ _ at.yielded c.in-Some.line c.self.inside.clock c.new.result at.invariant.0
+          c.in_ok-write_down.ensures (omega (arith, ap (λ (b : Cluster). b.facts.clock) c.self.view_is)) c.new.ensures,
       at.invariant.1 ∙ ap (λ ls. at.yielded ++ ls) steps ∙ sym (append_assoc at.yielded (c.in-Some.line ∷ []) _),
       let was = at.invariant.2 in
           let gone = c.in-Some.ensures.steps.1 in
@@ -25,4 +27,5 @@ returns c =
     let empty : into_iter_items at.line-iterator ≡ [] = none-left _ _ at.invariant.2 c.in-None.ensures.steps.0 in
     let all = at.invariant.1 ∙ ap (λ ls. at.yielded ++ ls) empty ∙ append-nil at.yielded in
     printed-took c.args.self.now c.args.lines.items c.args.events.now at.events
-    (subst (λ (ls : List (String Global)). at.events ≡ c.args.events.now +++ map (printed c.args.self.now) ls) (sym all) at.invariant.0)
+    (subst (λ (ls : List (String Global)). at.events ≡ c.args.events.now +++ map (printed c.args.self.now) ls)
+    (sym all) at.invariant.0)

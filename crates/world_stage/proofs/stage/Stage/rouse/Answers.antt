@@ -9,6 +9,7 @@ use Rattle.world_stage.proofs.stage.Stage.rouse.Goals as goal
 pub returns-clause-emits : goal.returns-clause-emits
 returns-clause-emits c =
     on_ok_weaker c.write_down.result
-    (λ has. Emits-told c.args.self.now c.agent_hears.new.self c.self.inside.clock (kinds.Agent (Woken c.args.agent)) c.args.events.now c.write_down.new.events tt c.agent_hears.ensures.world
+    (λ has. Emits-told c.args.self.now c.agent_hears.new.self c.self.inside.clock
+    (kinds.Agent (Woken c.args.agent)) c.args.events.now c.write_down.new.events tt c.agent_hears.ensures.world
     (ap (λ (b : Cluster). b.facts.clock) c.self.view_is) has)
     c.write_down.ensures

@@ -17,9 +17,19 @@ returns c =
     let before = seen c.self.inside in
     let member = c.in_ok-member.member in
     let machine = c.in_ok-machine.machine in
-    let is : declared before c.args.id ≡ Some member = ap (λ (members : List Member). slice_get members c.args.id.number) (sym c.deref.ensures.value) ∙ sym c.member_at.ensures ∙ c.in_ok-member.was in
-    let there : machine_of before member ≡ Some machine = subst (λ (b : Cluster). machine_of b member ≡ Some machine) (sym c.self.view_is) (sym c.machine.ensures.machine ∙ c.in_ok-machine.was) in
+    let is : declared before c.args.id ≡ Some member =
+    ap (λ (members : List Member). slice_get members c.args.id.number) (sym c.deref.ensures.value)
+    ∙ sym c.member_at.ensures ∙ c.in_ok-member.was in
+    let there : machine_of before member ≡ Some machine = subst (λ (b : Cluster). machine_of b member ≡ Some machine)
+    (sym c.self.view_is) (sym c.machine.ensures.machine ∙ c.in_ok-machine.was) in
     let shows = c.view_at.ensures.shows
-    ∙ ap (λ (agents : List (Option AgentFacts)). option_map (λ (a : AgentFacts). view_of c.self.inside.clock (word_of a.role) a.knows machine) (agent_at agents member.id.number)) c.deref-2.ensures.value in
-    let seen_so = c.view_at.ensures.seen ∙ ap (λ (agents : List (Option AgentFacts)). option_and_then (λ (a : AgentFacts). a.knows.seen) (agent_at agents member.id.number)) c.deref-2.ensures.value in
-    subst (λ (b : Cluster). IsViewOf b c.args.id c.view_at.result) c.self.view_is (view-is before c.args.id member machine c.view_at.result is there shows seen_so)
+    ∙ ap (λ (agents : List (Option AgentFacts)).
+    option_map (λ (a : AgentFacts). view_of c.self.inside.clock (word_of a.role) a.knows machine)
+    (agent_at agents member.id.number))
+    c.deref-2.ensures.value in
+    let seen_so = c.view_at.ensures.seen
+    ∙ ap (λ (agents : List (Option AgentFacts)).
+    option_and_then (λ (a : AgentFacts). a.knows.seen) (agent_at agents member.id.number))
+    c.deref-2.ensures.value in
+    subst (λ (b : Cluster). IsViewOf b c.args.id c.view_at.result) c.self.view_is
+    (view-is before c.args.id member machine c.view_at.result is there shows seen_so)
