@@ -13,7 +13,6 @@ use Rattle.pg_model.specs.Facts.{entries_of}
 use Rattle.event_book.specs.declared.event.Event.{Event}
 use Rattle.event_book.specs.declared.event.EventKind.{EventKind}
 use Rattle.event_book.specs.declared.event.EventKind.TheVariants as kinds
-use Rattle.event_book.specs.declared.event.AgentEvent.TheVariants as agents
 use Rattle.event_book.specs.declared.event.MessageEvent.{MessageEvent}
 use Rattle.event_book.specs.declared.event.MessageEvent.TheVariants.{Sent, Delivered, Lost}
 use Rattle.event_book.specs.declared.event.ReplicationEvent.TheVariants as replications
@@ -23,14 +22,12 @@ use Rattle.event_book.specs.declared.link.LinkEnd.TheVariants as ends
 use Rattle.event_book.specs.declared.message.Body.{Body}
 use Rattle.event_book.specs.declared.message.Body.TheVariants as bodies
 use Rattle.event_book.specs.Acknowledged.{acknowledged_after}
-use Rattle.event_book.specs.Clock.{now_after}
 use Rattle.event_book.specs.Functions.{put_at, set_members}
 use Rattle.event_book.specs.Logs.{Logs, logs_after}
 use Rattle.event_book.specs.Required.{required_after, confirmed_after}
-use Rattle.event_book.specs.Writers.{writes_after}
 use Rattle.sync_order.specs.Grown.{grown_after}
 use Rattle.lease_model.specs.Leases.{LeaderKey, FailsafeKey}
-use Rattle.lease_model.specs.Past.{leader_after, failsafe_after, revision_after}
+use Rattle.lease_model.specs.Past as lease_past
 use Rattle.commit_actions.specs.Keys.{SyncKey, Confirmers, Nobody, All}
 use Rattle.commit_actions.specs.Flights.{Aim, ClaimSync, PublishStandbys, CreateLeader, SyncRequest, Flying, Requested, LeaseGranted, SyncGranted, SnapshotSent, RaceAnswered}
 use Rattle.commit_actions.specs.States.{Agent, Machine, State}
@@ -112,20 +109,15 @@ query_of member incarnation sequence _ = OtherQuery
 
 -- what a book determines
 pub record Past : Type 0 where
-  pub clock : ℕ
+  -- what the law of one writer reads of it
+  pub lease : lease_past.Past
   pub sync : Option SyncKey
-  -- the leader key and the failsafe key, as the law of one writer reads them
-  pub leader : Option LeaderKey
-  pub failsafe : Option FailsafeKey
   -- the holder of the leader key asked for a renewal that carries a set, which only a live leader does
   pub holder_was_live : Bool
-  pub revision : ℕ
   -- what each request so far asks, by the number of its message; the messages in flight
   pub asked : ℕ → Query
   pub flight : ℕ → Option Flying
-  pub runs : ℕ → ℕ
   pub logs : Logs
-  pub writes : ℕ → Bool
   pub required : List Required
   -- where the logs ended when required lists last grew
   pub grown : ℕ → ℕ
@@ -211,7 +203,7 @@ lease_grant_of past member incarnation sequence = Some (LeaseGranted (record {
   member = member;
   incarnation = incarnation;
   sequence = sequence;
-  revision = past.revision;
+  revision = past.lease.revision;
   sync = past.sync;
 }))
 
@@ -227,7 +219,7 @@ snapshot_of past keyless leaderless = Some (SnapshotSent (record {
   sync = past.sync;
   keyless = keyless;
   leaderless = leaderless;
-  failsafe_revision = failsafe_revision_of past.failsafe;
+  failsafe_revision = failsafe_revision_of past.lease.failsafe;
 }))
 
 -- the answer to a granted request
@@ -241,7 +233,7 @@ grant_in_flight_of past member incarnation sequence OtherQuery = snapshot_of pas
 -- a message of the key store to this member
 abbrev pub answer_in_flight_of : Past → ℕ → ℕ → ℕ → Body → Option Flying
 answer_in_flight_of past member incarnation sequence bodies.Snapshot =
-    snapshot_of past (is_keyless past.leader past.failsafe) (is_leaderless past.leader)
+    snapshot_of past (is_keyless past.lease.leader past.lease.failsafe) (is_leaderless past.lease.leader)
 answer_in_flight_of past member incarnation sequence (bodies.Granted request leased) =
     grant_in_flight_of past member incarnation sequence (past.asked request)
 answer_in_flight_of past member incarnation sequence _ = None
@@ -304,11 +296,6 @@ queries_after asked (kinds.Message (Sent number message)) =
     put_at asked number (query_sent message.from message.incarnation message.sequence message.body)
 queries_after asked _ = asked
 
--- the incarnation of each agent, after an event
-abbrev pub runs_after : (ℕ → ℕ) → EventKind → ℕ → ℕ
-runs_after runs (kinds.Agent (agents.Started agent incarnation)) = put_at runs agent.id.number incarnation
-runs_after runs _ = runs
-
 -- a log up to a commit, from this entry on: the entry alone where it is of that commit, and else with what follows
 abbrev pub front_if : Bool → Entry → List Entry → List Entry
 front_if true entry front = entry ∷ []
@@ -333,17 +320,12 @@ acknowledged_log_after logs acknowledged_log _ = acknowledged_log
 -- what one more event leaves
 abbrev pub past_after : Past → EventKind → Past
 past_after past kind = record {
-  clock = now_after past.clock kind;
-  sync = sync_after past.revision past.sync kind;
-  leader = leader_after past.clock past.revision past.leader kind;
-  failsafe = failsafe_after past.revision past.failsafe kind;
-  holder_was_live = was_live_after past.holder_was_live past.leader kind;
-  revision = revision_after past.revision kind;
+  lease = lease_past.past_after past.lease kind;
+  sync = sync_after past.lease.revision past.sync kind;
+  holder_was_live = was_live_after past.holder_was_live past.lease.leader kind;
   asked = queries_after past.asked kind;
   flight = past_flight_after past kind;
-  runs = runs_after past.runs kind;
   logs = logs_after past.logs kind;
-  writes = writes_after past.writes kind;
   required = required_after past.required kind;
   grown = grown_after past.required past.logs past.grown kind;
   confirmed = confirmed_after past.confirmed kind;
@@ -359,17 +341,12 @@ past_over past (event ∷ events) = past_over (past_after past event.kind) event
 -- before the first event, over servers with these logs, required lists and confirmed positions
 abbrev pub first_past : Logs → List Required → List (List (Option Lsn)) → Past
 first_past logs required confirmed = record {
-  clock = 0;
+  lease = lease_past.first_past;
   sync = None;
-  leader = None;
-  failsafe = None;
   holder_was_live = false;
-  revision = 1;
   asked = λ i. OtherQuery;
   flight = λ i. None;
-  runs = λ m. 1;
   logs = logs;
-  writes = λ n. false;
   required = required;
   grown = λ m. 0;
   confirmed = confirmed;
@@ -417,12 +394,12 @@ position_of (Some positions) n = position_in (slice_get positions n)
 abbrev pub machine_of : Past → VolatileState → ℕ → Machine
 machine_of past volatile_state m = record {
   live = volatile_state.live;
-  writes = past.writes m;
+  writes = past.lease.writes m;
   required = confirmers_of (slice_get past.required m);
   confirmed = position_of (slice_get past.confirmed m);
   log = log_found (slice_get past.logs m);
   agent = volatile_state.agent;
-  runs = past.runs m;
+  runs = past.lease.runs m;
 }
 
 -- a cluster: its members have numbers below the first, and the second says whether creates
@@ -436,12 +413,12 @@ abbrev pub state_of : Setup → Past → (ℕ → VolatileState) → State
 state_of setup past volatile_states = record {
   member_count = setup.member_count;
   creates_compare = setup.creates_compare;
-  holder = key_holder past.leader;
+  holder = key_holder past.lease.leader;
   holder_was_live = past.holder_was_live;
-  failsafe_revision = failsafe_revision_of past.failsafe;
+  failsafe_revision = failsafe_revision_of past.lease.failsafe;
   sync = past.sync;
-  leader = leader_revision past.leader;
-  revision = past.revision;
+  leader = leader_revision past.lease.leader;
+  revision = past.lease.revision;
   flight = past.flight;
   members = λ m. machine_of past (volatile_states m) m;
   acknowledged_log = past.acknowledged_log;

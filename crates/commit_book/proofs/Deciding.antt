@@ -25,7 +25,7 @@ use Rattle.lease_book.proofs.Flights.{snapshot-leader}
 use Rattle.commit_actions.specs.Actions.{at_revision, is_as_read}
 use Rattle.commit_actions.specs.Keys.{SyncKey}
 use Rattle.commit_actions.specs.Past.{Past, leader_revision, revision_in}
-use Rattle.commit_book.specs.Keys.{sync_key_of, lease_keys, IsSameKeys}
+use Rattle.commit_book.specs.Keys.{sync_key_of, IsSameKeys}
 
 turned : (m n : ℕ) → (m == n) ≡ (n == m)
 turned m n = grind (arith, nat_tests)
@@ -66,7 +66,7 @@ leased-present clock (Some found_key) e = leased-if (is_present clock found_key.
 -- what a compare of the leader key's revision finds
 leader-compared : (past : Past) (facts : Facts) (compared : ℕ) → IsSameKeys past facts
     → is_as_expected (Revision compared) (found_in (key_in facts.keys.pairs facts.clock keys.Leader))
-    ≡ at_revision (leader_revision past.leader) compared
+    ≡ at_revision (leader_revision past.lease.leader) compared
 leader-compared past facts compared same =
     let entry : Option KeyEntry = find key_cmp keys.Leader facts.keys.pairs in
     leader-read compared (present facts.clock entry)
@@ -74,7 +74,7 @@ leader-compared past facts compared same =
     (present_found facts.clock entry found_key is))
     (leased-present facts.clock entry same.lease.leased)
     ∙ ap (λ (l : Option LeaderKey). at_revision (leader_revision l) compared)
-    (sym (snapshot-leader (lease_keys past) facts same.lease
+    (sym (snapshot-leader past.lease facts same.lease
     ∙ ap leader_key_of (find_present facts.clock keys.Leader facts.keys.pairs same.lease.kept.order)))
 
 -- ---- the sync key
@@ -121,14 +121,14 @@ grants-both false b key other found also = refl
 -- on a claim, or a write of the sync key
 pub decision-is : (past : Past) (facts : Facts) (compared : ℕ) (expected : Expected) → IsSameKeys past facts
     → grants (decision_by facts.keys.pairs facts.clock ((keys.Leader, Revision compared) ∷ (keys.Sync, expected) ∷ []))
-    ≡ (at_revision (leader_revision past.leader) compared && is_as_read past.sync (revision_in expected))
+    ≡ (at_revision (leader_revision past.lease.leader) compared && is_as_read past.sync (revision_in expected))
 decision-is past facts compared expected same =
     let leader : Expected = found_in (key_in facts.keys.pairs facts.clock keys.Leader) in
     let sync : Expected = found_in (key_in facts.keys.pairs facts.clock keys.Sync) in
     grants-both (is_as_expected (Revision compared) leader)
     (is_as_expected expected sync) keys.Leader keys.Sync leader sync
     ∙ ap (λ (b : Bool). b && is_as_expected expected sync) (leader-compared past facts compared same)
-    ∙ ap (λ (b : Bool). at_revision (leader_revision past.leader) compared && b)
+    ∙ ap (λ (b : Bool). at_revision (leader_revision past.lease.leader) compared && b)
     (sync-compared past facts expected same)
 
 grants-one : (a : Bool) (key : Key) (found : Expected) → grants (decision_if a key found Granting) ≡ a
@@ -143,9 +143,9 @@ there-from (Some key) compared e = (key, refl)
 -- where what compares the leader key alone is granted, that key is there
 pub granted-leader : (past : Past) (facts : Facts) (compared : ℕ) → IsSameKeys past facts
     → decision_by facts.keys.pairs facts.clock ((keys.Leader, Revision compared) ∷ []) ≡ Granting
-    → (key : LeaderKey) × (past.leader ≡ Some key)
+    → (key : LeaderKey) × (past.lease.leader ≡ Some key)
 granted-leader past facts compared same granted =
     let leader : Expected = found_in (key_in facts.keys.pairs facts.clock keys.Leader) in
-    there-from past.leader compared
+    there-from past.lease.leader compared
     (sym (leader-compared past facts compared same)
     ∙ sym (grants-one (is_as_expected (Revision compared) leader) keys.Leader leader) ∙ ap grants granted)

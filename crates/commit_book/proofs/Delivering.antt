@@ -41,13 +41,14 @@ use Rattle.commit_book.proofs.Groups.{book-after, granted-causal, refused-causal
 pub claim-decided : (past : Past) (facts : Facts) (m incarnation sequence revision : ℕ) (sync : Expected)
     → IsSameKeys past facts
     → is_grant (decision_on facts.keys facts.clock (txns.Claim revision sync))
-    ≡ is_granted (leader_revision past.leader) past.sync (claim_request m incarnation sequence revision sync)
+    ≡ is_granted (leader_revision past.lease.leader) past.sync (claim_request m incarnation sequence revision sync)
 claim-decided past facts m incarnation sequence revision sync same = decision-is past facts revision sync same
 
 pub publish-decided : (past : Past) (facts : Facts) (m incarnation sequence revision : ℕ) (sync : Expected)
     (standbys : MemberSet) → IsSameKeys past facts
     → is_grant (decision_on facts.keys facts.clock (txns.SetSync revision sync standbys))
-    ≡ is_granted (leader_revision past.leader) past.sync (publish_request m incarnation sequence revision sync standbys)
+    ≡ is_granted (leader_revision past.lease.leader) past.sync
+    (publish_request m incarnation sequence revision sync standbys)
 publish-decided past facts m incarnation sequence revision sync standbys same =
     decision-is past facts revision sync same
 
@@ -65,7 +66,7 @@ none-above : (past : Past) (facts : Facts) (j : ℕ) → IsSameFlight past facts
 none-above past facts j same above =
     same.same j
     ∙ ap (λ (o : Option InFlightFacts). flying_if past.asked o)
-    (none-in (in_flight facts.flight j) (λ carried here. omega (arith, above, same.flown j carried here)))
+    (none-in (in_flight facts.flight j) (λ carried here. omega (arith, above, same.lease.flown j carried here)))
 
 renew-flying : (m incarnation sequence revision : ℕ) (info : MemberInfo) (ttl : Ticks) (status : Option Lsn)
     (row : Option HistoryRow) (failsafe : Option MemberSet)
@@ -368,10 +369,10 @@ pub read-delivery : (setup : Setup) (past : Past) (facts : Facts) (volatile_stat
     }
     → facts.sent < j
     → IsAllowed (state_of setup past volatile_states)
-    (SendSnapshot (is_keyless past.leader past.failsafe) (is_leaderless past.leader) j)
+    (SendSnapshot (is_keyless past.lease.leader past.lease.failsafe) (is_leaderless past.lease.leader) j)
     → let events = read_events tick i j by incarnation sequence in IsDelivered setup past facts volatile_states events
     (transition_of volatile_states
-    (SendSnapshot (is_keyless past.leader past.failsafe) (is_leaderless past.leader) j) events ∷ [])
+    (SendSnapshot (is_keyless past.lease.leader past.lease.failsafe) (is_leaderless past.lease.leader) j) events ∷ [])
 read-delivery setup past facts volatile_states tick i j carried by incarnation sequence = λ same here is above may.
     let none : past.flight i ≡ None = heard past facts i carried (record {
       from = ends.Member by;

@@ -10,7 +10,11 @@ use Rattle.event_book.specs.Facts.{start_of}
 use Rattle.event_book.specs.Logs.{Logs}
 use Rattle.commit_actions.specs.Flights.{SyncGranted}
 use Rattle.commit_actions.specs.Past.{first_past, past_over}
-use Rattle.commit_book.specs.Example.{led_and_claimed, claim_flying}
+use Rattle.commit_book.specs.Example.{claimed, led_and_claimed, claim_flying}
+use Rattle.lease_model.specs.Past as lease_past
+use Rattle.lease_book.specs.Example.{asked_and_granted}
+use Rattle.lease_book.proofs.Groups as lease_groups
+use Rattle.lease_book.proofs.ExampleBook as lease_example
 use Rattle.commit_book.specs.Flights.{AreCausal}
 
 pub example : (logs : Logs) (required : List Required) (confirmed : List (List (Option Lsn)))
@@ -20,54 +24,57 @@ pub example : (logs : Logs) (required : List Required) (confirmed : List (List (
     ≡ Some (SyncGranted (claim_flying by)))
 example logs required confirmed first names base by info = (
   (
-    tt,
-    (
-      (omega arith, tt),
-      (
-        tt,
-        (
+    lease_groups.causal-both lease_past.first_past (start_of first names base) (asked_and_granted by info)
+        (claimed by) (lease_example.example first names base by info).0 (
           tt,
           (
-            omega arith,
+            (omega arith, tt),
             (
               tt,
               (
                 tt,
                 (
-                  (omega arith, record { before = omega arith; named = tt; leasing = refl; written = refl }),
+                  tt,
                   (
                     tt,
                     (
-                      (omega arith, tt),
+                      tt,
                       (
-                        tt,
                         (
-                          tt,
-                          (
-                            tt,
-                            (
-                              tt,
-                              (
-                                tt,
-                                (
-                                  (
-                                    omega arith,
-                                    record {
-                                      before = omega arith;
-                                      named = (refl, (refl, refl));
-                                      leasing = refl;
-                                      written = refl;
-                                    },
-                                  ),
-                                  tt,
-                                ),
-                              ),
-                            ),
-                          ),
+                          omega arith,
+                          record {
+                            question = _;
+                            is = refl;
+                            asker = refl;
+                            in_run = refl;
+                            numbered = refl;
+                            leasing = refl;
+                          },
                         ),
+                        tt,
                       ),
                     ),
                   ),
+                ),
+              ),
+            ),
+          ),
+        ),
+    (
+      tt,
+      (
+        tt,
+        (
+          tt,
+          (
+            record { before = omega arith; named = tt; leasing = refl; written = refl },
+            (
+              tt,
+              (
+                tt,
+                (
+                  tt,
+                  (record { before = omega arith; named = (refl, (refl, refl)); leasing = refl; written = refl }, tt),
                 ),
               ),
             ),

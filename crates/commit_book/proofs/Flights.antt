@@ -11,7 +11,6 @@ use Rattle.store_keys.specs.declared.txn.Txn.{Txn}
 use Rattle.lease_store.specs.KeyOrder.{key_cmp}
 use Rattle.event_book.specs.declared.event.EventKind.{EventKind}
 use Rattle.event_book.specs.declared.event.EventKind.TheVariants as kinds
-use Rattle.event_book.specs.declared.event.MessageEvent.{MessageEvent}
 use Rattle.event_book.specs.declared.event.MessageEvent.TheVariants.{Sent, Delivered, Lost}
 use Rattle.event_book.specs.declared.link.LinkEnd.{LinkEnd}
 use Rattle.event_book.specs.declared.link.LinkEnd.TheVariants as ends
@@ -25,38 +24,39 @@ use Rattle.event_book.specs.Functions.{put_at}
 use Rattle.event_book.specs.Logs.{Logs}
 use Rattle.lease_model.specs.Leases.{LeaderKey, FailsafeKey}
 use Rattle.lease_model.proofs.Tools.{some-is, none-some, put-all, put-here, put-there, dropped}
-use Rattle.lease_book.proofs.Entries.{in-with, in-without, rises-with, rises-without}
+use Rattle.lease_book.proofs.Entries.{in-with, in-without}
+use Rattle.lease_book.proofs.Flights as lease_flights
 use Rattle.lease_book.proofs.Flights.{snapshot-leader, snapshot-failsafe}
+use Rattle.lease_book.specs.Flights as lease_causes
+use Rattle.lease_book.specs.Flights.{Rises}
 use Rattle.commit_actions.specs.Keys.{SyncKey}
 use Rattle.commit_actions.specs.Flights.{Aim, ClaimSync, CreateLeader, PublishStandbys, SyncRequest, Flying, Requested, LeaseGranted, SnapshotSent}
 use Rattle.commit_actions.specs.Actions.{sync_key_by}
 use Rattle.commit_actions.specs.Past.{Past, Query, LeaseQuery, CarryQuery, SyncQuery, OtherQuery, first_past, query_of, query_sent, is_keyless, is_leaderless, failsafe_revision_of, leader_revision, lease_grant_of, sync_grant_of, request_grant_of, snapshot_of, grant_in_flight_of, answer_in_flight_of, query_in_flight_of, request_in_flight_of, race_answer_of, peer_in_flight_of, flying_of, past_after}
-use Rattle.commit_book.specs.Keys.{sync_key_of, lease_keys, IsSameKeys}
-use Rattle.commit_book.specs.Flights.{past_at_sending, flying_if, is_leasing, IsNamed, HasWritten, IsWritten, AnswersBody, Answers, IsCausal, IsSameFlight}
+use Rattle.commit_book.specs.Keys.{sync_key_of, IsSameKeys}
+use Rattle.commit_book.specs.Flights.{past_at_sending, flying_if, is_leasing, IsNamed, HasWritten, IsWritten, AnswersBody, Answers, IsAnswered, IsSameFlight}
 use Rattle.commit_book.proofs.Keys.{sync-present}
 
 pub flight-first : (logs : Logs) (required : List Required) (confirmed : List (List (Option Lsn))) (first : Settings)
     (names : List Name) (base : ℕ) → IsSameFlight (first_past logs required confirmed) (start_of first names base)
 flight-first logs required confirmed first names base = record {
+  lease = lease_flights.flight-first first names base;
   same = λ i. refl;
-  order = tt;
-  flown = λ i carried e. absurd (none-some carried e);
   asked = λ i above. refl;
   kept = λ i carried e. absurd (none-some carried e);
-  grants = λ i carried e. absurd (none-some carried e);
   answers = λ i carried e. absurd (none-some carried e);
 }
 
 -- ---- what commits read of a message as it is sent: two pasts that agree on these parts tell it alike
 record ReadsSame (p q : Past) : Type 0 where
   sync : p.sync ≡ q.sync
-  leader : p.leader ≡ q.leader
-  failsafe : p.failsafe ≡ q.failsafe
+  leader : p.lease.leader ≡ q.lease.leader
+  failsafe : p.lease.failsafe ≡ q.lease.failsafe
 
 -- and on these, where it grants the request of this number
 record GrantsSame (p q : Past) (request : ℕ) : Type 0 where
   reads : ReadsSame p q
-  revision : p.revision ≡ q.revision
+  revision : p.lease.revision ≡ q.lease.revision
   asked : p.asked request ≡ q.asked request
 
 abbrev SameBody : Past → Past → Body → Type 0
@@ -68,7 +68,7 @@ abbrev Same : Past → Past → LinkEnd → LinkEnd → Body → Type 0
 Same p q ends.Store (ends.Member member) body = SameBody p q body
 Same p q _ to body = Unit {0}
 
-lease-same : (p q : Past) (m incarnation sequence : ℕ) → p.revision ≡ q.revision → ReadsSame p q
+lease-same : (p q : Past) (m incarnation sequence : ℕ) → p.lease.revision ≡ q.lease.revision → ReadsSame p q
     → lease_grant_of p m incarnation sequence ≡ lease_grant_of q m incarnation sequence
 lease-same p q m incarnation sequence revision reads =
     ap (λ (r : ℕ). Some
@@ -78,7 +78,7 @@ lease-same p q m incarnation sequence revision reads =
       member = m;
       incarnation = incarnation;
       sequence = sequence;
-      revision = q.revision;
+      revision = q.lease.revision;
       sync = k;
     }))) reads.sync
 
@@ -89,7 +89,7 @@ snapshot-same p q keyless leaderless reads =
       sync = k;
       keyless = keyless;
       leaderless = leaderless;
-      failsafe_revision = failsafe_revision_of p.failsafe;
+      failsafe_revision = failsafe_revision_of p.lease.failsafe;
     }))) reads.sync
     ∙ ap (λ (f : Option FailsafeKey). Some (SnapshotSent (record {
       sync = q.sync;
@@ -98,15 +98,16 @@ snapshot-same p q keyless leaderless reads =
       failsafe_revision = failsafe_revision_of f;
     }))) reads.failsafe
 
-request-same : (p q : Past) (request : SyncRequest) (aim : Aim) → p.revision ≡ q.revision → ReadsSame p q
-    → request_grant_of p request aim ≡ request_grant_of q request aim
+request-same : (p q : Past) (request : SyncRequest) (aim : Aim) → p.lease.revision ≡ q.lease.revision
+    → ReadsSame p q → request_grant_of p request aim ≡ request_grant_of q request aim
 request-same p q request CreateLeader revision reads =
     lease-same p q request.member request.incarnation request.sequence revision reads
 request-same p q request ClaimSync revision reads = ap (λ (k : Option SyncKey). sync_grant_of k request) reads.sync
 request-same p q request (PublishStandbys standbys quorum) revision reads =
     ap (λ (k : Option SyncKey). sync_grant_of k request) reads.sync
 
-granted-same : (p q : Past) (m incarnation sequence : ℕ) (query : Query) → p.revision ≡ q.revision → ReadsSame p q
+granted-same : (p q : Past) (m incarnation sequence : ℕ) (query : Query) → p.lease.revision ≡ q.lease.revision
+    → ReadsSame p q
     → grant_in_flight_of p m incarnation sequence query ≡ grant_in_flight_of q m incarnation sequence query
 granted-same p q m incarnation sequence LeaseQuery revision reads = lease-same p q m incarnation sequence revision reads
 granted-same p q m incarnation sequence (CarryQuery by compared) revision reads =
@@ -118,9 +119,10 @@ granted-same p q m incarnation sequence OtherQuery revision reads = snapshot-sam
 answer-same : (p q : Past) (m incarnation sequence : ℕ) (body : Body) → SameBody p q body
     → answer_in_flight_of p m incarnation sequence body ≡ answer_in_flight_of q m incarnation sequence body
 answer-same p q m incarnation sequence bodies.Snapshot is =
-    ap (λ (l : Option LeaderKey). snapshot_of p (is_keyless l p.failsafe) (is_leaderless l)) is.leader
-    ∙ ap (λ (f : Option FailsafeKey). snapshot_of p (is_keyless q.leader f) (is_leaderless q.leader)) is.failsafe
-    ∙ snapshot-same p q (is_keyless q.leader q.failsafe) (is_leaderless q.leader) is
+    ap (λ (l : Option LeaderKey). snapshot_of p (is_keyless l p.lease.failsafe) (is_leaderless l)) is.leader
+    ∙ ap (λ (f : Option FailsafeKey). snapshot_of p (is_keyless q.lease.leader f) (is_leaderless q.lease.leader))
+    is.failsafe
+    ∙ snapshot-same p q (is_keyless q.lease.leader q.lease.failsafe) (is_leaderless q.lease.leader) is
 answer-same p q m incarnation sequence (bodies.Granted request leased) is =
     granted-same p q m incarnation sequence (p.asked request) is.revision is.reads
     ∙ ap (λ (query : Query). grant_in_flight_of q m incarnation sequence query) is.asked
@@ -135,8 +137,8 @@ flying-same p q (ends.Member by) (ends.Member member) incarnation sequence body 
 flying-same p q ends.Store ends.Store incarnation sequence body is = refl
 
 -- ---- and so what a grant answers
-wrote-same : (p q : Past) (request : SyncRequest) (aim : Aim) → p.revision ≡ q.revision → ReadsSame p q
-    → HasWritten p request aim → HasWritten q request aim
+wrote-same : (p q : Past) (request : SyncRequest) (aim : Aim) → p.lease.revision ≡ q.lease.revision
+    → ReadsSame p q → HasWritten p request aim → HasWritten q request aim
 wrote-same p q request CreateLeader revision reads is =
     sym (ap leader_revision reads.leader) ∙ is ∙ ap (λ (r : ℕ). Some r) revision
 wrote-same p q request ClaimSync revision reads is =
@@ -144,8 +146,8 @@ wrote-same p q request ClaimSync revision reads is =
 wrote-same p q request (PublishStandbys standbys quorum) revision reads is =
     sym reads.sync ∙ is ∙ ap (λ (r : ℕ). Some (sync_key_by request.member r (PublishStandbys standbys quorum))) revision
 
-written-same : (p q : Past) (query : Query) → p.revision ≡ q.revision → ReadsSame p q → IsWritten p query
-    → IsWritten q query
+written-same : (p q : Past) (query : Query) → p.lease.revision ≡ q.lease.revision → ReadsSame p q
+    → IsWritten p query → IsWritten q query
 written-same p q LeaseQuery revision reads is =
     sym (ap leader_revision reads.leader) ∙ is ∙ ap (λ (r : ℕ). Some r) revision
 written-same p q (CarryQuery by compared) revision reads is =
@@ -196,15 +198,15 @@ sent-body : (past : Past) (facts : Facts) (more : ℕ → Query) (message : Mess
     → SameBody past (past_at_sending more (Carried facts message (ends.Member member) body)) body
 sent-body past facts more message member incarnation sequence bodies.Snapshot same keeps answers = record {
   sync = snapshot-sync past facts same;
-  leader = snapshot-leader (lease_keys past) facts same.lease;
-  failsafe = snapshot-failsafe (lease_keys past) facts same.lease;
+  leader = snapshot-leader past.lease facts same.lease;
+  failsafe = snapshot-failsafe past.lease facts same.lease;
 }
 sent-body past facts more message member incarnation sequence (bodies.Granted request leased) same keeps answers =
     record {
       reads = record {
         sync = snapshot-sync past facts same;
-        leader = snapshot-leader (lease_keys past) facts same.lease;
-        failsafe = snapshot-failsafe (lease_keys past) facts same.lease;
+        leader = snapshot-leader past.lease facts same.lease;
+        failsafe = snapshot-failsafe past.lease facts same.lease;
       };
       revision = same.lease.revision;
       asked = keeps request answers.before;
@@ -298,23 +300,23 @@ sent-at past facts number message i false same old above answers =
     ∙ flying-grown facts.sent past.asked (More past number message) (in_flight facts.flight i)
     (keeps-sent past facts number message above) (old.answers i)
 
-flight-sent : (past : Past) (facts : Facts) (number : ℕ) (message : Message) → facts.sent < number
-    → Answers past facts.sent message.from message.to message.incarnation message.sequence message.body
+flight-sent : (past : Past) (facts : Facts) (number : ℕ) (message : Message)
+    → lease_causes.IsCausal past.lease facts (kinds.Message (Sent number message))
+    → IsAnswered past facts (kinds.Message (Sent number message))
     → IsSameKeys past facts → IsSameFlight past facts
     → IsSameFlight (past_after past (kinds.Message (Sent number message)))
     (facts_after facts (kinds.Message (Sent number message)))
-flight-sent past facts number message above answers same old =
+flight-sent past facts number message causal answers same old =
+    let above = causal.0 in
     let query : Query = query_sent message.from message.incarnation message.sequence message.body in
     let more : (ℕ → Query) = More past number message in
     let one : InFlightFacts = launched facts.clock facts.keys message in
     let keeps : Keeps facts.sent past.asked more = keeps-sent past facts number message above in
     record {
+      lease =
+          lease_flights.flight-by past.lease facts (kinds.Message (Sent number message)) causal same.lease old.lease;
       same = λ i. sent-at past facts number message i (i == number) same old above answers
           ∙ ap (λ (o : Option InFlightFacts). flying_if more o) (sym (in-with facts.flight number one i));
-      order = rises-with 0 facts.flight number one (omega arith) old.order;
-      flown = λ i carried e. put-all (in_flight facts.flight) number (Some one) (λ n o. o ≡ Some carried → n ≤ number)
-          (λ is. omega arith) (λ n other is. omega (arith, above, old.flown n carried is)) i
-          (sym (in-with facts.flight number one i) ∙ e);
       asked = λ i high. put-there past.asked number query i (λ e. omega (arith, e, high))
           ∙ old.asked i (omega (arith, above, high));
       kept = λ i carried e.
@@ -322,13 +324,6 @@ flight-sent past facts number message above answers same old =
           (λ is. put-here past.asked number query ∙ ap AsksBody (some-is one carried is))
           (λ n other is. put-there past.asked number query n other ∙ old.kept n carried is) i
           (sym (in-with facts.flight number one i) ∙ e);
-      grants = λ i carried e. put-all (in_flight facts.flight) number (Some one)
-          (λ n o. o ≡ Some carried →
-          (revision : ℕ) × (carried.grant ≡ grant_for carried.message.body carried.message.to revision))
-          (λ is.
-          subst (λ (c : InFlightFacts). (revision : ℕ) × (c.grant ≡ grant_for c.message.body c.message.to revision))
-          (some-is one carried is) (facts.keys.revision, refl))
-          (λ n other is. old.grants n carried is) i (sym (in-with facts.flight number one i) ∙ e);
       answers = λ i carried e. put-all (in_flight facts.flight) number (Some one)
           (λ n o. o ≡ Some carried → AnswersCarried more number carried)
           (λ is. subst (λ (c : InFlightFacts). AnswersCarried more number c) (some-is one carried is)
@@ -348,68 +343,43 @@ gone-at : (past : Past) (facts : Facts) (i : ℕ) (b : Bool) → IsSameFlight pa
 gone-at past facts i true old = refl
 gone-at past facts i false old = old.same i
 
-abbrev PastWithout : Past → ℕ → Past
-PastWithout past number = record past { flight = put_at past.flight number None }
+-- what is in flight without this message was so with it
+found-before : (facts : Facts) (number i : ℕ) (carried : InFlightFacts) → Rises 0 facts.flight
+    → in_flight (without_message facts.flight number) i ≡ Some carried → in_flight facts.flight i ≡ Some carried
+found-before facts number i carried order e =
+    dropped (in_flight facts.flight) number i carried (sym (in-without 0 facts.flight number i order) ∙ e)
 
-abbrev FactsWithout : Facts → ℕ → Facts
-FactsWithout facts number = record facts { flight = without_message facts.flight number }
+gone-same : (past : Past) (facts : Facts) (number i : ℕ) → IsSameFlight past facts
+    → put_at past.flight number None i ≡ flying_if past.asked (in_flight (without_message facts.flight number) i)
+gone-same past facts number i old =
+    gone-at past facts i (i == number) old
+    ∙ ap (λ (o : Option InFlightFacts). flying_if past.asked o)
+    (sym (in-without 0 facts.flight number i old.lease.order))
 
-flight-gone : (past : Past) (facts : Facts) (number : ℕ) → IsSameFlight past facts
-    → IsSameFlight (PastWithout past number) (FactsWithout facts number)
-flight-gone past facts number old =
-    let found =
-    λ (i : ℕ) (carried : InFlightFacts) (e : in_flight (without_message facts.flight number) i ≡ Some carried).
-    dropped (in_flight facts.flight) number i carried (sym (in-without 0 facts.flight number i old.order) ∙ e) in
-    record {
-      same = λ i. gone-at past facts i (i == number) old
-          ∙ ap (λ (o : Option InFlightFacts). flying_if past.asked o)
-          (sym (in-without 0 facts.flight number i old.order));
-      order = rises-without 0 facts.flight number old.order;
-      flown = λ i carried e. old.flown i carried (found i carried e);
-      asked = old.asked;
-      kept = λ i carried e. old.kept i carried (found i carried e);
-      grants = λ i carried e. old.grants i carried (found i carried e);
-      answers = λ i carried e. old.answers i carried (found i carried e);
-    }
-
-flight-message : (past : Past) (facts : Facts) (e : MessageEvent) → IsCausal past facts (kinds.Message e)
-    → IsSameKeys past facts → IsSameFlight past facts
-    → IsSameFlight (past_after past (kinds.Message e)) (facts_after facts (kinds.Message e))
-flight-message past facts (Sent number message) causal same old =
-    flight-sent past facts number message causal.0 causal.1 same old
-flight-message past facts (Delivered number) causal same old =
-    let less = flight-gone past facts number old in
-    record {
-      same = less.same;
-      order = less.order;
-      flown = less.flown;
-      asked = less.asked;
-      kept = less.kept;
-      grants = less.grants;
-      answers = less.answers;
-    }
-flight-message past facts (Lost number) causal same old =
-    let less = flight-gone past facts number old in
-    record {
-      same = less.same;
-      order = less.order;
-      flown = less.flown;
-      asked = less.asked;
-      kept = less.kept;
-      grants = less.grants;
-      answers = less.answers;
-    }
-
-pub flight-by : (past : Past) (facts : Facts) (kind : EventKind) → IsCausal past facts kind → IsSameKeys past facts
-    → IsSameFlight past facts → IsSameFlight (past_after past kind) (facts_after facts kind)
-flight-by past facts (kinds.Message e) causal same old = flight-message past facts e causal same old
-flight-by past facts _ causal same old = record {
+pub flight-by : (past : Past) (facts : Facts) (kind : EventKind) → lease_causes.IsCausal past.lease facts kind
+    → IsAnswered past facts kind → IsSameKeys past facts → IsSameFlight past facts
+    → IsSameFlight (past_after past kind) (facts_after facts kind)
+flight-by past facts (kinds.Message (Sent number message)) causal answers same old =
+    flight-sent past facts number message causal answers same old
+flight-by past facts (kinds.Message (Delivered number)) causal answers same old = record {
+  lease = lease_flights.flight-by past.lease facts (kinds.Message (Delivered number)) tt same.lease old.lease;
+  same = λ i. gone-same past facts number i old;
+  asked = old.asked;
+  kept = λ i carried e. old.kept i carried (found-before facts number i carried old.lease.order e);
+  answers = λ i carried e. old.answers i carried (found-before facts number i carried old.lease.order e);
+}
+flight-by past facts (kinds.Message (Lost number)) causal answers same old = record {
+  lease = lease_flights.flight-by past.lease facts (kinds.Message (Lost number)) tt same.lease old.lease;
+  same = λ i. gone-same past facts number i old;
+  asked = old.asked;
+  kept = λ i carried e. old.kept i carried (found-before facts number i carried old.lease.order e);
+  answers = λ i carried e. old.answers i carried (found-before facts number i carried old.lease.order e);
+}
+flight-by past facts kind causal answers same old = record {
+  lease = lease_flights.flight-by past.lease facts kind tt same.lease old.lease;
   same = old.same;
-  order = old.order;
-  flown = old.flown;
   asked = old.asked;
   kept = old.kept;
-  grants = old.grants;
   answers = old.answers;
 }
 
@@ -473,7 +443,7 @@ granted-requested p m incarnation sequence OtherQuery w e = snapshot-requested p
 answer-requested : (p : Past) (m incarnation sequence : ℕ) (body : Body) (w : SyncRequest)
     → answer_in_flight_of p m incarnation sequence body ≡ Some (Requested w) → ⊥
 answer-requested p m incarnation sequence bodies.Snapshot w e =
-    snapshot-requested p (is_keyless p.leader p.failsafe) (is_leaderless p.leader) w e
+    snapshot-requested p (is_keyless p.lease.leader p.lease.failsafe) (is_leaderless p.lease.leader) w e
 answer-requested p m incarnation sequence (bodies.Granted request leased) w e =
     granted-requested p m incarnation sequence (p.asked request) w e
 answer-requested p m incarnation sequence _ w e = none-requested w e

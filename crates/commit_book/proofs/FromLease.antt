@@ -1,7 +1,6 @@
 -- What the law of one writer gives to an agent that arms.
 use Rattle.std.proofs.Common.{◌≡◌, ℕ, ◌≤◌, true, false, List, [], ◌∷◌, Option, Some, None, refl, ◌∙◌, ap, sym, arith, inl, inr}
 use Rattle.event_book.specs.declared.event.Event.{Event}
-use Rattle.event_book.specs.Clock.{now_after}
 use Rattle.lease_model.specs.Leases.{LeaderKey, FailsafeKey}
 use Rattle.lease_model.specs.States as lease
 use Rattle.lease_model.specs.Inputs.{Fed}
@@ -13,18 +12,10 @@ use Rattle.lease_model.proofs.Tools.{none-some, both}
 use Rattle.commit_actions.specs.States.{Machine, is_ready, Acts}
 use Rattle.commit_actions.specs.Past.{Past, past_after, past_over, leader_revision, is_keyless}
 
--- both laws read one leader key of a book
-pub same-leader : (p : lease_past.Past) (past : Past) (book : List Event) → p.clock ≡ past.clock
-    → p.revision ≡ past.revision → p.leader ≡ past.leader
-    → (lease_past.past_over p book).leader ≡ (past_over past book).leader
-same-leader p past [] clock revision leader = leader
-same-leader p past (event ∷ book) clock revision leader =
-    same-leader (lease_past.past_after p event.kind) (past_after past event.kind) book
-    (ap (λ (c : ℕ). now_after c event.kind) clock)
-    (ap (λ (r : ℕ). lease_past.revision_after r event.kind) revision)
-    (ap (λ (c : ℕ). lease_past.leader_after c p.revision p.leader event.kind) clock
-    ∙ ap (λ (r : ℕ). lease_past.leader_after past.clock r p.leader event.kind) revision
-    ∙ ap (λ (l : Option LeaderKey). lease_past.leader_after past.clock past.revision l event.kind) leader)
+-- what the law of one writer reads of a book
+pub same-lease : (past : Past) (book : List Event) → (past_over past book).lease ≡ lease_past.past_over past.lease book
+same-lease past [] = refl
+same-lease past (event ∷ book) = same-lease (past_after past event.kind) book
 
 -- a grant that is heard in time is the present leader key
 pub grant-present : (s : lease.State) (m : ℕ) (heard : Option ℕ) → lease_carried.IsSound s → (fed : Fed s m heard)
@@ -45,15 +36,6 @@ pub grant-alone : (s : lease.State) (members : ℕ → Machine) (m : ℕ) (heard
     → ((n : ℕ) → is_ready (members n).agent ≡ lease.is_ready (s.members n).agent) → (n : ℕ) → Acts (members n) → n ≡ m
 grant-alone s members m heard inv fed in_time free live ready n acts =
     newcomer s m heard inv fed in_time free n (acts-same (members n) (s.members n) (live n) (ready n) acts)
-
-pub same-failsafe : (p : lease_past.Past) (past : Past) (book : List Event) → p.revision ≡ past.revision
-    → p.failsafe ≡ past.failsafe → (lease_past.past_over p book).failsafe ≡ (past_over past book).failsafe
-same-failsafe p past [] revision failsafe = failsafe
-same-failsafe p past (event ∷ book) revision failsafe =
-    same-failsafe (lease_past.past_after p event.kind) (past_after past event.kind) book
-    (ap (λ (r : ℕ). lease_past.revision_after r event.kind) revision)
-    (ap (λ (r : ℕ). lease_past.failsafe_after r p.failsafe event.kind) revision
-    ∙ ap (λ (f : Option FailsafeKey). lease_past.failsafe_after past.revision f event.kind) failsafe)
 
 free-leader : (leader : Option LeaderKey) (failsafe : Option FailsafeKey) → is_keyless leader failsafe ≡ true
     → leader ≡ None

@@ -30,7 +30,7 @@ record Seen : Type 0 where
   acknowledged : List ℕ
 
 abbrev seen_of : Past → Seen
-seen_of past = record { writes = past.writes; logs = past.logs; acknowledged = past.acknowledged }
+seen_of past = record { writes = past.lease.writes; logs = past.logs; acknowledged = past.acknowledged }
 
 abbrev Keeps : Seen → Type 0
 Keeps seen = WritersHold seen.writes seen.logs seen.acknowledged
@@ -83,9 +83,9 @@ seen-eq : (w v : ℕ → Bool) (l m : Logs) (a b : List ℕ) → w ≡ v → l �
 seen-eq w v l m a b e f g = cc
 
 aside-seen : (past : Past) (k : EventKind) → LeavesCommits k → seen_of (past_after past k) ≡ seen_of past
-aside-seen past k a = seen-eq (writes_after past.writes k) past.writes (logs_after past.logs k) past.logs
-    (acknowledged_after past.acknowledged k) past.acknowledged (aside-writes past.writes k a)
-    (aside-logs past.logs k a) (aside-shown past.acknowledged k a)
+aside-seen past k a = seen-eq (writes_after past.lease.writes k) past.lease.writes
+    (logs_after past.logs k) past.logs (acknowledged_after past.acknowledged k) past.acknowledged
+    (aside-writes past.lease.writes k a) (aside-logs past.logs k a) (aside-shown past.acknowledged k a)
 
 -- what the claim reads is as before where all events are aside
 all-aside : (past : Past) (events : List Event) → AllLeaveCommits events
@@ -179,7 +179,8 @@ kept-after setup past volatile_states transition inv can told =
     subst IsSound (sym told) (inv-act (state_of setup past volatile_states) transition.action inv can)
 
 -- the folds of the book are those of the past
-pub past-writes : (past : Past) (book : List Event) → (past_over past book).writes ≡ writes_over past.writes book
+pub past-writes : (past : Past) (book : List Event)
+    → (past_over past book).lease.writes ≡ writes_over past.lease.writes book
 past-writes past [] = refl
 past-writes past (e ∷ book) = past-writes (past_after past e.kind) book
 

@@ -33,11 +33,12 @@ use Rattle.lease_model.specs.Past.{extended_by}
 use Rattle.event_book.specs.Kinds.{AllAre}
 use Rattle.lease_model.specs.Showing.{granted_events, refused_events, read_events}
 use Rattle.lease_model.specs.Stores.{IsSpannedTxn, IsSpanned}
-use Rattle.lease_book.proofs.Groups.{members-spanned}
-use Rattle.lease_book.specs.Groups.{IsMemberEnd, IsOfMembers, IsNumberedAbove, AreNumberedAbove}
+use Rattle.lease_book.specs.Groups.{IsMemberEnd, IsOfMembers, AreNumberedAbove}
 use Rattle.commit_actions.specs.Past.{Past, Query, first_past, leader_revision, past_after, past_over, query_of}
+use Rattle.lease_book.specs.Flights as lease_causes
+use Rattle.lease_book.proofs.Groups as lease_groups
 use Rattle.commit_book.specs.Keys.{IsSameKeys}
-use Rattle.commit_book.specs.Flights.{is_leasing, IsNamed, IsWritten, Answers, IsCausal, AreCausal, IsSameBook}
+use Rattle.commit_book.specs.Flights.{is_leasing, IsNamed, IsWritten, Answers, AreAnswered, IsAnswered, AreCausal, IsSameBook}
 use Rattle.commit_book.proofs.Deciding.{granted-leader}
 use Rattle.commit_book.proofs.Flights.{flight-first, flight-by, request-asked}
 use Rattle.commit_book.proofs.Keys.{keys-first, keys-by}
@@ -49,26 +50,31 @@ book-first logs required confirmed first names base = record {
   flight = flight-first logs required confirmed first names base;
 }
 
-pub book-by : (past : Past) (facts : Facts) (kind : EventKind) → IsSpanned kind → IsCausal past facts kind
-    → IsSameBook past facts → IsSameBook (past_after past kind) (facts_after facts kind)
-book-by past facts kind span causal old = record {
+pub book-by : (past : Past) (facts : Facts) (kind : EventKind) → IsSpanned kind
+    → lease_causes.IsCausal past.lease facts kind → IsAnswered past facts kind → IsSameBook past facts
+    → IsSameBook (past_after past kind) (facts_after facts kind)
+book-by past facts kind span causal answers old = record {
   store = keys-by past facts kind span old.store;
-  flight = flight-by past facts kind causal old.store old.flight;
+  flight = flight-by past facts kind causal answers old.store old.flight;
 }
 
 pub book-after : (past : Past) (facts : Facts) (events : List Event) → AreCausal past facts events
     → IsSameBook past facts → IsSameBook (past_over past events) (facts_over facts events)
 book-after past facts [] causal old = old
-book-after past facts (event ∷ events) causal old = book-after (past_after past event.kind)
-    (facts_after facts event.kind) events causal.1.1 (book-by past facts event.kind causal.0 causal.1.0 old)
+book-after past facts (event ∷ events) causal old =
+    book-after (past_after past event.kind) (facts_after facts event.kind) events (causal.0.1.1, causal.1.1)
+    (book-by past facts event.kind causal.0.0 causal.0.1.0 causal.1.0 old)
+
+answered-front : (past : Past) (facts : Facts) (front rest : List Event)
+    → AreAnswered past facts (front ++ rest) → AreAnswered past facts front
+answered-front past facts [] rest answered = tt
+answered-front past facts (event ∷ front) rest answered =
+    (answered.0, answered-front (past_after past event.kind) (facts_after facts event.kind) front rest answered.1)
 
 pub causal-front : (past : Past) (facts : Facts) (front rest : List Event)
     → AreCausal past facts (front ++ rest) → AreCausal past facts front
-causal-front past facts [] rest causal = tt
-causal-front past facts (event ∷ front) rest causal = (
-  causal.0,
-  (causal.1.0, causal-front (past_after past event.kind) (facts_after facts event.kind) front rest causal.1.1),
-)
+causal-front past facts front rest causal =
+    (lease_groups.causal-front past.lease facts front rest causal.0, answered-front past facts front rest causal.1)
 
 -- ---- a delivery to the key store
 -- what a request asks has its name, and is for the lease where the key store says so
@@ -126,13 +132,13 @@ create-written past i by incarnation sequence info ttl failsafe (Some sync) stan
 
 renew-written : (past : Past) (i : ℕ) (by : Member) (incarnation sequence revision : ℕ) (info : MemberInfo)
     (ttl : Ticks) (status : Option Lsn) (row : Option HistoryRow) (failsafe : Option MemberSet)
-    (standbys : List Name) (key : LeaderKey) → past.leader ≡ Some key
+    (standbys : List Name) (key : LeaderKey) → past.lease.leader ≡ Some key
     → IsWritten (Granted past i by (txns.Renew revision info ttl status row failsafe) standbys)
     (query_of by.id.number incarnation sequence (txns.Renew revision info ttl status row failsafe))
 renew-written past i by incarnation sequence revision info ttl status row None standbys key is =
-    ap (λ (l : Option LeaderKey). leader_revision (extended_by past.clock (past.revision + 1) ttl.0 l)) is
+    ap (λ (l : Option LeaderKey). leader_revision (extended_by past.lease.clock (past.lease.revision + 1) ttl.0 l)) is
 renew-written past i by incarnation sequence revision info ttl status row (Some members) standbys key is =
-    ap (λ (l : Option LeaderKey). leader_revision (extended_by past.clock (past.revision + 1) ttl.0 l)) is
+    ap (λ (l : Option LeaderKey). leader_revision (extended_by past.lease.clock (past.lease.revision + 1) ttl.0 l)) is
 
 written-is : (past : Past) (facts : Facts) (i : ℕ) (by : Member) (incarnation sequence : ℕ) (txn : Txn)
     (standbys : List Name) → IsSameKeys past facts → decision_on facts.keys facts.clock txn ≡ Granting
@@ -161,30 +167,22 @@ pub granted-causal : (past : Past) (facts : Facts) (tick : Ticks) (i j : ℕ) (c
 granted-causal past facts tick i j carried by incarnation sequence txn standbys old here is above span granted =
     let asked : past.asked i ≡ query_of by.id.number incarnation sequence txn =
     request-asked past facts i carried by incarnation sequence txn old.flight here is in (
-      tt,
+      lease_groups.granted-causal past.lease facts tick i j carried by incarnation sequence txn standbys
+          old.flight.lease here is above span,
       (
         tt,
         (
-          span,
+          tt,
           (
+            record {
+              before = old.flight.lease.flown i carried here;
+              named = subst (λ (q : Query). IsNamed by.id.number incarnation sequence q) (sym asked)
+                  (named-is by.id.number incarnation sequence txn);
+              leasing = ap is_leasing asked ∙ leasing-is by.id.number incarnation sequence txn;
+              written = subst (λ (q : Query). IsWritten (Granted past i by txn standbys) q) (sym asked)
+                  (written-is past facts i by incarnation sequence txn standbys old.store granted);
+            },
             tt,
-            (
-              tt,
-              (
-                (
-                  above,
-                  record {
-                    before = old.flight.flown i carried here;
-                    named = subst (λ (q : Query). IsNamed by.id.number incarnation sequence q) (sym asked)
-                        (named-is by.id.number incarnation sequence txn);
-                    leasing = ap is_leasing asked ∙ leasing-is by.id.number incarnation sequence txn;
-                    written = subst (λ (q : Query). IsWritten (Granted past i by txn standbys) q) (sym asked)
-                        (written-is past facts i by incarnation sequence txn standbys old.store granted);
-                  },
-                ),
-                tt,
-              ),
-            ),
           ),
         ),
       ),
@@ -193,12 +191,15 @@ granted-causal past facts tick i j carried by incarnation sequence txn standbys 
 pub refused-causal : (past : Past) (facts : Facts) (tick : Ticks) (i j : ℕ) (by : Member)
     (incarnation sequence : ℕ) (request : TxnKind) (key : Key) (found : Expected) → facts.sent < j
     → AreCausal past facts (refused_events tick i j by incarnation sequence request key found)
-refused-causal past facts tick i j by incarnation sequence request key found above =
-    (tt, (tt, (tt, (tt, (tt, ((above, tt), tt))))))
+refused-causal past facts tick i j by incarnation sequence request key found above = (
+  lease_groups.refused-causal past.lease facts tick i j by incarnation sequence request key found above,
+  (tt, (tt, (tt, tt))),
+)
 
 pub read-causal : (past : Past) (facts : Facts) (tick : Ticks) (i j : ℕ) (by : Member) (incarnation sequence : ℕ)
     → facts.sent < j → AreCausal past facts (read_events tick i j by incarnation sequence)
-read-causal past facts tick i j by incarnation sequence above = (tt, (tt, (tt, ((above, tt), tt))))
+read-causal past facts tick i j by incarnation sequence above =
+    (lease_groups.read-causal past.lease facts tick i j by incarnation sequence above, (tt, (tt, tt)))
 
 -- ---- a tick, a loss, a delivery to an agent, and all that its input brings
 member-answers : (past : Past) (last : ℕ) (from to : LinkEnd) (incarnation sequence : ℕ) (body : Body)
@@ -206,21 +207,22 @@ member-answers : (past : Past) (last : ℕ) (from to : LinkEnd) (incarnation seq
 member-answers past last (ends.Member by) to incarnation sequence body is = tt
 member-answers past last ends.Store to incarnation sequence body is = absurd is
 
-members-causal : (past : Past) (facts : Facts) (kind : EventKind) → IsOfMembers kind
-    → IsNumberedAbove facts.sent kind → IsCausal past facts kind
-members-causal past facts (kinds.Message (Sent number message)) is above =
-    (above, member-answers past facts.sent message.from message.to message.incarnation message.sequence message.body is)
-members-causal past facts (kinds.Message (Delivered number)) is above = tt
-members-causal past facts (kinds.Message (Lost number)) is above = tt
-members-causal past facts _ is above = tt
+members-answered : (past : Past) (facts : Facts) (kind : EventKind) → IsOfMembers kind → IsAnswered past facts kind
+members-answered past facts (kinds.Message (Sent number message)) is =
+    member-answers past facts.sent message.from message.to message.incarnation message.sequence message.body is
+members-answered past facts (kinds.Message (Delivered number)) is = tt
+members-answered past facts (kinds.Message (Lost number)) is = tt
+members-answered past facts _ is = tt
+
+own-answered : (past : Past) (facts : Facts) (events : List Event) → AllAre IsOfMembers events
+    → AreAnswered past facts events
+own-answered past facts [] all = tt
+own-answered past facts (event ∷ events) all = (
+  members-answered past facts event.kind all.0,
+  own-answered (past_after past event.kind) (facts_after facts event.kind) events all.1,
+)
 
 pub own-causal : (past : Past) (facts : Facts) (events : List Event) → AllAre IsOfMembers events
     → AreNumberedAbove facts.sent events → AreCausal past facts events
-own-causal past facts [] all numbered = tt
-own-causal past facts (event ∷ events) all numbered = (
-  members-spanned event.kind all.0,
-  (
-    members-causal past facts event.kind all.0 numbered.0,
-    own-causal (past_after past event.kind) (facts_after facts event.kind) events all.1 numbered.1,
-  ),
-)
+own-causal past facts events all numbered =
+    (lease_groups.own-causal past.lease facts events all numbered, own-answered past facts events all)

@@ -95,7 +95,7 @@ grant-in past facts i carried member incarnation sequence request leased same he
       sequence = sequence;
       body = bodies.Granted request leased;
     } in
-    let given = same.grants i carried here in
+    let given = same.lease.grants i carried here in
     record {
       revision = given.0;
       grant = given.1 ∙ ap (λ (m : Message). grant_for m.body m.to given.0) is;
@@ -157,12 +157,12 @@ heard-lease past facts i carried member incarnation sequence request same here i
 
 -- the sync key that a claim or a write of it wrote, and what its grant tells
 record TellsWrite (p : Past) (request : SyncRequest) (aim : Aim) : Type 0 where
-  key : p.sync ≡ Some (sync_key_by request.member p.revision aim)
+  key : p.sync ≡ Some (sync_key_by request.member p.lease.revision aim)
   told : request_grant_of p request aim ≡ Some (SyncGranted (record {
     member = request.member;
     incarnation = request.incarnation;
     sequence = request.sequence;
-    key = sync_key_by request.member p.revision aim;
+    key = sync_key_by request.member p.lease.revision aim;
   }))
 
 write-tells : (p : Past) (request : SyncRequest) (aim : Aim) → is_creating aim ≡ false
@@ -204,8 +204,8 @@ heard-write past facts i carried member incarnation sequence request leased aske
     let wrote : IsWritten p (SyncQuery asked) = subst (λ (q : Query). IsWritten p q) was given.answers.written in
     let leasing : is_creating asked.aim ≡ leased = sym (ap is_leasing was) ∙ given.answers.leasing in
     let tells = write-tells p asked asked.aim creates wrote in
-    let key =
-    key-eq asked.member member.id.number p.revision given.revision asked.aim named.0 (ap revision_of given.grant) in
+    let key = key-eq asked.member member.id.number p.lease.revision given.revision asked.aim named.0
+    (ap revision_of given.grant) in
     record {
       revision = given.revision;
       grant = given.grant
@@ -215,7 +215,7 @@ heard-write past facts i carried member incarnation sequence request leased aske
       flying = given.flying
           ∙ ap (λ (q : Query). grant_in_flight_of p member.id.number incarnation sequence q) was ∙ tells.told
           ∙ told-eq asked.member member.id.number asked.incarnation incarnation asked.sequence sequence
-          (sync_key_by asked.member p.revision asked.aim)
+          (sync_key_by asked.member p.lease.revision asked.aim)
           (sync_key_by member.id.number given.revision asked.aim) named.0 named.1.0 named.1.1 key;
     }
 

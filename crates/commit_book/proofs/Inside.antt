@@ -18,7 +18,7 @@ use Rattle.lease_model.proofs.Tools.{both}
 use Rattle.commit_actions.specs.Actions.{IsAllowed}
 use Rattle.commit_book.specs.Books.{IsShown, Transition}
 use Rattle.commit_actions.specs.Carried.{IsSound}
-use Rattle.commit_actions.specs.Keys.{Nobody, All, Overlaps, SyncKey, count, strict_quorum}
+use Rattle.commit_actions.specs.Keys.{Overlaps, SyncKey, count, strict_quorum}
 use Rattle.commit_actions.specs.Past.{Past, Setup, VolatileState, confirmers_in, confirmers_of, past_after, past_over, state_of, sync_after}
 use Rattle.commit_actions.proofs.Counting.{none-less, none-of}
 use Rattle.commit_book.proofs.Fronts.{kept-after}
@@ -88,7 +88,7 @@ pub record Seen : Type 0 where
   pub grown : ℕ → ℕ
 
 abbrev pub seen_of : Past → Seen
-seen_of past = record { writes = past.writes; required = past.required; sync = past.sync; grown = past.grown }
+seen_of past = record { writes = past.lease.writes; required = past.required; sync = past.sync; grown = past.grown }
 
 -- an event aside changes none of it
 aside-writes : (w : ℕ → Bool) (k : EventKind) → LeavesOrder k → writes_after w k ≡ w
@@ -123,10 +123,10 @@ seen-eq w v r q s t f g a b c d = cc
 
 pub aside-seen : (past : Past) (k : EventKind) → LeavesOrder k → seen_of (past_after past k) ≡ seen_of past
 aside-seen past k a =
-    seen-eq (writes_after past.writes k) past.writes (required_after past.required k) past.required
-    (sync_after past.revision past.sync k) past.sync (grown_after past.required past.logs past.grown k) past.grown
-    (aside-writes past.writes k a) (aside-required past.required k a) (aside-sync past.revision past.sync k a)
-    (aside-grown past.required past.logs past.grown k a)
+    seen-eq (writes_after past.lease.writes k) past.lease.writes (required_after past.required k) past.required
+    (sync_after past.lease.revision past.sync k) past.sync (grown_after past.required past.logs past.grown k) past.grown
+    (aside-writes past.lease.writes k a) (aside-required past.required k a)
+    (aside-sync past.lease.revision past.sync k a) (aside-grown past.required past.logs past.grown k a)
 
 pub all-aside : (past : Past) (events : List Event) → AllLeaveOrder events
     → seen_of (past_over past events) ≡ seen_of past

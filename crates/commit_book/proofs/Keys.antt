@@ -24,48 +24,17 @@ use Rattle.event_book.specs.declared.member.Member.{Member}
 use Rattle.event_book.specs.Facts.{Facts, facts_after, start_of}
 use Rattle.event_book.specs.Logs.{Logs}
 use Rattle.event_book.specs.Functions.{set_members}
-use Rattle.lease_model.specs.Stores.{IsEndless, IsSameStore, IsSpanned}
+use Rattle.lease_model.specs.Stores.{IsEndless, IsSpanned}
 use Rattle.lease_law.proofs.SameStore.{present-endless, same-by, same-first}
 use Rattle.commit_actions.specs.Keys.{SyncKey, strict_quorum}
 use Rattle.commit_actions.specs.Stored.{quorum_of, quorum_written}
 use Rattle.commit_actions.specs.Past.{Past, first_past, past_after, sync_after_grant}
-use Rattle.commit_book.specs.Keys.{sync_key_of, lease_keys, IsSameKeys}
-
-lease-first : (logs : Logs) (required : List Required) (confirmed : List (List (Option Lsn)))
-    (first : Settings) (names : List Name) (base : ℕ)
-    → IsSameStore (lease_keys (first_past logs required confirmed)) (start_of first names base)
-lease-first logs required confirmed first names base =
-    let s = same-first first names base in
-    record {
-      clock = s.clock;
-      revision = s.revision;
-      leader = s.leader;
-      failsafe = s.failsafe;
-      kept = s.kept;
-      leased = s.leased;
-      endless = s.endless;
-      present = s.present;
-    }
+use Rattle.commit_book.specs.Keys.{sync_key_of, IsSameKeys}
 
 pub keys-first : (logs : Logs) (required : List Required) (confirmed : List (List (Option Lsn))) (first : Settings)
     (names : List Name) (base : ℕ) → IsSameKeys (first_past logs required confirmed) (start_of first names base)
 keys-first logs required confirmed first names base =
-    record { lease = lease-first logs required confirmed first names base; sync = refl; endless = tt }
-
-lease-by : (past : Past) (facts : Facts) (kind : EventKind) → IsSpanned kind → IsSameStore (lease_keys past) facts
-    → IsSameStore (lease_keys (past_after past kind)) (facts_after facts kind)
-lease-by past facts kind span same =
-    let s = same-by (lease_keys past) facts kind span same in
-    record {
-      clock = s.clock;
-      revision = s.revision;
-      leader = s.leader;
-      failsafe = s.failsafe;
-      kept = s.kept;
-      leased = s.leased;
-      endless = s.endless;
-      present = s.present;
-    }
+    record { lease = same-first first names base; sync = refl; endless = tt }
 
 -- ---- the sync key
 nobody-is : ◌≡◌ {A = ℕ → Bool} (λ n. false) (set_members nobody)
@@ -96,7 +65,7 @@ keys-granted : (past : Past) (facts : Facts) (number : ℕ) (by : Member) (txn :
 keys-granted past facts number by txn standbys = λ span same.
     let found = one_key.find_sync_after facts.keys facts.clock by.id txn in
     record {
-      lease = lease-by past facts (kinds.Store (stores.Granted number by txn standbys)) span same.lease;
+      lease = same-by past.lease facts (kinds.Store (stores.Granted number by txn standbys)) span same.lease;
       sync = ap (λ (r : ℕ). sync_after_grant by.id.number (r + 1) past.sync txn) same.lease.revision
           ∙ ap (λ (k : Option SyncKey). sync_after_grant by.id.number (facts.keys.revision + 1) k txn) same.sync
           ∙ granted-sync (facts.keys.revision + 1) by.id txn (find key_cmp keys.Sync facts.keys.pairs)
@@ -116,7 +85,7 @@ keys-tick : (past : Past) (facts : Facts) → IsSameKeys past facts
 keys-tick past facts same =
     let found = sync-present (facts.clock + 1) past facts same in
     record {
-      lease = lease-by past facts kinds.Tick tt same.lease;
+      lease = same-by past.lease facts kinds.Tick tt same.lease;
       sync = same.sync ∙ ap sync_key_of (sym found);
       endless = subst (λ (o : Option KeyEntry). IsEndless o) (sym found) same.endless;
     }
@@ -126,34 +95,5 @@ pub keys-by : (past : Past) (facts : Facts) (kind : EventKind) → IsSpanned kin
 keys-by past facts kinds.Tick span same = keys-tick past facts same
 keys-by past facts (kinds.Store (stores.Granted number by txn standbys)) span same =
     keys-granted past facts number by txn standbys span same
-keys-by past facts (kinds.Store (stores.Refused number by request key found)) span same = record {
-  lease = lease-by past facts (kinds.Store (stores.Refused number by request key found)) tt same.lease;
-  sync = same.sync;
-  endless = same.endless;
-}
-keys-by past facts (kinds.Store (stores.LeaderExpired holder)) span same = record {
-  lease = lease-by past facts (kinds.Store (stores.LeaderExpired holder)) tt same.lease;
-  sync = same.sync;
-  endless = same.endless;
-}
-keys-by past facts (kinds.Store (stores.Expired key)) span same = record {
-  lease = lease-by past facts (kinds.Store (stores.Expired key)) tt same.lease;
-  sync = same.sync;
-  endless = same.endless;
-}
 keys-by past facts kind span same =
-    let s = same.lease in
-    record {
-      lease = record {
-        clock = s.clock;
-        revision = s.revision;
-        leader = s.leader;
-        failsafe = s.failsafe;
-        kept = s.kept;
-        leased = s.leased;
-        endless = s.endless;
-        present = s.present;
-      };
-      sync = same.sync;
-      endless = same.endless;
-    }
+    record { lease = same-by past.lease facts kind span same.lease; sync = same.sync; endless = same.endless }

@@ -87,17 +87,17 @@ renewed-later clock revision ttl r (Some k) key is same le =
 
 granted-live : (past : Past) (by : ℕ) (txn : Txn) (i m r : ℕ) (key : LeaderKey) → AreCarriedLive past
     → past.asked i ≡ CarryQuery m r
-    → leader_granted past.clock past.revision past.leader by (lease_query_of txn) ≡ Some key
+    → leader_granted past.lease.clock past.lease.revision past.lease.leader by (lease_query_of txn) ≡ Some key
     → key.revision ≡ r → key.holder ≡ m → was_live_by_grant past.holder_was_live txn ≡ true
 granted-live past by (txns.Create info ttl failsafe sync) i m r key old asked is same mine = absurd (omega (
   arith,
   ap (λ (x : LeaderKey). x.revision)
-      (some-is (record { holder = by; revision = past.revision + 1; expiry = past.clock + ttl.0 }) key is),
+      (some-is (record { holder = by; revision = past.lease.revision + 1; expiry = past.lease.clock + ttl.0 }) key is),
   same,
   old.given i m r asked,
 ))
-granted-live past by (txns.Renew revision info ttl status row failsafe) i m r key old asked is same mine =
-    absurd (renewed-later past.clock past.revision ttl.0 r past.leader key is same (old.given i m r asked))
+granted-live past by (txns.Renew revision info ttl status row failsafe) i m r key old asked is same mine = absurd
+    (renewed-later past.lease.clock past.lease.revision ttl.0 r past.lease.leader key is same (old.given i m r asked))
 granted-live past by (txns.Release revision) i m r key old asked is same mine = absurd (none-some key is)
 granted-live past by (txns.Touch info ttl) i m r key old asked is same mine = old.live i m r key asked is same mine
 granted-live past by (txns.Claim revision sync) i m r key old asked is same mine = old.live i m r key asked is same mine
@@ -116,20 +116,20 @@ pub carried-each : (past : Past) (kind : EventKind) → ComparesGiven past kind 
     → AreCarriedLive (past_after past kind)
 carried-each past kinds.Tick read old = record {
   given = old.given;
-  live = λ i m r key asked is. old.live i m r key asked (key-known (past.clock + 1) past.leader key is);
+  live = λ i m r key asked is. old.live i m r key asked (key-known (past.lease.clock + 1) past.lease.leader key is);
 }
 carried-each past (kinds.Message (messages.Sent number message)) read old =
     let q : Query = query_sent message.from message.incarnation message.sequence message.body in
     record {
-      given = put-all past.asked number q (λ i z. (m r : ℕ) → z ≡ CarryQuery m r → r ≤ past.revision) read
-          (λ i other. old.given i);
+      given = put-all past.asked number q
+          (λ i z. (m r : ℕ) → z ≡ CarryQuery m r → r ≤ past.lease.revision) read (λ i other. old.given i);
       live = λ i m r key asked is same mine. put-all past.asked number q
           (λ j z. z ≡ CarryQuery m r →
-          was_live_by_message past.holder_was_live past.leader message.from message.body ≡ true)
-          (λ e. sent-live past.holder_was_live past.leader message.from message.incarnation message.sequence
-          message.body m r key e is mine)
-          (λ j other e.
-          sent-stays past.holder_was_live past.leader message.from message.body (old.live j m r key e is same mine))
+          was_live_by_message past.holder_was_live past.lease.leader message.from message.body ≡ true)
+          (λ e. sent-live past.holder_was_live past.lease.leader message.from message.incarnation
+          message.sequence message.body m r key e is mine)
+          (λ j other e. sent-stays past.holder_was_live past.lease.leader message.from message.body
+          (old.live j m r key e is same mine))
           i asked;
     }
 carried-each past (kinds.Message _) read old = record { given = old.given; live = old.live }
@@ -148,7 +148,7 @@ first-carried logs required confirmed = record {
 }
 
 pub carried-granted : (setup : Setup) (past : Past) (volatile_states : ℕ → VolatileState) (i m r : ℕ) (key : LeaderKey)
-    → AreCarriedLive past → past.asked i ≡ CarryQuery m r → past.leader ≡ Some key → key.revision ≡ r
+    → AreCarriedLive past → past.asked i ≡ CarryQuery m r → past.lease.leader ≡ Some key → key.revision ≡ r
     → key.holder ≡ m → MayRenew (state_of setup past volatile_states) true
 carried-granted setup past volatile_states i m r key old asked is same mine = record {
   leader = λ compares. (key.revision, ap leader_revision is);

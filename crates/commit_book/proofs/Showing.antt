@@ -278,40 +278,43 @@ accept-shown setup past volatile_states tick server timeline positions is =
     let k = server.id.number in
     let f : List (Option Lsn) → List (Option Lsn) = λ before. none_confirmed in
     ap (λ (members : ℕ → Machine). record (state_of setup past volatile_states) { members = members })
-    (members-shown past
-    (record past { writes = put_at past.writes k true; confirmed = with_changed past.confirmed k f }) volatile_states
-    volatile_states k (record (machine_of past (volatile_states k) k) { writes = true; confirmed = λ n. None })
+    (members-shown past (record past {
+      lease = record past.lease { writes = put_at past.lease.writes k true };
+      confirmed = with_changed past.confirmed k f;
+    }) volatile_states volatile_states k
+    (record (machine_of past (volatile_states k) k) { writes = true; confirmed = λ n. None })
     (ap (λ (w : Bool). record (machine_of past (volatile_states k) k) {
       writes = w;
       confirmed = position_of (slice_get (with_changed past.confirmed k f) k);
-    }) (put-here past.writes k true)
+    }) (put-here past.lease.writes k true)
     ∙ ap (λ (c : ℕ → Option ℕ). record (machine_of past (volatile_states k) k) { writes = true; confirmed = c })
     (ap position_of (changed-here past.confirmed k f positions is) ∙ fun_ext (λ n. none-replicated 16 n)))
     (λ n other. ap (λ (w : Bool). record (machine_of past (volatile_states n) n) {
       writes = w;
       confirmed = position_of (slice_get (with_changed past.confirmed k f) n);
-    }) (put-there past.writes k true n other)
+    }) (put-there past.lease.writes k true n other)
     ∙ ap (λ (o : Option (List (Option Lsn))).
     record (machine_of past (volatile_states n) n) { confirmed = position_of o })
     (changed-there past.confirmed k f n other)))
 
-stopped : (setup : Setup) (past : Past) (volatile_states : ℕ → VolatileState) (k : ℕ)
-    → state_of setup (record past { writes = put_at past.writes k false }) (with_server_down volatile_states k)
+stopped : (setup : Setup) (past : Past) (volatile_states : ℕ → VolatileState) (k : ℕ) → state_of setup (record past {
+  lease = record past.lease { writes = put_at past.lease.writes k false };
+}) (with_server_down volatile_states k)
     ≡ with_machine (state_of setup past volatile_states) k
     (record (machine_of past (volatile_states k) k) { live = false; writes = false })
 stopped setup past volatile_states k =
-    let past' : Past = record past { writes = put_at past.writes k false } in
+    let past' : Past = record past { lease = record past.lease { writes = put_at past.lease.writes k false } } in
     ap (λ (members : ℕ → Machine). record (state_of setup past volatile_states) { members = members })
     (members-shown past past' volatile_states (with_server_down volatile_states k) k
     (record (machine_of past (volatile_states k) k) { live = false; writes = false })
     (ap (λ (volatile_state : VolatileState). machine_of past' volatile_state k)
     (put-here volatile_states k (record (volatile_states k) { live = false }))
     ∙ ap (λ (w : Bool). record (machine_of past (volatile_states k) k) { live = false; writes = w })
-    (put-here past.writes k false))
+    (put-here past.lease.writes k false))
     (λ n other. ap (λ (volatile_state : VolatileState). machine_of past' volatile_state n)
     (put-there volatile_states k (record (volatile_states k) { live = false }) n other)
     ∙ ap (λ (w : Bool). record (machine_of past (volatile_states n) n) { writes = w })
-    (put-there past.writes k false n other)))
+    (put-there past.lease.writes k false n other)))
 
 pub ended-shown : (setup : Setup) (past : Past) (volatile_states : ℕ → VolatileState) (tick : Ticks)
     (server : ServerOf) →
@@ -349,36 +352,43 @@ pub cease-shown : (setup : Setup) (past : Past) (volatile_states : ℕ → Volat
 cease-shown setup past volatile_states tick server =
     let k = server.id.number in
     ap (λ (members : ℕ → Machine). record (state_of setup past volatile_states) { members = members })
-    (members-shown past (record past { writes = put_at past.writes k false }) volatile_states volatile_states k
-    (record (machine_of past (volatile_states k) k) { writes = false })
-    (ap (λ (w : Bool). record (machine_of past (volatile_states k) k) { writes = w }) (put-here past.writes k false))
+    (members-shown past (record past {
+      lease = record past.lease { writes = put_at past.lease.writes k false };
+    }) volatile_states volatile_states k (record (machine_of past (volatile_states k) k) { writes = false })
+    (ap (λ (w : Bool). record (machine_of past (volatile_states k) k) { writes = w })
+    (put-here past.lease.writes k false))
     (λ n other. ap (λ (w : Bool). record (machine_of past (volatile_states n) n) { writes = w })
-    (put-there past.writes k false n other)))
+    (put-there past.lease.writes k false n other)))
 
 -- ---- agents
 pub start-shown : (setup : Setup) (past : Past) (volatile_states : ℕ → VolatileState) (tick : Ticks)
-    (agent : Member) (incarnation : ℕ) → incarnation ≡ past.runs agent.id.number + 1 →
+    (agent : Member) (incarnation : ℕ) → incarnation ≡ past.lease.runs agent.id.number + 1 →
     IsShown setup past volatile_states (record {
       action = Start agent.id.number;
       events = event_at tick (kinds.Agent (agents.Started agent incarnation));
       volatile_states = put_at volatile_states agent.id.number
-          (record (volatile_states agent.id.number) { agent = Some (fresh_agent (past.runs agent.id.number + 1)) });
+          (record (volatile_states agent.id.number) {
+            agent =
+                Some (fresh_agent (past.lease.runs agent.id.number + 1));
+          });
     })
 start-shown setup past volatile_states tick agent incarnation next =
     let k = agent.id.number in
-    let volatile_state : VolatileState = record (volatile_states k) { agent = Some (fresh_agent (past.runs k + 1)) } in
-    let past' : Past = record past { runs = put_at past.runs k incarnation } in
+    let volatile_state : VolatileState =
+    record (volatile_states k) { agent = Some (fresh_agent (past.lease.runs k + 1)) } in
+    let past' : Past = record past { lease = record past.lease { runs = put_at past.lease.runs k incarnation } } in
     ap (λ (members : ℕ → Machine). record (state_of setup past volatile_states) { members = members })
     (members-shown past past' volatile_states (put_at volatile_states k volatile_state) k
     (record (machine_of past (volatile_states k) k) {
-      agent = Some (fresh_agent (past.runs k + 1));
-      runs = past.runs k + 1;
+      agent = Some (fresh_agent (past.lease.runs k + 1));
+      runs = past.lease.runs k + 1;
     })
     (ap (λ (x : VolatileState). machine_of past' x k) (put-here volatile_states k volatile_state)
-    ∙ ap (λ (r : ℕ). record (machine_of past volatile_state k) { runs = r }) (put-here past.runs k incarnation ∙ next))
+    ∙ ap (λ (r : ℕ). record (machine_of past volatile_state k) { runs = r })
+    (put-here past.lease.runs k incarnation ∙ next))
     (λ n other. ap (λ (x : VolatileState). machine_of past' x n) (put-there volatile_states k volatile_state n other)
     ∙ ap (λ (r : ℕ). record (machine_of past (volatile_states n) n) { runs = r })
-    (put-there past.runs k incarnation n other)))
+    (put-there past.lease.runs k incarnation n other)))
 
 -- the agent of k is no more; a kill and a reset tell it, and neither
 -- changes more of the past than a reset's end of the server
@@ -406,7 +416,7 @@ put-same flight i none = fun_ext (λ n. put-all flight i None (λ k o. o ≡ fli
 
 -- a tick, in which the leader key expires or not
 pub tick-shown : (setup : Setup) (past : Past) (volatile_states : ℕ → VolatileState) (tick : Ticks)
-    → leader_kept (past.clock + 1) past.leader ≡ past.leader →
+    → leader_kept (past.lease.clock + 1) past.lease.leader ≡ past.lease.leader →
     IsShown setup past volatile_states
     (record { action = Note; events = event_at tick kinds.Tick; volatile_states = volatile_states })
 tick-shown setup past volatile_states tick stays =
@@ -415,7 +425,7 @@ tick-shown setup past volatile_states tick stays =
     stays
 
 pub expired-shown : (setup : Setup) (past : Past) (volatile_states : ℕ → VolatileState) (tick : Ticks)
-    → leader_kept (past.clock + 1) past.leader ≡ None →
+    → leader_kept (past.lease.clock + 1) past.lease.leader ≡ None →
     IsShown setup past volatile_states
     (record { action = Expire; events = event_at tick kinds.Tick; volatile_states = volatile_states })
 expired-shown setup past volatile_states tick gone =
@@ -440,8 +450,8 @@ pub claim-shown : (setup : Setup) (past : Past) (volatile_states : ℕ → Volat
     (by : Member) (incarnation sequence revision : ℕ) (sync : Expected) (standbys : List Name) →
     past.flight i ≡ Some (Requested (claim_request by.id.number incarnation sequence revision sync))
     → past.asked i ≡ SyncQuery (claim_request by.id.number incarnation sequence revision sync)
-    → is_granted (leader_revision past.leader) past.sync (claim_request by.id.number incarnation sequence revision sync)
-    ≡ true →
+    → is_granted (leader_revision past.lease.leader) past.sync
+    (claim_request by.id.number incarnation sequence revision sync) ≡ true →
     IsShown setup past volatile_states (record {
       action = Decide i j;
       events = granted_events tick i j by incarnation sequence (txns.Claim revision sync) standbys;
@@ -453,7 +463,7 @@ claim-shown setup past volatile_states tick i j by incarnation sequence revision
     (kinds.Store (stores.Granted i by (txns.Claim revision sync) standbys)) in
     ap (λ (q : Query). record (state_of setup past volatile_states) {
       sync = mid.sync;
-      revision = past.revision + 1;
+      revision = past.lease.revision + 1;
       flight = put_at (put_at past.flight i None) j (grant_in_flight_of mid by.id.number incarnation sequence q);
     }) asked
     ∙ sym (decided-is (state_of setup past volatile_states) i j w true at granted)
@@ -462,7 +472,7 @@ pub publish-shown : (setup : Setup) (past : Past) (volatile_states : ℕ → Vol
     (by : Member) (incarnation sequence revision : ℕ) (sync : Expected) (set : MemberSet) (standbys : List Name) →
     past.flight i ≡ Some (Requested (publish_request by.id.number incarnation sequence revision sync set))
     → past.asked i ≡ SyncQuery (publish_request by.id.number incarnation sequence revision sync set)
-    → is_granted (leader_revision past.leader) past.sync
+    → is_granted (leader_revision past.lease.leader) past.sync
     (publish_request by.id.number incarnation sequence revision sync set) ≡ true →
     IsShown setup past volatile_states (record {
       action = Decide i j;
@@ -475,7 +485,7 @@ publish-shown setup past volatile_states tick i j by incarnation sequence revisi
     (kinds.Store (stores.Granted i by (txns.SetSync revision sync set) standbys)) in
     ap (λ (q : Query). record (state_of setup past volatile_states) {
       sync = mid.sync;
-      revision = past.revision + 1;
+      revision = past.lease.revision + 1;
       flight = put_at (put_at past.flight i None) j (grant_in_flight_of mid by.id.number incarnation sequence q);
     }) asked
     ∙ sym (decided-is (state_of setup past volatile_states) i j w true at granted)
@@ -494,10 +504,10 @@ create-shown setup past volatile_states tick i j by incarnation sequence info tt
     let mid : Past = past_after (past_after past (kinds.Message (messages.Delivered i)))
     (kinds.Store (stores.Granted i by (txns.Create info ttl failsafe None) standbys)) in
     let leased : (ℕ → Option Flying) → Query → State = λ f q. record (state_of setup past volatile_states) {
-      leader = Some (past.revision + 1);
+      leader = Some (past.lease.revision + 1);
       holder = by.id.number;
       holder_was_live = false;
-      revision = past.revision + 1;
+      revision = past.lease.revision + 1;
       flight = put_at f j (grant_in_flight_of mid by.id.number incarnation sequence q);
     } in
     ap (λ (q : Query). leased (put_at past.flight i None) q) asked
@@ -508,8 +518,8 @@ pub create-as-read-shown : (setup : Setup) (past : Past) (volatile_states : ℕ 
     (i j : ℕ) (by : Member) (incarnation sequence : ℕ) (info : MemberInfo) (ttl : Ticks)
     (failsafe : Option Expected) (sync : Expected) (standbys : List Name) →
     past.flight i ≡ Some (Requested (create_request by.id.number incarnation sequence sync))
-    → past.asked i ≡ SyncQuery (create_request by.id.number incarnation sequence sync) → past.leader ≡ None
-    → is_as_read past.sync (revision_in sync) ≡ true →
+    → past.asked i ≡ SyncQuery (create_request by.id.number incarnation sequence sync)
+    → past.lease.leader ≡ None → is_as_read past.sync (revision_in sync) ≡ true →
     IsShown setup past volatile_states (record {
       action = Decide i j;
       events = granted_events tick i j by incarnation sequence (txns.Create info ttl failsafe (Some sync)) standbys;
@@ -521,10 +531,10 @@ create-as-read-shown setup past volatile_states tick i j by incarnation sequence
     let mid : Past = past_after (past_after past (kinds.Message (messages.Delivered i)))
     (kinds.Store (stores.Granted i by (txns.Create info ttl failsafe (Some sync)) standbys)) in
     ap (λ (q : Query). record (state_of setup past volatile_states) {
-      leader = Some (past.revision + 1);
+      leader = Some (past.lease.revision + 1);
       holder = by.id.number;
       holder_was_live = false;
-      revision = past.revision + 1;
+      revision = past.lease.revision + 1;
       flight = put_at (put_at past.flight i None) j (grant_in_flight_of mid by.id.number incarnation sequence q);
     }) asked
     ∙ sym (decided-is (state_of setup past volatile_states) i j w true at
@@ -532,8 +542,8 @@ create-as-read-shown setup past volatile_states tick i j by incarnation sequence
 
 -- a renewal is granted
 carried-shown : (setup : Setup) (past : Past) (volatile_states : ℕ → VolatileState) (failsafe : Option MemberSet)
-    → failsafe_revision_of (failsafe_carried (past.revision + 1) (members_if failsafe) past.failsafe)
-    ≡ failsafe_revision_if (carries_set failsafe) (past.revision + 1) (failsafe_revision_of past.failsafe)
+    → failsafe_revision_of (failsafe_carried (past.lease.revision + 1) (members_if failsafe) past.lease.failsafe)
+    ≡ failsafe_revision_if (carries_set failsafe) (past.lease.revision + 1) (failsafe_revision_of past.lease.failsafe)
 carried-shown setup past volatile_states None = refl
 carried-shown setup past volatile_states (Some members) = refl
 
@@ -546,7 +556,7 @@ renew-granted past member incarnation sequence by revision (Some members) = refl
 pub renew-shown : (setup : Setup) (past : Past) (volatile_states : ℕ → VolatileState) (tick : Ticks) (i j : ℕ)
     (by : Member) (incarnation sequence revision : ℕ) (info : MemberInfo) (ttl : Ticks) (status : Option Lsn)
     (row : Option HistoryRow) (failsafe : Option MemberSet) (standbys : List Name) →
-    (key : LeaderKey) → past.leader ≡ Some key → past.flight i ≡ None
+    (key : LeaderKey) → past.lease.leader ≡ Some key → past.flight i ≡ None
     → past.asked i ≡ renew_query by.id.number revision failsafe →
     IsShown setup past volatile_states (record {
       action = Renew by.id.number incarnation sequence j (carries_set failsafe);
@@ -563,29 +573,29 @@ renew-shown setup past volatile_states tick i j by incarnation sequence revision
       leader = leader_revision l;
       holder = key_holder l;
       failsafe_revision = failsafe_revision;
-      revision = past.revision + 1;
+      revision = past.lease.revision + 1;
       flight = put_at f j o;
     } in
     let failsafe_revision : Option ℕ =
-    failsafe_revision_if (carries_set failsafe) (past.revision + 1) (failsafe_revision_of past.failsafe) in
-    let extended : Option LeaderKey → Option LeaderKey = extended_by past.clock (past.revision + 1) ttl.0 in
+    failsafe_revision_if (carries_set failsafe) (past.lease.revision + 1) (failsafe_revision_of past.lease.failsafe) in
+    let extended : Option LeaderKey → Option LeaderKey = extended_by past.lease.clock (past.lease.revision + 1) ttl.0 in
     let granted : Option Flying = lease_grant_of mid by.id.number incarnation sequence in
-    ap (λ (o : Option ℕ). renewed (extended past.leader) o (put_at past.flight i None)
+    ap (λ (o : Option ℕ). renewed (extended past.lease.leader) o (put_at past.flight i None)
     (grant_in_flight_of mid by.id.number incarnation sequence (past.asked i)))
     (carried-shown setup past volatile_states failsafe)
-    ∙ ap (λ (q : Query). renewed (extended past.leader) failsafe_revision (put_at past.flight i None)
+    ∙ ap (λ (q : Query). renewed (extended past.lease.leader) failsafe_revision (put_at past.flight i None)
     (grant_in_flight_of mid by.id.number incarnation sequence q))
     asked
-    ∙ ap (λ (o : Option Flying). renewed (extended past.leader) failsafe_revision (put_at past.flight i None) o)
+    ∙ ap (λ (o : Option Flying). renewed (extended past.lease.leader) failsafe_revision (put_at past.flight i None) o)
     (renew-granted mid by.id.number incarnation sequence by.id.number revision failsafe)
-    ∙ ap (λ (f : ℕ → Option Flying). renewed (extended past.leader) failsafe_revision f granted)
+    ∙ ap (λ (f : ℕ → Option Flying). renewed (extended past.lease.leader) failsafe_revision f granted)
     (put-same past.flight i none)
     ∙ ap (λ (l : Option LeaderKey). renewed (extended l) failsafe_revision past.flight granted) is
     ∙ ap (λ (h : ℕ). record (state_of setup past volatile_states) {
-      leader = Some (past.revision + 1);
+      leader = Some (past.lease.revision + 1);
       holder = h;
       failsafe_revision = failsafe_revision;
-      revision = past.revision + 1;
+      revision = past.lease.revision + 1;
       flight = put_at past.flight j granted;
     }) (ap key_holder (sym is))
 
@@ -596,19 +606,19 @@ pub other-shown : (setup : Setup) (past : Past) (volatile_states : ℕ → Volat
     (record { action = OtherWrite; events = decided_events tick i by txn standbys; volatile_states = volatile_states })
 other-shown setup past volatile_states tick i by (txns.Touch info ttl) standbys none other =
     ap (λ (f : ℕ → Option Flying).
-    record (state_of setup past volatile_states) { revision = past.revision + 1; flight = f })
+    record (state_of setup past volatile_states) { revision = past.lease.revision + 1; flight = f })
     (put-same past.flight i none)
 other-shown setup past volatile_states tick i by (txns.SetFailover failover ttl) standbys none other =
     ap (λ (f : ℕ → Option Flying).
-    record (state_of setup past volatile_states) { revision = past.revision + 1; flight = f })
+    record (state_of setup past volatile_states) { revision = past.lease.revision + 1; flight = f })
     (put-same past.flight i none)
 other-shown setup past volatile_states tick i by (txns.DropFailover revision) standbys none other =
     ap (λ (f : ℕ → Option Flying).
-    record (state_of setup past volatile_states) { revision = past.revision + 1; flight = f })
+    record (state_of setup past volatile_states) { revision = past.lease.revision + 1; flight = f })
     (put-same past.flight i none)
 other-shown setup past volatile_states tick i by (txns.SetConfig revision config) standbys none other =
     ap (λ (f : ℕ → Option Flying).
-    record (state_of setup past volatile_states) { revision = past.revision + 1; flight = f })
+    record (state_of setup past volatile_states) { revision = past.lease.revision + 1; flight = f })
     (put-same past.flight i none)
 other-shown setup past volatile_states tick i by (txns.Create info ttl failsafe sync) standbys none other = absurd other
 other-shown setup past volatile_states tick i by (txns.Renew revision info ttl status row failsafe) standbys none
@@ -630,7 +640,7 @@ release-shown setup past volatile_states tick i by compared standbys none =
     ap (λ (f : ℕ → Option Flying). record (state_of setup past volatile_states) {
       leader = None;
       holder = 0;
-      revision = past.revision + 1;
+      revision = past.lease.revision + 1;
       flight = f;
     }) (put-same past.flight i none)
 
@@ -663,7 +673,7 @@ put-twice flight i j none = put-same (put_at flight i None) j
 -- a sync write is refused
 pub refused-shown : (setup : Setup) (past : Past) (volatile_states : ℕ → VolatileState) (tick : Ticks) (i j : ℕ)
     (by : Member) (incarnation sequence : ℕ) (request : TxnKind) (key : Key) (found : Expected) (w : SyncRequest) →
-    past.flight i ≡ Some (Requested w) → is_granted (leader_revision past.leader) past.sync w ≡ false
+    past.flight i ≡ Some (Requested w) → is_granted (leader_revision past.lease.leader) past.sync w ≡ false
     → past.flight j ≡ None →
     IsShown setup past volatile_states (record {
       action = Decide i j;
@@ -679,15 +689,15 @@ refused-shown setup past volatile_states tick i j by incarnation sequence reques
 pub snapshot-shown : (setup : Setup) (past : Past) (volatile_states : ℕ → VolatileState) (tick : Ticks)
     (i j : ℕ) (by : Member) (incarnation sequence : ℕ) → past.flight i ≡ None →
     IsShown setup past volatile_states (record {
-      action = SendSnapshot (is_keyless past.leader past.failsafe) (is_leaderless past.leader) j;
+      action = SendSnapshot (is_keyless past.lease.leader past.lease.failsafe) (is_leaderless past.lease.leader) j;
       events = read_events tick i j by incarnation sequence;
       volatile_states = volatile_states;
     })
 snapshot-shown setup past volatile_states tick i j by incarnation sequence none =
     ap (λ (f : ℕ → Option Flying).
     record (state_of setup past volatile_states) {
-      flight =
-          put_at f j (snapshot_of past (is_keyless past.leader past.failsafe) (is_leaderless past.leader));
+      flight = put_at f j
+          (snapshot_of past (is_keyless past.lease.leader past.lease.failsafe) (is_leaderless past.lease.leader));
     })
     (put-same past.flight i none)
 
@@ -728,12 +738,12 @@ race-answer-shown setup past volatile_states tick j by member incarnation sequen
 -- what the events of an input of m leave as it was
 record Frame (m : ℕ) (past past' : Past) : Type 0 where
   sync : past'.sync ≡ past.sync
-  leader : past'.leader ≡ past.leader
-  failsafe : past'.failsafe ≡ past.failsafe
-  revision : past'.revision ≡ past.revision
-  runs : past'.runs ≡ past.runs
+  leader : past'.lease.leader ≡ past.lease.leader
+  failsafe : past'.lease.failsafe ≡ past.lease.failsafe
+  revision : past'.lease.revision ≡ past.lease.revision
+  runs : past'.lease.runs ≡ past.lease.runs
   logs : past'.logs ≡ past.logs
-  writes : past'.writes ≡ past.writes
+  writes : past'.lease.writes ≡ past.lease.writes
   confirmed : past'.confirmed ≡ past.confirmed
   required : (n : ℕ) → (n ≡ m → ⊥) → slice_get past'.required n ≡ slice_get past.required n
   acknowledged_log : past'.acknowledged_log ≡ past.acknowledged_log
@@ -944,10 +954,10 @@ input-shown setup past volatile_states m heard agent live sends events own fligh
       sends = sends;
       holder_was_live = past'.holder_was_live;
     } in
-    state-eq setup.member_count setup.creates_compare past'.sync past.sync (leader_revision past'.leader)
-    (leader_revision past.leader) (key_holder past'.leader) (key_holder past.leader) past'.holder_was_live
-    (failsafe_revision_of past'.failsafe) (failsafe_revision_of past.failsafe) past'.revision past.revision past'.flight
-    (send sends (forget heard past.flight))
+    state-eq setup.member_count setup.creates_compare past'.sync past.sync (leader_revision past'.lease.leader)
+    (leader_revision past.lease.leader) (key_holder past'.lease.leader) (key_holder past.lease.leader)
+    past'.holder_was_live (failsafe_revision_of past'.lease.failsafe) (failsafe_revision_of past.lease.failsafe)
+    past'.lease.revision past.lease.revision past'.flight (send sends (forget heard past.flight))
     (λ n. machine_of past' (put_at volatile_states m volatile_state n) n)
     (put_at (λ n. machine_of past (volatile_states n) n) m
     (machine_after (machine_of past (volatile_states m) m) input))
@@ -957,19 +967,19 @@ input-shown setup past volatile_states m heard agent live sends events own fligh
     (members-shown past past' volatile_states (put_at volatile_states m volatile_state) m
     (machine_after (machine_of past (volatile_states m) m) input)
     (ap (λ (x : VolatileState). machine_of past' x m) (put-here volatile_states m volatile_state)
-    ∙ machine-eq live live (past'.writes m) (past.writes m) (confirmers_of (slice_get past'.required m))
+    ∙ machine-eq live live (past'.lease.writes m) (past.lease.writes m) (confirmers_of (slice_get past'.required m))
     (confirmers_of (slice_get past'.required m)) (position_of (slice_get past'.confirmed m))
     (position_of (slice_get past.confirmed m)) (log_found (slice_get past'.logs m))
-    (log_found (slice_get past.logs m)) (Some agent) (Some agent) (past'.runs m) (past.runs m)
+    (log_found (slice_get past.logs m)) (Some agent) (Some agent) (past'.lease.runs m) (past.lease.runs m)
     refl (ap (λ (w : ℕ → Bool). w m) f.writes) refl
     (ap (λ (c : List (List (Option Lsn))). position_of (slice_get c m)) f.confirmed)
     (ap (λ (l : Logs). log_found (slice_get l m)) f.logs) refl (ap (λ (r : ℕ → ℕ). r m) f.runs))
     (λ n other. ap (λ (x : VolatileState). machine_of past' x n) (put-there volatile_states m volatile_state n other)
-    ∙ machine-eq (volatile_states n).live (volatile_states n).live (past'.writes n) (past.writes n)
+    ∙ machine-eq (volatile_states n).live (volatile_states n).live (past'.lease.writes n) (past.lease.writes n)
     (confirmers_of (slice_get past'.required n)) (confirmers_of (slice_get past.required n))
     (position_of (slice_get past'.confirmed n)) (position_of (slice_get past.confirmed n))
     (log_found (slice_get past'.logs n)) (log_found (slice_get past.logs n)) (volatile_states n).agent
-    (volatile_states n).agent (past'.runs n) (past.runs n)
+    (volatile_states n).agent (past'.lease.runs n) (past.lease.runs n)
     refl (ap (λ (w : ℕ → Bool). w n) f.writes) (ap confirmers_of (f.required n other))
     (ap (λ (c : List (List (Option Lsn))). position_of (slice_get c n)) f.confirmed)
     (ap (λ (l : Logs). log_found (slice_get l n)) f.logs) refl (ap (λ (r : ℕ → ℕ). r n) f.runs)))

@@ -29,7 +29,7 @@ use Rattle.commit_book.specs.Keys.{sync_key_of, sync_value}
 use Rattle.commit_book.proofs.Keys.{granted-endless, granted-sync}
 
 pub record IsSameSync (past : Past) (facts : Facts) : Type 0 where
-  pub revision : past.revision ≡ facts.keys.revision
+  pub revision : past.lease.revision ≡ facts.keys.revision
   pub sync : past.sync ≡ sync_key_of (find key_cmp keys.Sync facts.keys.pairs)
   pub kept : IsKept facts.keys.pairs
   pub endless : IsEndless (find key_cmp keys.Sync facts.keys.pairs)

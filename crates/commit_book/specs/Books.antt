@@ -15,7 +15,7 @@ use Rattle.commit_actions.specs.Past.{Setup, Past, past_over, VolatileState, fir
 
 -- each server that accepts writes has an entry of each acknowledged commit in its log, by what a book determines
 abbrev pub KeepsNow : Past → Type 0
-KeepsNow past = WritersHold past.writes past.logs past.acknowledged
+KeepsNow past = WritersHold past.lease.writes past.logs past.acknowledged
 
 -- in each of these logs, each entry has bytes
 abbrev pub AllHaveBytes : Logs → Type 0

@@ -19,11 +19,10 @@ use Rattle.commit_actions.specs.Flights.{SyncGrant}
 abbrev pub claim_of : Txn
 claim_of = txns.Claim 2 Absent
 
--- this member asks for the leader key and claims the sync key, and the key store grants both
-abbrev pub led_and_claimed : Member → MemberInfo → List Event
-led_and_claimed by info =
-    asked_and_granted by info
-    ++ (record {
+-- this member claims the sync key, and the key store grants it
+abbrev pub claimed : Member → List Event
+claimed by =
+    record {
       tick = record { 0 = 0 };
       kind = kinds.Message (messages.Sent 3 (record {
         from = ends.Member by;
@@ -33,7 +32,11 @@ led_and_claimed by info =
         body = bodies.Request claim_of;
       }));
     }
-    ∷ granted_events (record { 0 = 0 }) 3 4 by 1 2 claim_of [])
+    ∷ granted_events (record { 0 = 0 }) 3 4 by 1 2 claim_of []
+
+-- it asks for the leader key before that, and the key store grants both
+abbrev pub led_and_claimed : Member → MemberInfo → List Event
+led_and_claimed by info = asked_and_granted by info ++ claimed by
 
 -- the grant of the claim that is in flight then
 abbrev pub claim_flying : Member → SyncGrant

@@ -11,10 +11,9 @@ use Rattle.event_book.specs.declared.link.LinkEnd.{LinkEnd}
 use Rattle.event_book.specs.declared.link.LinkEnd.TheVariants as ends
 use Rattle.event_book.specs.declared.message.Body.{Body}
 use Rattle.event_book.specs.declared.message.Body.TheVariants as bodies
-use Rattle.event_book.specs.Flight.{InFlightFacts, in_flight, grant_for}
+use Rattle.event_book.specs.Flight.{InFlightFacts, in_flight}
 use Rattle.event_book.specs.Facts.{Facts, facts_after}
-use Rattle.lease_model.specs.Stores.{leader_key_of, failsafe_key_of, IsSpanned}
-use Rattle.lease_book.specs.Flights.{revision_of, Rises}
+use Rattle.lease_book.specs.Flights as bridge_flights
 use Rattle.commit_actions.specs.Flights.{Aim, ClaimSync, CreateLeader, PublishStandbys, SyncRequest, Flying}
 use Rattle.commit_actions.specs.Actions.{sync_key_by}
 use Rattle.commit_actions.specs.Past.{Past, Query, LeaseQuery, CarryQuery, SyncQuery, OtherQuery, first_past, flying_of, leader_revision, past_after, query_sent}
@@ -24,10 +23,8 @@ use Rattle.commit_book.specs.Keys.{sync_key_of, IsSameKeys}
 -- snapshot, the revision of its grant, and these requests so far
 abbrev pub past_at_sending : (ℕ → Query) → InFlightFacts → Past
 past_at_sending asked carried = record (first_past [] [] []) {
+  lease = bridge_flights.past_at_sending (λ i. None) carried;
   sync = sync_key_of (find key_cmp keys.Sync carried.snapshot);
-  leader = leader_key_of (find key_cmp keys.Leader carried.snapshot);
-  failsafe = failsafe_key_of (find key_cmp keys.Failsafe carried.snapshot);
-  revision = revision_of carried.grant;
   asked = asked;
 }
 
@@ -65,16 +62,16 @@ IsNamed member incarnation sequence _ = Unit {0}
 -- what a request that compares the sync key writes is there, under the
 -- last granted revision: the leader key, or the sync key
 abbrev pub HasWritten : Past → SyncRequest → Aim → Type 0
-HasWritten past request CreateLeader = leader_revision past.leader ≡ Some past.revision
-HasWritten past request ClaimSync = past.sync ≡ Some (sync_key_by request.member past.revision ClaimSync)
+HasWritten past request CreateLeader = leader_revision past.lease.leader ≡ Some past.lease.revision
+HasWritten past request ClaimSync = past.sync ≡ Some (sync_key_by request.member past.lease.revision ClaimSync)
 HasWritten past request (PublishStandbys standbys quorum) =
-    past.sync ≡ Some (sync_key_by request.member past.revision (PublishStandbys standbys quorum))
+    past.sync ≡ Some (sync_key_by request.member past.lease.revision (PublishStandbys standbys quorum))
 
 -- what any request writes, as far as commits read it, is there under
 -- the last granted revision: the leader key, or the sync key
 abbrev pub IsWritten : Past → Query → Type 0
-IsWritten past LeaseQuery = leader_revision past.leader ≡ Some past.revision
-IsWritten past (CarryQuery member revision) = leader_revision past.leader ≡ Some past.revision
+IsWritten past LeaseQuery = leader_revision past.lease.leader ≡ Some past.lease.revision
+IsWritten past (CarryQuery member revision) = leader_revision past.lease.leader ≡ Some past.lease.revision
 IsWritten past (SyncQuery request) = HasWritten past request request.aim
 IsWritten past OtherQuery = Unit {0}
 
@@ -100,35 +97,34 @@ Answers past last _ to incarnation sequence body = Unit {0}
 
 -- under each number the past has what commits read of the message that is in flight by the book
 pub record IsSameFlight (past : Past) (facts : Facts) : Type 0 where
+  -- and so has the law of one writer what it reads
+  pub lease : bridge_flights.IsSameFlight past.lease facts
   pub same : (i : ℕ) → past.flight i ≡ flying_if past.asked (in_flight facts.flight i)
-  pub order : Rises 0 facts.flight
-  -- numbers are those of messages that were sent
-  pub flown : (i : ℕ) (carried : InFlightFacts) → in_flight facts.flight i ≡ Some carried → i ≤ facts.sent
   pub asked : (i : ℕ) → facts.sent < i → past.asked i ≡ OtherQuery
   -- what is in flight was asked
   pub kept : (i : ℕ) (carried : InFlightFacts) → in_flight facts.flight i ≡ Some carried
       → past.asked i
       ≡ query_sent carried.message.from carried.message.incarnation carried.message.sequence carried.message.body
-  -- an answer that grants carries the grant; it answers a request that
-  -- was asked, and granted under the revision that it carries
-  pub grants : (i : ℕ) (carried : InFlightFacts) → in_flight facts.flight i ≡ Some carried
-      → (revision : ℕ) × (carried.grant ≡ grant_for carried.message.body carried.message.to revision)
+  -- an answer that grants answers a request that was asked, and granted under the revision that it carries
   pub answers : (i : ℕ) (carried : InFlightFacts) → in_flight facts.flight i ≡ Some carried
       → Answers (past_at_sending past.asked carried) facts.sent carried.message.from carried.message.to
       carried.message.incarnation carried.message.sequence carried.message.body
 
--- causes come first: a message is sent under a number above those before
--- it, and a grant only for a request that was asked, and granted last
-abbrev pub IsCausal : Past → Facts → EventKind → Type 0
-IsCausal past facts (kinds.Message (Sent number message)) = (facts.sent < number)
-    × Answers past facts.sent message.from message.to message.incarnation message.sequence message.body
-IsCausal past facts _ = Unit {0}
+-- a grant is sent only for a request that was asked, and granted last
+abbrev pub IsAnswered : Past → Facts → EventKind → Type 0
+IsAnswered past facts (kinds.Message (Sent number message)) =
+    Answers past facts.sent message.from message.to message.incarnation message.sequence message.body
+IsAnswered past facts _ = Unit {0}
 
--- each of these events is causal, and no leader key is created that is absent at once
+-- so it is at each of these events
+abbrev pub AreAnswered : Past → Facts → List Event → Type 0
+AreAnswered past facts [] = Unit {0}
+AreAnswered past facts (event ∷ events) =
+    IsAnswered past facts event.kind × AreAnswered (past_after past event.kind) (facts_after facts event.kind) events
+
+-- each of these events is causal as the law of one writer has it, and grants are sent so
 abbrev pub AreCausal : Past → Facts → List Event → Type 0
-AreCausal past facts [] = Unit {0}
-AreCausal past facts (event ∷ events) = IsSpanned event.kind
-    × (IsCausal past facts event.kind × AreCausal (past_after past event.kind) (facts_after facts event.kind) events)
+AreCausal past facts events = bridge_flights.AreCausal past.lease facts events × AreAnswered past facts events
 
 -- the past has the keys and the messages in flight as the book leaves them
 pub record IsSameBook (past : Past) (facts : Facts) : Type 0 where

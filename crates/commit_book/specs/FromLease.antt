@@ -12,10 +12,8 @@ use Rattle.commit_actions.specs.Past.{Past, past_over, leader_revision, is_keyle
 
 -- what lease_law gives: where both laws see the same servers live and the same agents Ready
 pub record LeaseGives : Type 0 where
-  -- both laws read one leader key of a book
-  pub leader : (p : lease_past.Past) (past : Past) (book : List Event) → p.clock ≡ past.clock
-      → p.revision ≡ past.revision → p.leader ≡ past.leader
-      → (lease_past.past_over p book).leader ≡ (past_over past book).leader
+  -- the law of one writer reads the same of a book
+  pub reads : (past : Past) (book : List Event) → (past_over past book).lease ≡ lease_past.past_over past.lease book
   -- a grant that is heard in time is the present leader key
   pub present : (s : lease.State) (m : ℕ) (heard : Option ℕ) → lease_carried.IsSound s → (fed : Fed s m heard)
       → IsOnTime (s.declared.margin m) s.clock fed.grant.moment → leader_revision s.leader ≡ Some fed.grant.revision
@@ -24,9 +22,6 @@ pub record LeaseGives : Type 0 where
       → (fed : Fed s m heard) → IsOnTime (s.declared.margin m) s.clock fed.grant.moment → (s.members m).hold ≤ s.clock
       → ((n : ℕ) → (members n).live ≡ (s.members n).live)
       → ((n : ℕ) → is_ready (members n).agent ≡ lease.is_ready (s.members n).agent) → (n : ℕ) → Acts (members n) → n ≡ m
-  -- and one failsafe key
-  pub failsafe : (p : lease_past.Past) (past : Past) (book : List Event) → p.revision ≡ past.revision
-      → p.failsafe ≡ past.failsafe → (lease_past.past_over p book).failsafe ≡ (past_over past book).failsafe
   -- without a leader key and a failsafe key nobody acts
   pub keyless : (s : lease.State) (members : ℕ → Machine) → lease_carried.IsSound s
       → is_keyless s.leader s.failsafe ≡ true

@@ -7,7 +7,6 @@ use Rattle.store_keys.specs.declared.value.Value.{Value}
 use Rattle.store_keys.specs.declared.value.Value.TheVariants as values
 use Rattle.lease_store.specs.KeyOrder.{key_cmp}
 use Rattle.event_book.specs.Facts.{Facts}
-use Rattle.lease_model.specs.Past as lease_past
 use Rattle.lease_model.specs.Stores.{IsEndless, IsSameStore}
 use Rattle.commit_actions.specs.Keys.{SyncKey}
 use Rattle.commit_actions.specs.Stored.{key_seen}
@@ -23,18 +22,9 @@ abbrev pub sync_key_of : Option KeyEntry → Option SyncKey
 sync_key_of None = None
 sync_key_of (Some found_key) = sync_value found_key.value found_key.revision
 
--- the clock and the keys of the lease in what commits read of a book, as the law of one writer has them
-abbrev pub lease_keys : Past → lease_past.Past
-lease_keys past = record lease_past.first_past {
-  clock = past.clock;
-  leader = past.leader;
-  failsafe = past.failsafe;
-  revision = past.revision;
-}
-
--- the past has clock, revision, leader key and failsafe key as the key store of the book
--- has them, and the sync key too, which has no expiry: where it has an entry, it is present
+-- the past has the keys of the lease as the key store of the book has them, and
+-- the sync key too, which has no expiry: where it has an entry, it is present
 pub record IsSameKeys (past : Past) (facts : Facts) : Type 0 where
-  pub lease : IsSameStore (lease_keys past) facts
+  pub lease : IsSameStore past.lease facts
   pub sync : past.sync ≡ sync_key_of (find key_cmp keys.Sync facts.keys.pairs)
   pub endless : IsEndless (find key_cmp keys.Sync facts.keys.pairs)

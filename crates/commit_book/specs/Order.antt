@@ -19,7 +19,7 @@ pub record AreOverlapping (member_count : ℕ) (writes : ℕ → Bool) (required
 
 -- the same of what a book determines
 abbrev pub IsOverlapping : ℕ → Past → Type 0
-IsOverlapping member_count past = AreOverlapping member_count past.writes past.required past.sync
+IsOverlapping member_count past = AreOverlapping member_count past.lease.writes past.required past.sync
 
 -- ---- in synchronous mode
 -- commits wait for this member
@@ -37,7 +37,7 @@ pub record AreAwaiting (writes : ℕ → Bool) (required : List Required) (sync 
 
 -- the same of what a book determines
 abbrev pub IsAwaiting : Past → Type 0
-IsAwaiting past = AreAwaiting past.writes past.required past.sync
+IsAwaiting past = AreAwaiting past.lease.writes past.required past.sync
 
 -- the sync key, where there is one, names members alone, of which at
 -- most so many may lack a commit: none in synchronous mode

@@ -129,12 +129,16 @@ pub record ActionsAreShown : Type 0 where
         events = event_at tick (kinds.Server (servers.Ended server));
         volatile_states = volatile_states;
       })
-  pub start : (setup : Setup) (past : Past) (volatile_states : ℕ → VolatileState) (tick : Ticks) (agent : Member)
-      (incarnation : ℕ) → incarnation ≡ past.runs agent.id.number + 1 → IsShown setup past volatile_states (record {
+  pub start : (setup : Setup) (past : Past) (volatile_states : ℕ → VolatileState) (tick : Ticks)
+      (agent : Member) (incarnation : ℕ) → incarnation ≡ past.lease.runs agent.id.number + 1
+      → IsShown setup past volatile_states (record {
         action = Start agent.id.number;
         events = event_at tick (kinds.Agent (agents.Started agent incarnation));
         volatile_states = put_at volatile_states agent.id.number
-            (record (volatile_states agent.id.number) { agent = Some (fresh_agent (past.runs agent.id.number + 1)) });
+            (record (volatile_states agent.id.number) {
+              agent =
+                  Some (fresh_agent (past.lease.runs agent.id.number + 1));
+            });
       })
   pub killed : (setup : Setup) (past : Past) (volatile_states : ℕ → VolatileState) (tick : Ticks) (agent : Member)
       → IsShown setup past volatile_states (record {
@@ -145,11 +149,11 @@ pub record ActionsAreShown : Type 0 where
       })
   -- the key store: time, decisions and answers
   pub tick : (setup : Setup) (past : Past) (volatile_states : ℕ → VolatileState) (tick : Ticks)
-      → leader_kept (past.clock + 1) past.leader ≡ past.leader
+      → leader_kept (past.lease.clock + 1) past.lease.leader ≡ past.lease.leader
       → IsShown setup past volatile_states
       (record { action = Note; events = event_at tick kinds.Tick; volatile_states = volatile_states })
   pub expired : (setup : Setup) (past : Past) (volatile_states : ℕ → VolatileState) (tick : Ticks)
-      → leader_kept (past.clock + 1) past.leader ≡ None
+      → leader_kept (past.lease.clock + 1) past.lease.leader ≡ None
       → IsShown setup past volatile_states
       (record { action = Expire; events = event_at tick kinds.Tick; volatile_states = volatile_states })
   pub lost : (setup : Setup) (past : Past) (volatile_states : ℕ → VolatileState) (tick : Ticks) (number : ℕ)
@@ -162,7 +166,7 @@ pub record ActionsAreShown : Type 0 where
       (by : Member) (incarnation sequence revision : ℕ) (sync : Expected) (standbys : List Name)
       → past.flight i ≡ Some (Requested (claim_request by.id.number incarnation sequence revision sync))
       → past.asked i ≡ SyncQuery (claim_request by.id.number incarnation sequence revision sync)
-      → is_granted (leader_revision past.leader) past.sync
+      → is_granted (leader_revision past.lease.leader) past.sync
       (claim_request by.id.number incarnation sequence revision sync)
       ≡ true → IsShown setup past volatile_states (record {
         action = Decide i j;
@@ -173,7 +177,7 @@ pub record ActionsAreShown : Type 0 where
       (by : Member) (incarnation sequence revision : ℕ) (sync : Expected) (set : MemberSet) (standbys : List Name)
       → past.flight i ≡ Some (Requested (publish_request by.id.number incarnation sequence revision sync set))
       → past.asked i ≡ SyncQuery (publish_request by.id.number incarnation sequence revision sync set)
-      → is_granted (leader_revision past.leader) past.sync
+      → is_granted (leader_revision past.lease.leader) past.sync
       (publish_request by.id.number incarnation sequence revision sync set)
       ≡ true → IsShown setup past volatile_states (record {
         action = Decide i j;
@@ -193,7 +197,7 @@ pub record ActionsAreShown : Type 0 where
       (i j : ℕ) (by : Member) (incarnation sequence : ℕ) (info : MemberInfo) (ttl : Ticks)
       (failsafe : Option Expected) (sync : Expected) (standbys : List Name)
       → past.flight i ≡ Some (Requested (create_request by.id.number incarnation sequence sync))
-      → past.asked i ≡ SyncQuery (create_request by.id.number incarnation sequence sync) → past.leader ≡ None
+      → past.asked i ≡ SyncQuery (create_request by.id.number incarnation sequence sync) → past.lease.leader ≡ None
       → is_as_read past.sync (revision_in sync) ≡ true → IsShown setup past volatile_states (record {
         action = Decide i j;
         events = granted_events tick i j by incarnation sequence (txns.Create info ttl failsafe (Some sync)) standbys;
@@ -202,7 +206,7 @@ pub record ActionsAreShown : Type 0 where
   pub renew : (setup : Setup) (past : Past) (volatile_states : ℕ → VolatileState) (tick : Ticks) (i j : ℕ)
       (by : Member) (incarnation sequence revision : ℕ) (info : MemberInfo) (ttl : Ticks) (status : Option Lsn)
       (row : Option HistoryRow) (failsafe : Option MemberSet) (standbys : List Name) → (key : LeaderKey)
-      → past.leader ≡ Some key → past.flight i ≡ None → past.asked i ≡ renew_query by.id.number revision failsafe
+      → past.lease.leader ≡ Some key → past.flight i ≡ None → past.asked i ≡ renew_query by.id.number revision failsafe
       → IsShown setup past volatile_states (record {
         action = Renew by.id.number incarnation sequence j (carries_set failsafe);
         events =
@@ -237,7 +241,7 @@ pub record ActionsAreShown : Type 0 where
       })
   pub refused : (setup : Setup) (past : Past) (volatile_states : ℕ → VolatileState) (tick : Ticks) (i j : ℕ)
       (by : Member) (incarnation sequence : ℕ) (request : TxnKind) (key : Key) (found : Expected) (w : SyncRequest)
-      → past.flight i ≡ Some (Requested w) → is_granted (leader_revision past.leader) past.sync w ≡ false
+      → past.flight i ≡ Some (Requested w) → is_granted (leader_revision past.lease.leader) past.sync w ≡ false
       → past.flight j ≡ None → IsShown setup past volatile_states (record {
         action = Decide i j;
         events = refused_events tick i j by incarnation sequence request key found;
@@ -245,7 +249,7 @@ pub record ActionsAreShown : Type 0 where
       })
   pub shown : (setup : Setup) (past : Past) (volatile_states : ℕ → VolatileState) (tick : Ticks) (i j : ℕ)
       (by : Member) (incarnation sequence : ℕ) → past.flight i ≡ None → IsShown setup past volatile_states (record {
-        action = SendSnapshot (is_keyless past.leader past.failsafe) (is_leaderless past.leader) j;
+        action = SendSnapshot (is_keyless past.lease.leader past.lease.failsafe) (is_leaderless past.lease.leader) j;
         events = read_events tick i j by incarnation sequence;
         volatile_states = volatile_states;
       })

@@ -53,7 +53,7 @@ pub fn carried_sets()
     ensures first { (logs : Logs) (required : List Required) (confirmed : List (List (Option Lsn))) → AreCarriedLive (first_past logs required confirmed) }
     ensures each { (past : Past) (kind : EventKind) → ComparesGiven past kind → AreCarriedLive past → AreCarriedLive (past_after past kind) }
     ensures granted { (setup : Setup) (past : Past) (volatile_states : ℕ → VolatileState) (i m r : ℕ) (key : LeaderKey)
-        → AreCarriedLive past → past.asked i ≡ CarryQuery m r → past.leader ≡ Some key → key.revision ≡ r → key.holder ≡ m
+        → AreCarriedLive past → past.asked i ≡ CarryQuery m r → past.lease.leader ≡ Some key → key.revision ≡ r → key.holder ≡ m
         → MayRenew (state_of setup past volatile_states) true }
 {}
 

@@ -29,7 +29,7 @@ ghost use Rattle.event_book.specs.Logs.{Logs};
 ghost use Rattle.lease_model.specs.Past as lease_past;
 ghost use Rattle.event_book.specs.Kinds.{AllAre};
 ghost use Rattle.lease_model.specs.Showing.{granted_events, refused_events, read_events};
-ghost use Rattle.lease_model.specs.Stores.{IsSpanned, IsSpannedTxn, failsafe_key_of, is_granted as is_grant, leader_key_of};
+ghost use Rattle.lease_model.specs.Stores.{IsSpannedTxn, failsafe_key_of, is_granted as is_grant, leader_key_of};
 ghost use Rattle.lease_book.specs.Flights as bridge_flights;
 ghost use Rattle.lease_book.specs.Groups.{IsOfMembers, IsNumberedAbove, AreNumberedAbove};
 ghost use Rattle.lease_book.specs.Waiting.{AsksOnly, IsLastAsked};
@@ -38,7 +38,7 @@ ghost use Rattle.commit_actions.specs.Flights.{SyncRequest, Requested, SyncGrant
 ghost use Rattle.commit_actions.specs.Past.{Past, Query, Setup, VolatileState, OtherQuery, SyncQuery, claim_request, first_past, is_keyless, is_leaderless, leader_revision, past_after, past_over, publish_request, query_of, state_of};
 ghost use Rattle.commit_book.specs.Deliveries.{ComparesNoSync, IsDelivered, MayBeGranted, granted_actions, refused_action, transition_of};
 ghost use Rattle.commit_book.specs.Example.{claim_flying, led_and_claimed};
-ghost use Rattle.commit_book.specs.Flights.{AreCausal, IsCausal, IsSameBook, IsSameFlight, is_creating};
+ghost use Rattle.commit_book.specs.Flights.{AreCausal, IsSameBook, IsSameFlight, is_creating};
 ghost use Rattle.commit_book.specs.Hearing.{CarriesLease, CarriesWrite, snapshot_in};
 ghost use Rattle.commit_book.specs.Keys.{IsSameKeys};
 ghost use Rattle.commit_book.specs.Waiting.{IsAskedOnce};
@@ -48,8 +48,6 @@ ghost use Rattle.commit_book.specs.Waiting.{IsAskedOnce};
 pub fn same_book()
     ensures first { (logs : Logs) (required : List Required) (confirmed : List (List (Option Lsn))) (first : Settings) (names : List Name) (base : ℕ)
         → IsSameBook (first_past logs required confirmed) (start_of first names base) }
-    ensures each { (past : Past) (facts : Facts) (kind : EventKind)
-        → IsSpanned kind → IsCausal past facts kind → IsSameBook past facts → IsSameBook (past_after past kind) (facts_after facts kind) }
     ensures over { (past : Past) (facts : Facts) (events : List Event) → AreCausal past facts events → IsSameBook past facts → IsSameBook (past_over past events) (facts_over facts events) }
     // So at each moment inside them.
     ensures front { (past : Past) (facts : Facts) (front rest : List Event) → AreCausal past facts (front ++ rest) → AreCausal past facts front }
@@ -73,9 +71,9 @@ pub fn same_book()
 /// The key store's decision on a claim, or on a write of the sync key, is the law's: it grants what the law grants, and nothing else.
 pub fn decisions()
     ensures claim { (past : Past) (facts : Facts) (m incarnation sequence revision : ℕ) (sync : Expected) → IsSameKeys past facts
-        → is_grant (decision_on facts.keys facts.clock (Claim revision sync)) ≡ is_granted (leader_revision past.leader) past.sync (claim_request m incarnation sequence revision sync) }
+        → is_grant (decision_on facts.keys facts.clock (Claim revision sync)) ≡ is_granted (leader_revision past.lease.leader) past.sync (claim_request m incarnation sequence revision sync) }
     ensures publish { (past : Past) (facts : Facts) (m incarnation sequence revision : ℕ) (sync : Expected) (standbys : MemberSet) → IsSameKeys past facts
-        → is_grant (decision_on facts.keys facts.clock (SetSync revision sync standbys)) ≡ is_granted (leader_revision past.leader) past.sync (publish_request m incarnation sequence revision sync standbys) }
+        → is_grant (decision_on facts.keys facts.clock (SetSync revision sync standbys)) ≡ is_granted (leader_revision past.lease.leader) past.sync (publish_request m incarnation sequence revision sync standbys) }
 {}
 
 /// A delivery to the key store of a message that the book has in flight is an action, which is allowed and shown by its events, or such an
@@ -105,7 +103,7 @@ pub fn deliveries()
         → in_flight facts.flight i ≡ Some carried
         → carried.message ≡ record { from = ToMember by; to = Store; incarnation = incarnation; sequence = sequence; body = bodies.Read }
         → facts.sent < j
-        → let snapshot : Action = SendSnapshot (is_keyless past.leader past.failsafe) (is_leaderless past.leader) j in
+        → let snapshot : Action = SendSnapshot (is_keyless past.lease.leader past.lease.failsafe) (is_leaderless past.lease.leader) j in
         let events = read_events tick i j by incarnation sequence in
         IsAllowed (state_of setup past volatile_states) snapshot
         → IsDelivered setup past facts volatile_states events (transition_of volatile_states snapshot events ∷ []) }

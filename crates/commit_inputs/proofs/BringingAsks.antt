@@ -301,12 +301,12 @@ module _ (head : HeadText) (book : List Event) (cluster : Cluster) (good : Commi
     once = once-none Covered asked-aside;
     flight = λ i. ap (λ (p : Past). p.flight i) past-both ∙ flight-now i;
     live = ap (λ (p : Past). p.holder_was_live) past-both
-        ∙ live-body (past_over P Upto).holder_was_live (past_over P Upto).leader a.member body
-        ∙ ap (λ (was : Bool). was || (carries_in body && is_holder (past_over P Upto).leader M))
+        ∙ live-body (past_over P Upto).holder_was_live (past_over P Upto).lease.leader a.member body
+        ∙ ap (λ (was : Bool). was || (carries_in body && is_holder (past_over P Upto).lease.leader M))
         (front-live head book cluster good a front all of_table)
         ∙ ap (λ (leader : Option LeaderKey). P.holder_was_live || (carries_in body && is_holder leader M))
         (front-leads head book cluster good a front all of_table)
-        ∙ ap (λ (carries : Bool). P.holder_was_live || (carries && is_holder P.leader M))
+        ∙ ap (λ (carries : Bool). P.holder_was_live || (carries && is_holder P.lease.leader M))
         (sym (carries-last front sequence body still) ∙ ap (has_one is_carrying) whole);
     needs = ap (λ (p : Past). confirmers_of (slice_get p.required M)) past-both
         ∙ front-needs head book cluster good a front all of_table requires-none;

@@ -91,7 +91,7 @@ idle-itself head book cluster happening good idle same kept =
     (record { action = Note; events = event_of cluster kind; volatile_states = v }))
     states
     (idle-shown (setup_of head) (past_of head book) (volatile_of cluster) (event_of cluster kind) (idle, tt))))
-    kept (tt, (tt, tt)) (tt, tt) (tt, tt)
+    kept ((tt, (tt, tt)), (tt, tt)) (tt, tt) (tt, tt)
     (subst (λ (known : List (Option AgentFacts)).
     AreAgentsSynchronous (member_count head) (lease_past.past_of book).asked (past_of head book).asked known)
     (sym same) good.fits.agents)
@@ -113,7 +113,7 @@ idle-arrival head book cluster number good same kept =
       events = event_of cluster kind;
       volatile_states = v;
     })) states refl))
-    kept (tt, (tt, tt)) (tt, tt) (tt, tt)
+    kept ((tt, (tt, tt)), (tt, tt)) (tt, tt) (tt, tt)
     (subst (λ (known : List (Option AgentFacts)).
     AreAgentsSynchronous (member_count head) (lease_past.past_of book).asked (past_of head book).asked known)
     (sym same) good.fits.agents)

@@ -251,15 +251,15 @@ module _ (head : HeadText) (book : List Event) (cluster : Cluster) (good : Commi
   -- the holder of the leader key was live, behind what the input asks:
   -- that its renewal carry a set for the failsafe key
   abbrev pub WasLive : Bool
-  WasLive = P.holder_was_live || (has_one is_carrying After.outputs && is_holder P.leader M)
+  WasLive = P.holder_was_live || (has_one is_carrying After.outputs && is_holder P.lease.leader M)
 
   pub still-live : has_one is_carrying After.outputs ≡ false → P.holder_was_live ≡ WasLive
   still-live none =
-      sym (ap (λ (carries : Bool). P.holder_was_live || (carries && is_holder P.leader M)) none
+      sym (ap (λ (carries : Bool). P.holder_was_live || (carries && is_holder P.lease.leader M)) none
       ∙ or-false P.holder_was_live)
 
   holder-asks : (carries : Bool) (leader : Option LeaderKey) → has_one is_carrying After.outputs ≡ carries
-      → P.leader ≡ leader
+      → P.lease.leader ≡ leader
       → ((P.holder_was_live || (carries && is_holder leader M)) ≡ S.holder_was_live) ⊎ HolderAsks S M After
   holder-asks false leader carries is = inl (or-false P.holder_was_live)
   holder-asks true None carries is = inl (or-false P.holder_was_live)
@@ -276,7 +276,7 @@ module _ (head : HeadText) (book : List Event) (cluster : Cluster) (good : Commi
       })
 
   asks-or-not : (WasLive ≡ S.holder_was_live) ⊎ HolderAsks S M After
-  asks-or-not = holder-asks (has_one is_carrying After.outputs) P.leader refl refl
+  asks-or-not = holder-asks (has_one is_carrying After.outputs) P.lease.leader refl refl
 
   -- the law's input that stands for it
   abbrev pub Theirs : Option Sending → AgentInput
@@ -412,7 +412,7 @@ module _ (head : HeadText) (book : List Event) (cluster : Cluster) (good : Commi
     pub front-live : (past_over P Page).holder_was_live ≡ P.holder_was_live
     front-live = fronts.live ∙ opened.live
 
-    pub front-leads : (past_over P Page).leader ≡ P.leader
+    pub front-leads : (past_over P Page).lease.leader ≡ P.lease.leader
     front-leads = fronts.leader ∙ opened.leader
 
     pub front-told : told_of (past_over P Page) ≡ told_of P

@@ -21,7 +21,7 @@ use Rattle.commit_outputs.proofs.Covering.{NoneAbove, told_of}
 pub record Opens (m : ℕ) (heard : Option ℕ) (past : Past) (cluster : Cluster) (kind : EventKind) : Type 0 where
   pub flight : (i : ℕ) → (past_after past kind).flight i ≡ forget heard past.flight i
   pub live : (past_after past kind).holder_was_live ≡ past.holder_was_live
-  pub leader : (past_after past kind).leader ≡ past.leader
+  pub leader : (past_after past kind).lease.leader ≡ past.lease.leader
   pub told : told_of (past_after past kind) ≡ told_of past
   pub servers : (cluster_after cluster kind).facts.servers ≡ cluster.facts.servers
   pub commits : (cluster_after cluster kind).facts.commits ≡ cluster.facts.commits

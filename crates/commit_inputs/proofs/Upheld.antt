@@ -48,7 +48,8 @@ use Rattle.lease_book.specs.Groups.{IsOfMembers}
 use Rattle.commit_actions.specs.Keys.{strict_quorum}
 use Rattle.commit_actions.specs.Actions.{IsNumbered}
 use Rattle.commit_book.specs.Books.{AllLeaveCommits, KeepsNow}
-use Rattle.commit_actions.specs.Past.{Past, past_after, past_over, runs_after}
+use Rattle.event_book.specs.Premises.{runs_after}
+use Rattle.commit_actions.specs.Past.{Past, past_after, past_over}
 use Rattle.commit_actions.specs.States.{Agent, State}
 use Rattle.commit_book.proofs.Fronts.{aside-front, keeps-aside}
 use Rattle.commit_book.specs.Flights.{AreCausal}
@@ -192,14 +193,14 @@ mine-runs member incarnation heard Q runs (kinds.Agent _) is = absurd is
 mine-runs member incarnation heard Q runs _ is = refl
 
 runs-stay : (member : Member) (incarnation heard : ℕ) (Q : Output → Type 0) (past : Past) (events : List Event)
-    → AllAre (IsOfInput member incarnation heard Q) events → (past_over past events).runs ≡ past.runs
+    → AllAre (IsOfInput member incarnation heard Q) events → (past_over past events).lease.runs ≡ past.lease.runs
 runs-stay member incarnation heard Q past [] all = refl
 runs-stay member incarnation heard Q past (event ∷ events) all =
     runs-stay member incarnation heard Q (past_after past event.kind) events all.1
-    ∙ mine-runs member incarnation heard Q past.runs event.kind all.0
+    ∙ mine-runs member incarnation heard Q past.lease.runs event.kind all.0
 
 opening-runs : (heard : Option ℕ) (past : Past) (kind : EventKind) → IsOpening heard kind
-    → (past_after past kind).runs ≡ past.runs
+    → (past_after past kind).lease.runs ≡ past.lease.runs
 opening-runs heard past (kinds.Agent (agents.Woken by)) is = refl
 opening-runs heard past (kinds.Agent (agents.Operated by action)) is = refl
 opening-runs heard past (kinds.Message (Delivered number)) is = refl
@@ -298,7 +299,7 @@ module _ (head : HeadText) (book : List Event) (cluster : Cluster) (good : Commi
       (found-of cluster a.member a.machine a.machine_is) a.here a.heard a.number a.message a.opening
       a.opening_is a.numbered a.low a.well a.acts
 
-  runs-behind : (past_over P All_).runs M ≡ a.agent.knows.incarnation
+  runs-behind : (past_over P All_).lease.runs M ≡ a.agent.knows.incarnation
   runs-behind =
       let knows : KnowsItself (declared_of head).failsafe M (slice_get cluster.facts.processes M) a.agent =
       good.lease.matched.agents M a.agent a.here in
@@ -317,7 +318,7 @@ module _ (head : HeadText) (book : List Event) (cluster : Cluster) (good : Commi
   ask-numbered : (sequence : ℕ) → sequence ≤ (After head book cluster good a).knows.sequence
       → IsNumbered (Behind.members M) a.agent.knows.incarnation sequence
   ask-numbered sequence counted = record {
-    run_old = at-most a.agent.knows.incarnation ((past_over P All_).runs M) (sym runs-behind);
+    run_old = at-most a.agent.knows.incarnation ((past_over P All_).lease.runs M) (sym runs-behind);
     sequence_old =
         λ agent is in_run. subst (λ (x : Agent). sequence ≤ x.last) (some-is _ agent (sym agent-behind ∙ is)) counted;
   }

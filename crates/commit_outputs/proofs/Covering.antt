@@ -70,7 +70,7 @@ pub record Told : Type 0 where
 abbrev pub told_of : Past → Told
 told_of past = record {
   logs = past.logs;
-  writes = past.writes;
+  writes = past.lease.writes;
   required = past.required;
   confirmed = past.confirmed;
   acknowledged = past.acknowledged;
@@ -101,7 +101,7 @@ pub record Covers (m : ℕ) (past : Past) (cluster : Cluster) (events : List Eve
   pub ordered : AllInOrder past cluster events
   pub flight : (i : ℕ) → (past_over past events).flight i ≡ past.flight i
   pub live : (past_over past events).holder_was_live ≡ past.holder_was_live
-  pub leader : (past_over past events).leader ≡ past.leader
+  pub leader : (past_over past events).lease.leader ≡ past.lease.leader
   pub told : told_of (past_over past events) ≡ told_of past
   pub held : held_by (cluster_over cluster events) ≡ held_by cluster
   pub later : cluster.facts.sent ≤ (cluster_over cluster events).facts.sent
@@ -143,7 +143,7 @@ covers-then m past cluster xs ys first second =
       ordered = order-then past cluster xs ys first.ordered second.ordered;
       flight = λ i. ap (λ (q : Past). q.flight i) p ∙ second.flight i ∙ first.flight i;
       live = ap (λ (q : Past). q.holder_was_live) p ∙ second.live ∙ first.live;
-      leader = ap (λ (q : Past). q.leader) p ∙ second.leader ∙ first.leader;
+      leader = ap (λ (q : Past). q.lease.leader) p ∙ second.leader ∙ first.leader;
       told = ap told_of p ∙ second.told ∙ first.told;
       held = ap held_by c ∙ second.held ∙ first.held;
       later = at-most-then cluster.facts.sent (cluster_over cluster xs).facts.sent
@@ -210,7 +210,7 @@ live-body was leader by _ quiet = refl
 -- a message of this member that says nothing to commits
 pub record SaysNothing (past : Past) (message : Message) : Type 0 where
   pub flying : flying_of past message.from message.to message.incarnation message.sequence message.body ≡ None
-  pub live : was_live_by_message past.holder_was_live past.leader message.from message.body ≡ past.holder_was_live
+  pub live : was_live_by_message past.holder_was_live past.lease.leader message.from message.body ≡ past.holder_was_live
   pub ordered : (cluster : Cluster)
       → AsksInOrder past cluster message.from message.incarnation message.sequence message.body
 
@@ -229,7 +229,7 @@ pub quiet-says : (past : Past) (member : Member) (incarnation sequence : ℕ) (b
     → SaysNothing past (agent_message member ends.Store incarnation sequence body)
 quiet-says past member incarnation sequence body quiet = record {
   flying = quiet-body member.id.number incarnation sequence body quiet;
-  live = live-body past.holder_was_live past.leader member body quiet;
+  live = live-body past.holder_was_live past.lease.leader member body quiet;
   ordered = λ cluster. quiet-ordered past cluster member incarnation sequence body quiet;
 }
 

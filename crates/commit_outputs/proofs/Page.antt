@@ -59,7 +59,7 @@ none-above past cluster same i above = by (in_flight cluster.facts.flight i) ref
 
     by : (found : Option _) → in_flight cluster.facts.flight i ≡ found → past.flight i ≡ None
     by None is = same.same i ∙ flown-none past.asked (in_flight cluster.facts.flight i) is
-    by (Some carried) is = absurd (too-far cluster.facts.sent i above (same.flown i carried is))
+    by (Some carried) is = absurd (too-far cluster.facts.sent i above (same.lease.flown i carried is))
 
 -- ---- whom commits wait for, whether the server begins, and whether its member passes the sync key, by the outputs
 abbrev pub RequiresNone : Output → Type 0

@@ -122,7 +122,7 @@ upheld-kill head book cluster member small good =
     upheld-moves head book cluster (event_of cluster kind) good
     (moves-kill (setup_of head) (past_of head book) cluster member
     (subst (λ (n : ℕ). member.id.number < n) (sym good.lease.matched.agents_sized) small) good.fits.servers)
-    (kept-kill head book cluster member small good.lease) (tt, (tt, tt)) (tt, tt) (tt, tt)
+    (kept-kill head book cluster member small good.lease) ((tt, (tt, tt)), (tt, tt)) (tt, tt) (tt, tt)
     (agents-leave (member_count head) (lease_past.past_of book) (past_of head book) cluster
     (lease_past.past_after (lease_past.past_of book) kind) (past_after (past_of head book) kind)
     (cluster_after cluster kind)

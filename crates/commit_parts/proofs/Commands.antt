@@ -70,7 +70,7 @@ goes-loss setup cluster number named past fits =
       };
       left = record {
         leave = record { agents = λ m agent is. is; asked = λ i question is. (is, refl) };
-        causal = (tt, (tt, tt));
+        causal = ((tt, (tt, tt)), (tt, tt));
         asks = λ s. (tt, tt);
         ordered = (tt, tt);
       };

@@ -10,7 +10,7 @@ use Rattle.agent_model.specs.Agents.{AgentFacts}
 use Rattle.agent_commit_law.specs.Committing.{committer_seen}
 use Rattle.script_model.specs.Script.{HeadText}
 use Rattle.cluster_model.specs.State.{Cluster}
-use Rattle.lease_model.specs.Leases.{FailsafeKey, LeaderKey, Question}
+use Rattle.lease_model.specs.Leases.{LeaderKey, Question}
 use Rattle.lease_model.specs.Past as lease_past
 use Rattle.lease_model.specs.States as lease
 use Rattle.lease_model.proofs.Tools.{both, none-some, some-is}
@@ -18,7 +18,7 @@ use Rattle.lease_book.proofs.Hearing.{heard-asked}
 use Rattle.commit_actions.specs.Actions.{IsAllowed, IsNumbered, SendSnapshot}
 use Rattle.commit_actions.specs.Past.{is_keyless, is_leaderless, leader_revision}
 use Rattle.commit_actions.specs.States.{Agent, is_ready}
-use Rattle.commit_book.proofs.FromLease.{grant-absent, grant-free, same-failsafe, same-leader}
+use Rattle.commit_book.proofs.FromLease.{grant-absent, grant-free, same-lease}
 use Rattle.lease_parts.specs.Declaring.{declared_of}
 use Rattle.run_promise.specs.Members.{member_count}
 use Rattle.lease_parts.specs.Volatile as run_volatile
@@ -86,11 +86,11 @@ module _ (head : HeadText) (book : List Event) (cluster : Cluster) (good : Commi
   abbrev Lease : lease.State
   Lease = lease_past.state_of (declared_of head) (lease_past.past_of book) (run_volatile.volatile_of cluster)
 
-  pub leaders : (lease_past.past_of book).leader ≡ (past_of head book).leader
-  leaders = same-leader lease_past.first_past (past_of head []) book refl refl refl
+  same : lease_past.past_of book ≡ (past_of head book).lease
+  same = sym (same-lease (past_of head []) book)
 
-  failsafes : (lease_past.past_of book).failsafe ≡ (past_of head book).failsafe
-  failsafes = same-failsafe lease_past.first_past (past_of head []) book refl refl
+  pub leaders : (lease_past.past_of book).leader ≡ (past_of head book).lease.leader
+  leaders = ap (λ (p : lease_past.Past). p.leader) same
 
   pub ready-by : (found : Option (Option AgentFacts))
       → is_ready (agent_now found) ≡ lease.is_ready (run_volatile.agent_now found)
@@ -104,16 +104,15 @@ module _ (head : HeadText) (book : List Event) (cluster : Cluster) (good : Commi
 
   pub snapshot-allowed : (number : ℕ)
       → IsAllowed (state_of_run head book cluster)
-      (SendSnapshot (is_keyless (past_of head book).leader (past_of head book).failsafe)
-      (is_leaderless (past_of head book).leader) number)
+      (SendSnapshot (is_keyless (past_of head book).lease.leader (past_of head book).lease.failsafe)
+      (is_leaderless (past_of head book).lease.leader) number)
   snapshot-allowed number = (
     (λ keyless n acts.
         grant-free Lease (state_of_run head book cluster).members good.lease.carried.sound
-        (ap (λ (l : Option LeaderKey). is_keyless l (lease_past.past_of book).failsafe) leaders
-        ∙ ap (λ (f : Option FailsafeKey). is_keyless (past_of head book).leader f) failsafes ∙ keyless)
+        (ap (λ (p : lease_past.Past). is_keyless p.leader p.failsafe) same ∙ keyless)
         (λ n. refl) (λ n. ready-by (slice_get cluster.agents n)) n acts),
     (λ leaderless.
-        let none = free-leader (past_of head book).leader leaderless in (
+        let none = free-leader (past_of head book).lease.leader leaderless in (
           ap leader_revision none,
           λ n ready. grant-absent Lease (state_of_run head book cluster).members good.lease.carried.sound
               (leaders ∙ none) (λ n. ready-by (slice_get cluster.agents n)) n ready,

@@ -43,7 +43,9 @@ causal-then : (past : Past) (cluster : Cluster) (xs ys : List Event) → AreCaus
     → AreCausal (past_over past xs) (cluster_over cluster xs).facts ys → AreCausal past cluster.facts (xs ++ ys)
 causal-then past cluster [] ys first second = second
 causal-then past cluster (x ∷ xs) ys first second =
-    (first.0, (first.1.0, causal-then (past_after past x.kind) (cluster_after cluster x.kind) xs ys first.1.1 second))
+    let rest =
+    causal-then (past_after past x.kind) (cluster_after cluster x.kind) xs ys (first.0.1.1, first.1.1) second in
+    ((first.0.0, (first.0.1.0, rest.0)), (first.1.0, rest.1))
 
 asks-then : (s : State) (count quorum : ℕ) (xs ys : List Event) → AskSynchronously s count quorum xs
     → AskSynchronously s count quorum ys → AskSynchronously s count quorum (xs ++ ys)
@@ -56,7 +58,7 @@ module _ (setup : Setup) where
     moves = moves-none setup past cluster fits;
     left = record {
       leave = record { agents = λ m agent is. is; asked = λ i question is. (is, refl) };
-      causal = tt;
+      causal = (tt, tt);
       asks = λ s. tt;
       ordered = tt;
     };

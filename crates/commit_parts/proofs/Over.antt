@@ -99,7 +99,7 @@ strict-granted count quorum by revision sync _ on old = old
 strict-by : (s : State) (count quorum : ℕ) (past : Past) (kind : EventKind) → AsksSynchronously s count quorum kind
     → NamesMembers count quorum past.sync → NamesMembers count quorum (past_after past kind).sync
 strict-by s count quorum past (kinds.Store (stores.Granted number by txn standbys)) on old =
-    strict-granted count quorum by.id.number (past.revision + 1) past.sync txn on old
+    strict-granted count quorum by.id.number (past.lease.revision + 1) past.sync txn on old
 strict-by s count quorum past _ on old = old
 
 -- so each front of what is asked so leaves it
@@ -142,17 +142,17 @@ pub store-over : (s : State) (count quorum : ℕ) (past : Past) (cluster : Clust
     → StoreFits s count quorum (past_over past events) (cluster_over cluster events)
 store-over s count quorum past cluster [] causal mode asks fits = fits
 store-over s count quorum past cluster (event ∷ events) causal mode asks fits =
-    store-over s count quorum (past_after past event.kind)
-    (cluster_after cluster event.kind) events causal.1.1 mode.1 asks.1
+    store-over s count quorum (past_after past event.kind) (cluster_after cluster event.kind) events
+    (causal.0.1.1, causal.1.1) mode.1 asks.1
     (record {
-      store = book-by past cluster.facts event.kind causal.0 causal.1.0 fits.store;
-      mode = synchronous-by cluster.facts event.kind fits.store.flight.order mode.0 fits.mode;
+      store = book-by past cluster.facts event.kind causal.0.0 causal.0.1.0 causal.1.0 fits.store;
+      mode = synchronous-by cluster.facts event.kind fits.store.flight.lease.order mode.0 fits.mode;
       strict = strict-by s count quorum past event.kind asks.0 fits.strict;
-      told = all-after (TellsNames count quorum) cluster.facts fits.store.flight.order fits.told event.kind
+      told = all-after (TellsNames count quorum) cluster.facts fits.store.flight.lease.order fits.told event.kind
           (told-sent count quorum past cluster.facts event.kind fits.store.store fits.strict);
       requests = all-after (λ (carried : InFlightFacts). IsSynchronousBody count quorum carried.message.body)
-          cluster.facts fits.store.flight.order fits.requests event.kind
+          cluster.facts fits.store.flight.lease.order fits.requests event.kind
           (requests-sent s count quorum cluster.facts event.kind asks.0);
-      asks = all-after (AsksNumbered s) cluster.facts fits.store.flight.order fits.asks event.kind
+      asks = all-after (AsksNumbered s) cluster.facts fits.store.flight.lease.order fits.asks event.kind
           (asks-sent s count quorum cluster.facts event.kind asks.0);
     })

@@ -74,7 +74,7 @@ pub leave-follow : (count quorum : ℕ) (named : lease_past.Past) (past : Past) 
     → AllAre IsStill events → MayFollow cluster.facts events → LeaveAgents count quorum named past cluster events
 leave-follow count quorum named past cluster [] still may = record {
   leave = record { agents = λ m agent is. is; asked = λ i question is. (is, refl) };
-  causal = tt;
+  causal = (tt, tt);
   asks = λ s. tt;
   ordered = tt;
 }
@@ -84,7 +84,7 @@ leave-follow count quorum named past cluster (event ∷ events) still may =
     (cluster_after cluster event.kind) events still.1 may.1 in
     record {
       leave = leave-then _ _ _ _ _ _ _ _ _ first.leave rest.leave;
-      causal = (first.causal.0, (first.causal.1.0, rest.causal));
+      causal = ((first.causal.0.0, (first.causal.0.1.0, rest.causal.0)), (first.causal.1.0, rest.causal.1));
       asks = λ s. ((first.asks s count quorum).0, rest.asks s);
       ordered = (first.ordered.0, rest.ordered);
     }

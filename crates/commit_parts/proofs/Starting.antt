@@ -23,12 +23,11 @@ use Rattle.cluster_model.specs.Next.{agent_start_events, agent_start_events_of}
 use Rattle.cluster_model.specs.Parts.{event_of, events_of, for_some}
 use Rattle.cluster_model.specs.State.{Cluster}
 use Rattle.lease_model.specs.Past as lease_past
-use Rattle.event_book.specs.Premises as lease_premises
 use Rattle.event_book.specs.Kinds.{AllAre}
 use Rattle.lease_model.proofs.Tools.{none-some, some-is}
 use Rattle.commit_actions.specs.Keys.{strict_quorum}
 use Rattle.commit_actions.specs.Actions.{Start, fresh_agent}
-use Rattle.commit_actions.specs.Past.{Past, Setup, VolatileState, past_after, past_over, runs_after}
+use Rattle.commit_actions.specs.Past.{Past, Setup, VolatileState, past_after, past_over}
 use Rattle.commit_actions.specs.States.{Agent}
 use Rattle.commit_book.proofs.Showing.{start-shown}
 use Rattle.commit_servers.specs.Acting.{Fits}
@@ -43,6 +42,7 @@ use Rattle.cluster_model.proofs.Lists.{HoldsIf}
 use Rattle.cluster_model.proofs.Places.{get-changed, get-elsewhere, get-here, there}
 use Rattle.lease_parts.proofs.Starting.{kept-restart}
 use Rattle.run_promise.proofs.Upholding.{upheld-none}
+use Rattle.commit_book.proofs.FromLease.{same-lease}
 use Rattle.commit_parts.specs.Agents.{AreAgentsSynchronous, IsAgentSynchronous}
 use Rattle.commit_parts.specs.Bridged.{CommitsBridged, kept_commits}
 use Rattle.commit_parts.specs.Reading.{agent_now, past_of, setup_of, volatile_of}
@@ -53,24 +53,10 @@ use Rattle.commit_parts.proofs.Still.{IsStill}
 use Rattle.commit_parts.proofs.Servers.{leave-follow, moves-follow, upheld-still}
 use Rattle.commit_parts.proofs.Transitions.{composable, state_behind}
 
--- both laws read the same runs of agents
-runs-by : (known other : ℕ → ℕ) (kind : EventKind) → known ≡ other
-    → runs_after known kind ≡ lease_premises.runs_after other kind
-runs-by known other (kinds.Agent (agents.Started agent incarnation)) same =
-    ap (λ (runs : ℕ → ℕ). put_at runs agent.id.number incarnation) same
-runs-by known other _ same = same
-
-runs-over : (past : Past) (named : lease_past.Past) (book : List Event) → past.runs ≡ named.runs
-    → (past_over past book).runs ≡ (lease_past.past_over named book).runs
-runs-over past named [] same = same
-runs-over past named (event ∷ book) same = runs-over (past_after past event.kind)
-    (lease_past.past_after named event.kind) book (runs-by past.runs named.runs event.kind same)
-
 pub runs-now : (head : HeadText) (book : List Event) (cluster : Cluster) → CommitsBridged head book cluster
-    → (m : ℕ) → (past_of head book).runs m ≡ run_in cluster.facts.processes m
+    → (m : ℕ) → (past_of head book).lease.runs m ≡ run_in cluster.facts.processes m
 runs-now head book cluster good m =
-    ap (λ (runs : ℕ → ℕ). runs m) (runs-over (past_of head []) lease_past.first_past book refl)
-    ∙ good.lease.matched.machines.runs m
+    ap (λ (p : lease_past.Past). p.runs m) (same-lease (past_of head []) book) ∙ good.lease.matched.machines.runs m
 
 -- ---- what is seen of an agent that starts
 starts-at : (known : List (Option AgentFacts)) (k : ℕ) (started : AgentFacts) (agent : Agent)
@@ -98,18 +84,18 @@ module _ (cluster : Cluster) (member : Member) (incarnation : ℕ) where
   Started =
       starting_agent (who_of cluster.scope cluster.options cluster.facts.members member) cluster.facts.clock incarnation
 
-  pub moves-start : (setup : Setup) (past : Past) → incarnation ≡ past.runs member.id.number + 1
+  pub moves-start : (setup : Setup) (past : Past) → incarnation ≡ past.lease.runs member.id.number + 1
       → member.id.number < length cluster.agents → Fits past cluster.facts (volatile_of cluster)
       → Moves setup past cluster (event_of cluster Kind)
   moves-start setup past next small fits =
       let later : Cluster = cluster_after cluster Kind in
       let k : ℕ = member.id.number in
       let states : (ℕ → VolatileState) = put_at (volatile_of cluster) k
-      (record (volatile_of cluster k) { agent = Some (fresh_agent (past.runs k + 1)) }) in
+      (record (volatile_of cluster k) { agent = Some (fresh_agent (past.lease.runs k + 1)) }) in
       let same : states ≡ volatile_of later =
-      volatile-put (volatile_of cluster) (volatile_of later) k (Some (fresh_agent (past.runs k + 1))) (λ m. refl)
+      volatile-put (volatile_of cluster) (volatile_of later) k (Some (fresh_agent (past.lease.runs k + 1))) (λ m. refl)
       (ap agent_now (get-here cluster.agents k _) ∙ starts-at cluster.agents k Started
-      (fresh_agent (past.runs k + 1)) small (ap (λ (r : ℕ). Some (fresh_agent r)) next))
+      (fresh_agent (past.lease.runs k + 1)) small (ap (λ (r : ℕ). Some (fresh_agent r)) next))
       (λ m other. ap agent_now (get-elsewhere cluster.agents k m _ other)) in
       record {
         transitions = record { action = Start k; events = event_of cluster Kind; volatile_states = states } ∷ [];
@@ -124,7 +110,8 @@ module _ (cluster : Cluster) (member : Member) (incarnation : ℕ) where
         last = same;
         fits = subst (λ (v : ℕ → VolatileState). Fits (past_after past Kind) later.facts v) same
             (fits-agents (past_after past Kind) later.facts (volatile_of cluster) k
-            (Some (fresh_agent (past.runs k + 1))) (fits-aside past cluster.facts (volatile_of cluster) Kind tt fits));
+            (Some (fresh_agent (past.lease.runs k + 1)))
+            (fits-aside past cluster.facts (volatile_of cluster) Kind tt fits));
       }
 
   -- it waits for nothing
@@ -187,7 +174,7 @@ module _ (head : HeadText) (book : List Event) (cluster : Cluster) (member : Mem
       (next ∙ ap (λ (r : ℕ). r + 1) (sym (runs-now head book cluster good member.id.number)))
       (subst (λ (n : ℕ). member.id.number < n) (sym good.lease.matched.agents_sized) small) good.fits.servers)
       (λ later. moves-follow (setup_of head) past started rest later parts.0 parts.1))
-      kept (tt, (tt, left.causal))
+      kept ((tt, (tt, left.causal.0)), (tt, left.causal.1))
       (tt, left.asks (state_behind head book cluster (event_of cluster kind ++ rest))) (tt, left.ordered)
       (agents-leave (member_count head) named past started (lease_past.past_over named rest)
       (past_over past rest) (cluster_over started rest) left.leave

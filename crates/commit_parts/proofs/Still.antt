@@ -62,7 +62,7 @@ leaves-still named past cluster _ still may =
     record {
       agents = refl;
       leave = record { agents = λ m agent is. is; asked = λ i question is. (is, refl) };
-      causal = (tt, (tt, tt));
+      causal = ((tt, (tt, tt)), (tt, tt));
       asks = λ s count quorum. (tt, tt);
       ordered = (tt, tt);
     }

@@ -128,7 +128,8 @@ completed-still cluster member (Some s) =
 
 module _ (setup : Setup) where
   tick-allowed : (past : Past) (states : ℕ → VolatileState) (tick : Ticks)
-      → (leader_kept (past.clock + 1) past.leader ≡ past.leader) ⊎ (leader_kept (past.clock + 1) past.leader ≡ None)
+      → (leader_kept (past.lease.clock + 1) past.lease.leader ≡ past.lease.leader)
+      ⊎ (leader_kept (past.lease.clock + 1) past.lease.leader ≡ None)
       → (transition : Transition) × (transition.events ≡ event_at tick kinds.Tick)
       × (transition.volatile_states ≡ states) × AreAllowed setup past states (transition ∷ [])
   tick-allowed past states tick (inl stays) = (
@@ -149,7 +150,8 @@ module _ (setup : Setup) where
   goes-tick cluster named past fits =
       let later : Cluster = cluster_after cluster kinds.Tick in
       let tick : Ticks = record { 0 = later.facts.clock } in
-      let told = tick-allowed past (volatile_of cluster) tick (stays-or-expires (past.clock + 1) past.leader) in
+      let told =
+      tick-allowed past (volatile_of cluster) tick (stays-or-expires (past.lease.clock + 1) past.lease.leader) in
       let behind : Fits (past_after past kinds.Tick) later.facts (volatile_of cluster) =
       fits-aside past cluster.facts (volatile_of cluster) kinds.Tick tt fits in
       let same : volatile_of cluster ≡ volatile_of later =
@@ -165,7 +167,7 @@ module _ (setup : Setup) where
         };
         left = record {
           leave = record { agents = λ m agent is. is; asked = λ i question is. (is, refl) };
-          causal = (tt, (tt, tt));
+          causal = ((tt, (tt, tt)), (tt, tt));
           asks = λ s. (tt, tt);
           ordered = (tt, tt);
         };
@@ -212,7 +214,7 @@ module _ (setup : Setup) where
       moves = moves-reset past fits;
       left = record {
         leave = record { agents = (gone-leave cluster member named past).agents; asked = λ i question is. (is, refl) };
-        causal = (tt, (tt, tt));
+        causal = ((tt, (tt, tt)), (tt, tt));
         asks = λ s. (tt, tt);
         ordered = (tt, tt);
       };

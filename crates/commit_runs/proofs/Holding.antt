@@ -17,7 +17,7 @@ pub book-logs : (head : HeadText) (book : List Event) → (past_of head book).lo
 book-logs head book = past-logs (past_of head []) book
 
 pub book-writes : (head : HeadText) (book : List Event) (n : ℕ)
-    → (past_of head book).writes n ≡ writes_over (λ m. false) book n
+    → (past_of head book).lease.writes n ≡ writes_over (λ m. false) book n
 book-writes head book n = ap (λ (w : ℕ → Bool). w n) (past-writes (past_of head []) book)
 
 pub book-acknowledged : (head : HeadText) (book : List Event) → (past_of head book).acknowledged ≡ acknowledged_in book

@@ -199,7 +199,7 @@ lacking-by test has e f = ap (λ (t : Bool). t && not has) e ∙ ap not f
 -- a book leaves the logs and the writers of these servers
 record Agrees (head : HeadText) (known : List ServerFacts) (book : List Event) : Type 0 where
   logs : (past_of head book).logs ≡ logs_in known
-  writing : (n : ℕ) → (past_of head book).writes n ≡ writes_in known n
+  writing : (n : ℕ) → (past_of head book).lease.writes n ≡ writes_in known n
 
 module _ (head : HeadText) (known : List ServerFacts) (members : List Member) (member : Member)
     (finds : (n : ℕ) → n < length known → (m : Member) × (slice_get members n ≡ Some m) × (m.id.number ≡ n)) where
@@ -233,7 +233,7 @@ module _ (head : HeadText) (known : List ServerFacts) (members : List Member) (m
       let more = past-more head book (event_now cluster (acknowledgement member commit) ∷ []) in
       record {
         logs = ap (λ (p : Past). p.logs) more ∙ agrees.logs;
-        writing = λ n. ap (λ (p : Past). p.writes n) more ∙ agrees.writing n;
+        writing = λ n. ap (λ (p : Past). p.lease.writes n) more ∙ agrees.writing n;
       }
 
   acknowledged-by : (book : List Event) (cluster : Cluster) (commit : ℕ) (commits : List ℕ) → Agrees head known book
@@ -322,20 +322,20 @@ IsRepair _ = ⊥
 
 -- another log at a place where nobody writes
 hold-changed : (past : Past) (k : ℕ) (change : Option (List Entry) → Option (List Entry))
-    → past.writes k ≡ false → KeepsNow past → KeepsNow (record past { logs = with_changed past.logs k change })
+    → past.lease.writes k ≡ false → KeepsNow past → KeepsNow (record past { logs = with_changed past.logs k change })
 hold-changed past k change quiet hold server writing commit told = elim (cases_eq server k) [
-  | inl same ↦ absurd (both (sym quiet ∙ ap past.writes (sym same) ∙ writing))
+  | inl same ↦ absurd (both (sym quiet ∙ ap past.lease.writes (sym same) ∙ writing))
   | inr other ↦ subst (λ (o : Option (Option (List Entry))). has_serial (entries_found o) commit ≡ true)
       (sym (changed-there past.logs k change server other)) (hold server writing commit told)
 ]
 
-hold-copied : (past : Past) (k : ℕ) (found : Option (Option (List Entry))) → past.writes k ≡ false
+hold-copied : (past : Past) (k : ℕ) (found : Option (Option (List Entry))) → past.lease.writes k ≡ false
     → KeepsNow past → KeepsNow (record past { logs = log_copied past.logs k found })
 hold-copied past k None quiet hold = hold
 hold-copied past k (Some theirs) quiet hold = hold-changed past k (λ log. theirs) quiet hold
 
 quiet-taker : (past : Past) (facts : Facts) (k from : ℕ) → IsSameServers past facts
-    → Takes facts.servers k from → past.writes k ≡ false
+    → Takes facts.servers k from → past.lease.writes k ≡ false
 quiet-taker past facts k from same takes =
     same.writes k ∙ ap writes_now takes.is ∙ not-live-quiet takes.server.state takes.not_live
 

@@ -65,7 +65,7 @@ module _ (past : Past) (facts : Facts) (same : IsSameServers past facts) (k : �
   confirmed-at = ap (λ known. slice_get known k) same.confirmed
       ∙ slice_get-map (λ s. s.confirmed) facts.servers k ∙ ap (option_map (λ s. s.confirmed)) found
 
-  pub writes-at : past.writes k ≡ writes s.state
+  pub writes-at : past.lease.writes k ≡ writes s.state
   writes-at = same.writes k ∙ ap writes_now found
 
   pub whole-log : HasLog s.log → log_found (slice_get past.logs k) ≡ Some (entries_of s.log)

@@ -93,7 +93,7 @@ same-by past facts kind is old =
       logs = ap (λ known. logs_after known kind) old.logs ∙ sym (logs-of now facts.servers kind);
       required = ap (λ known. required_after known kind) old.required ∙ sym (required-of now facts.servers kind);
       confirmed = ap (λ known. confirmed_after known kind) old.confirmed ∙ sym (confirmed-of now facts.servers kind);
-      writes = writes-in past.writes now facts.servers kind is old.writes;
+      writes = writes-in past.lease.writes now facts.servers kind is old.writes;
       acknowledged = ap (λ told. acknowledged_after told kind) old.acknowledged;
     }
 

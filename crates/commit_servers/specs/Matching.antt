@@ -29,7 +29,7 @@ pub record IsSameServers (past : Past) (facts : Facts) : Type 0 where
   pub logs : past.logs ≡ logs_in facts.servers
   pub required : past.required ≡ required_in facts.servers
   pub confirmed : past.confirmed ≡ confirmed_in facts.servers
-  pub writes : (m : ℕ) → past.writes m ≡ writes_in facts.servers m
+  pub writes : (m : ℕ) → past.lease.writes m ≡ writes_in facts.servers m
   pub acknowledged : past.acknowledged ≡ facts.acknowledged
 
 -- what no event says of members has of each server whether it is live by its state; their agents are any

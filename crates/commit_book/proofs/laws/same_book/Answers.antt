@@ -1,11 +1,10 @@
-use Rattle.commit_book.proofs.Groups.{book-first, book-by, book-after, causal-front, granted-causal, refused-causal, read-causal, own-causal}
+use Rattle.commit_book.proofs.Groups.{book-first, book-after, causal-front, granted-causal, refused-causal, read-causal, own-causal}
 use Rattle.commit_book.proofs.Flights.{requested-asked}
 use Rattle.commit_book.proofs.laws.same_book.Goals as goal
 
 pub returns : goal.returns
 returns c = record {
   first = book-first;
-  each = book-by;
   over = book-after;
   front = causal-front;
   granted = granted-causal;
