@@ -18,6 +18,7 @@ ghost use Rattle.agent_model.specs.Agents.{Outcome};
 ghost use Rattle.agent_model.specs.Answers.{with_answer, all_answered};
 ghost use Rattle.agent_model.specs.Reconciling.{reconciled};
 ghost use Rattle.agent_succession.specs.FreeKey.{HearsFree, StaysOut, AsksForKey, AsksOthers, HearsLast, RunsLate, LosesRace, LosesAndTurns, AsksWhereFree, AsksWhereWon, BeginsWhereGranted};
+ghost use Rattle.agent_succession.specs.TurnReads.{KeepsTurnKeys};
 ghost use Rattle.agent_model.specs.HandingOver.{handover_judged};
 ghost use Rattle.agent_succession.specs.Handovers.{HandsOverTo};
 ghost use Rattle.agent_model.specs.Racing.{can_start, turn_keys};
@@ -38,8 +39,8 @@ pub fn who_is_barred_stays_out()
 {}
 
 /// A free leader key is raced for: where the answer to its read tells that nobody leads, an agent that nothing bars asks every
-/// other member how far its server is, and waits for the answers; by the keys that it read it is judged then. Where there is none, it asks for the key at once, and waits
-/// for the answer. Only a running replica is barred by nothing.
+/// other member how far its server is, and waits for the answers; it is to be judged by the keys that this read told. Where there is
+/// no other member, it asks for the key at once, and waits for the answer. Only a running replica is barred by nothing.
 pub fn a_free_key_is_asked_for()
     ensures others { (now : Ticks) (points : List HistoryPoint) (sequence : ℕ) (snapshot : SnapshotFacts) (o : Outcome) → HearsFree sequence snapshot (prepared now (heard.ReadAnswered sequence snapshot) o) → eligibility_of (shown now (prepared now (heard.ReadAnswered sequence snapshot) o)) snapshot ≡ None → all_answered (prepared now (heard.ReadAnswered sequence snapshot) o).knows.who [] ≡ false → AsksOthers now snapshot (prepared now (heard.ReadAnswered sequence snapshot) o) (step now points (heard.ReadAnswered sequence snapshot) o) }
     ensures alone { (now : Ticks) (points : List HistoryPoint) (sequence : ℕ) (snapshot : SnapshotFacts) (o : Outcome) → HearsFree sequence snapshot (prepared now (heard.ReadAnswered sequence snapshot) o) → eligibility_of (shown now (prepared now (heard.ReadAnswered sequence snapshot) o)) snapshot ≡ None → all_answered (prepared now (heard.ReadAnswered sequence snapshot) o).knows.who [] ≡ true → AsksForKey (prepared now (heard.ReadAnswered sequence snapshot) o) (step now points (heard.ReadAnswered sequence snapshot) o) }
@@ -57,6 +58,12 @@ pub fn the_last_answer_decides()
 pub fn late_answers_are_not_waited_for()
     ensures won { (now : Ticks) (points : List HistoryPoint) (waited : PendingQuestion) (o : Outcome) → RunsLate now waited (prepared now heard.Wake o) → outcome_by (shown now (prepared now heard.Wake o)) (turn_keys (prepared now heard.Wake o).knows) (prepared now heard.Wake o).knows.answers ≡ None → AsksForKey (prepared now heard.Wake o) (step now points heard.Wake o) }
     ensures lost { (now : Ticks) (points : List HistoryPoint) (waited : PendingQuestion) (bar : Ineligibility) (o : Outcome) → RunsLate now waited (prepared now heard.Wake o) → outcome_by (shown now (prepared now heard.Wake o)) (turn_keys (prepared now heard.Wake o).knows) (prepared now heard.Wake o).knows.answers ≡ Some bar → LosesAndTurns now bar (prepared now heard.Wake o) (step now points heard.Wake o) }
+{}
+
+/// What a race is judged by of the key store stays until the next turn reads it, whatever comes meanwhile: no input changes it but the
+/// answer to the read that is waited for.
+pub fn what_a_turn_read_stays()
+    ensures { (now : Ticks) (points : List HistoryPoint) (heard : Heard) (o : Outcome) → KeepsTurnKeys heard o (step now points heard o) }
 {}
 
 /// A free leader key is asked for, by whom nothing bars and who wins; and whom it is granted to begins, where it hears that in
