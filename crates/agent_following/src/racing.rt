@@ -1,25 +1,28 @@
 //! What a member without a lease does about a free leader key: it races for it where nothing bars it.
-ghost use Rattle.std.specs.Prelude.{◌≡◌};
+ghost use Rattle.std.specs.Prelude.{◌≡◌, option_map};
 ghost use Rattle.agent_turn.specs.Turns.{ComesTo, HasLeft, Spent, reached};
 ghost use Rattle.agent_model.specs.Agents.{Follower, IsWithin, RoleFacts, word_of};
 ghost use Rattle.pat_base.specs.declared.member_id.TheConstants.{MOST_MEMBERS};
-ghost use Rattle.agent_model.specs.Racing.{asking_others, bar_of, barred, can_start, creating, finds_free, judged, outcome_by, races, races_unless, starts_alone};
+ghost use Rattle.agent_model.specs.Racing.{asking_others, bar_of, barred, can_start, creating, finds_free, judged, races, races_unless, starts_alone, turn_keys};
+ghost use Rattle.agent_model.specs.declared.knowledge.SyncRead.{SyncRead};
+ghost use Rattle.cluster_view.specs.KeyValues.{active_sync_where};
+ghost use Rattle.leader_race.specs.Outcome.{outcome_by};
 ghost use Rattle.agent_model.specs.Peers.{judged_if_racing};
 ghost use Rattle.agent_turn.specs.Roles.{role_of};
 ghost use Rattle.agent_model.specs.Views.{view_of};
 
 use crate::following::start_replica;
-use agent_model::{Inquiry, Knowledge, Machine, Output, PendingQuestion, Question};
+use agent_model::{Inquiry, Knowledge, Machine, Output, PendingQuestion, Question, SyncRead};
 use agent_turn::{
     Role, Turn, all_answered, answers_until, ask_all, failsafe_compared, info_of, is_paused,
     may_create, view_of, word_of,
 };
 use cluster_view::RoleWord;
 use event_book::AgentNote;
-use leader_race::{may_race, wins};
+use leader_race::{RaceKeys, may_race, wins_by};
 use pat_base::{Ineligibility, State, Ticks};
 use pg_model::ServerStatus;
-use store_keys::Txn;
+use store_keys::{SyncKey, Txn};
 
 /// Nobody leads: a server that can start does so as a replica of none, and its agent tells of itself; else the member races,
 /// unless something bars it.
@@ -122,20 +125,35 @@ pub fn judge(word: RoleWord, turn: &mut Turn)
     }
 }
 
-/// What bars a member from winning the race, by the answers that it heard and by what it shows at this moment.
+/// What bars a member from winning the race: by what the turn that asked read of the key store, by the answers that it heard,
+/// and by what it shows at this moment.
 fn outcome_at(
     now: Ticks,
     word: RoleWord,
     knows: &Knowledge,
     machine: &Machine,
 ) -> Option<Ineligibility>
-    ensures { result ≡ outcome_by (view_of now word knows.now machine.now) knows.now.seen knows.now.answers }
+    ensures { result ≡ outcome_by (view_of now word knows.now machine.now) (turn_keys knows.now) knows.now.answers }
 {
-    let Some(seen) = &knows.seen else {
-        return None;
-    };
     let view = view_of(now, word, knows, machine);
-    wins(&view, seen, knows.answers.all()).err()
+    wins_by(&view, &turn_keys(knows), knows.answers.all()).err()
+}
+
+/// What the last turn read that a race is judged by.
+fn turn_keys(knows: &Knowledge) -> RaceKeys
+    ensures { result ≡ turn_keys knows.now }
+{
+    RaceKeys {
+        failover: knows.turn_failover,
+        sync: active_sync(knows.turn_settings.synchronous_mode, knows.turn_sync),
+    }
+}
+
+/// The sync key that was read, where the synchronous mode is on.
+fn active_sync(mode: bool, read: Option<SyncRead>) -> Option<SyncKey>
+    ensures { result ≡ active_sync_where mode (option_map (λ (read : SyncRead). read.key) read) }
+{
+    if mode { read.map(|read| read.key) } else { None }
 }
 
 /// A member that is barred tells by what, and tells of itself.

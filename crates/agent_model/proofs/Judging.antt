@@ -6,7 +6,8 @@ use Rattle.pat_base.specs.declared.ticks.Ticks.{Ticks}
 use Rattle.cluster_view.specs.declared.view.AgentView.{AgentView}
 use Rattle.cluster_view.specs.declared.view.RoleWord.{RoleWord}
 use Rattle.cluster_view.specs.Snapshots.{SnapshotFacts}
-use Rattle.leader_race.specs.Outcome.{outcome_of}
+use Rattle.leader_race.specs.declared.racer.RaceKeys.{RaceKeys}
+use Rattle.leader_race.specs.Outcome.{outcome_by}
 use Rattle.cluster_view.specs.declared.view.LeaderView.{LeaderView}
 use Rattle.sync_state.specs.declared.steps.Plan.{Plan}
 use Rattle.sync_state.specs.Candidates.{candidates_in}
@@ -15,7 +16,7 @@ use Rattle.agent_model.specs.Planning.{leader_view, planned_as, planned_on, plan
 use Rattle.agent_model.specs.Acting.{waiting_no_more, touching}
 use Rattle.agent_model.specs.Agents.{Outcome, word_of}
 use Rattle.agent_model.specs.Answers.{all_answered}
-use Rattle.agent_model.specs.Racing.{can_start, bar_of, outcome_by, judged_as, judged, asking_others, unheard, races, races_unless, free_key, starts_alone}
+use Rattle.agent_model.specs.Racing.{can_start, bar_of, turn_keys, judged_as, judged, asking_others, unheard, races, races_unless, free_key, starts_alone}
 use Rattle.agent_model.specs.Views.{view_of}
 
 pub if-true : {A : Type 0} (test : Bool) (x y : A) → test ≡ true → (if test then x else y) ≡ x
@@ -24,22 +25,23 @@ if-true test x y is = rw is refl
 pub if-false : {A : Type 0} (test : Bool) (x y : A) → test ≡ false → (if test then x else y) ≡ y
 if-false test x y is = rw is refl
 
--- the newest snapshot stands beside what a member shows
-pub outcome-shown : (view shows : AgentView) (seen : Option SnapshotFacts) (snapshot : SnapshotFacts)
-    (answers : List PeerAnswer) (result : Option Ineligibility) → record view { seen = None } ≡ shows
-    → seen ≡ Some snapshot → result ≡ outcome_of view snapshot answers → result ≡ outcome_by shows seen answers
-outcome-shown view shows seen snapshot answers result shown there is =
-    is ∙ ap (λ (v : AgentView). outcome_of v snapshot answers) shown
-    ∙ ap (λ (s : Option SnapshotFacts). outcome_by shows s answers) (sym there)
+-- what bars a member that shows the same beside its newest snapshot, by the keys that its turn read
+pub outcome-shown : (view shows : AgentView) (keys read : RaceKeys) (answers : List PeerAnswer)
+    (result : Option Ineligibility) → record view { seen = None } ≡ shows → keys ≡ read
+    → result ≡ outcome_by view keys answers → result ≡ outcome_by shows read answers
+outcome-shown view shows keys read answers result shown same is =
+    is ∙ ap (λ (v : AgentView). outcome_by v keys answers) shown
+    ∙ ap (λ (k : RaceKeys). outcome_by shows k answers) same
 
 -- what bars the member decides
 pub judged-by : (now : Ticks) (word : RoleWord) (o after : Outcome) (bar : Option Ineligibility)
-    → word_of o.role ≡ word → bar ≡ outcome_by (view_of now word o.knows o.machine) o.knows.seen o.knows.answers
+    → word_of o.role ≡ word → bar ≡ outcome_by (view_of now word o.knows o.machine) (turn_keys o.knows) o.knows.answers
     → after ≡ judged_as now bar (waiting_no_more o) → after ≡ judged now o
 judged-by now word o after bar role is made-is =
     made-is
     ∙ ap (λ (b : Option Ineligibility). judged_as now b (waiting_no_more o))
-    (is ∙ ap (λ (w : RoleWord). outcome_by (view_of now w o.knows o.machine) o.knows.seen o.knows.answers) (sym role))
+    (is ∙ ap (λ (w : RoleWord). outcome_by (view_of now w o.knows o.machine) (turn_keys o.knows) o.knows.answers)
+    (sym role))
 
 -- where there is nobody to ask, the race is judged at once
 pub raced-by : (now : Ticks) (o after : Outcome) (answers : List PeerAnswer) → answers ≡ []

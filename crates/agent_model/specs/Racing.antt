@@ -1,7 +1,6 @@
 -- What a member without a lease does about a free leader key: where nothing bars it, it
 -- asks the other members how far their servers are, and is judged by what they answer.
-use Rattle.std.specs.Prelude.{ℕ, ◌+◌, ◌&&◌, if◌then◌else◌, not, Bool, List, [], Option, Some, None}
-use Rattle.pat_base.specs.declared.peer_answer.PeerAnswer.{PeerAnswer}
+use Rattle.std.specs.Prelude.{ℕ, ◌+◌, ◌&&◌, if◌then◌else◌, not, Bool, [], Option, Some, None, option_map}
 use Rattle.pat_base.specs.declared.ticks.Ticks.{Ticks}
 use Rattle.pat_base.specs.declared.ineligibility.Ineligibility.{Ineligibility}
 use Rattle.store_keys.specs.declared.txn.Txn.TheVariants as txns
@@ -11,11 +10,14 @@ use Rattle.event_book.specs.declared.agent_note.AgentNote.TheVariants as agent_n
 use Rattle.event_book.specs.declared.message.Body.TheVariants as bodies
 use Rattle.cluster_view.specs.declared.view.AgentView.{AgentView}
 use Rattle.cluster_view.specs.declared.view.RoleWord.TheVariants as words
+use Rattle.cluster_view.specs.KeyValues.{active_sync_where}
 use Rattle.cluster_view.specs.Snapshots.{SnapshotFacts}
+use Rattle.leader_race.specs.declared.racer.RaceKeys.{RaceKeys}
 use Rattle.leader_race.specs.Eligibility.{eligibility_of}
-use Rattle.leader_race.specs.Outcome.{outcome_of}
+use Rattle.leader_race.specs.Outcome.{outcome_by}
 use Rattle.agent_model.specs.declared.knowledge.Knowledge.{Knowledge}
 use Rattle.agent_model.specs.declared.knowledge.Question.TheVariants.{ComparingPositions, Creating}
+use Rattle.agent_model.specs.declared.knowledge.SyncRead.{SyncRead}
 use Rattle.agent_model.specs.declared.machine.Machine.{Machine}
 use Rattle.agent_model.specs.declared.output.Output.TheVariants as outputs
 use Rattle.agent_model.specs.Acting.{seconds_after, lease_span, counted, waiting, asking, touching, starting_replica, waiting_no_more}
@@ -31,12 +33,13 @@ use Rattle.agent_model.specs.Views.{view_of, shown}
 abbrev pub can_start : ServerStatus → Bool
 can_start server = is_down server.state && not server.diverged
 
--- what bars a member from racing that shows this, by the newest snapshot; nothing where there is none
+-- what bars a member from racing that shows this, by a snapshot; nothing where there is none
 abbrev pub bar_by : AgentView → Option SnapshotFacts → Option Ineligibility
 bar_by view None = None
 bar_by view (Some seen) = eligibility_of view seen
 
--- what bars a member without a lease from racing for the leader key, by what it shows at this moment
+-- what bars a member without a lease from racing for the leader key, by what it shows at this moment and by
+-- the newest snapshot: who races begins to in the very input that hears a read, so that one is its turn's
 abbrev pub bar_of : Ticks → Knowledge → Machine → Option Ineligibility
 bar_of now knows machine = bar_by (view_of now words.Follower knows machine) knows.seen
 
@@ -51,15 +54,17 @@ creating now o = asking now Creating (seconds_after now o.knows.settings.retry_t
 abbrev pub barred : Ineligibility → Outcome → Outcome
 barred bar o = touching (record o { outputs = with_output (outputs.Note (agent_notes.DoesNotRace bar)) o.outputs })
 
--- what bars a member that shows this from winning, by the newest
--- snapshot and these answers; nothing where there is no snapshot
-abbrev pub outcome_by : AgentView → Option SnapshotFacts → List PeerAnswer → Option Ineligibility
-outcome_by view None answers = None
-outcome_by view (Some seen) answers = outcome_of view seen answers
+-- what the last turn read that a race is judged by: the failover key, and the sync key where the synchronous mode is active
+abbrev pub turn_keys : Knowledge → RaceKeys
+turn_keys knows = record {
+  failover = knows.turn_failover;
+  sync = active_sync_where knows.turn_settings.synchronous_mode (option_map (λ (read : SyncRead). read.key) knows.turn_sync);
+}
 
--- what bars a member from winning the race, by the answers that it heard and by what it shows at this moment
+-- what bars a member from winning the race: by what the turn that asked read of the key
+-- store, by the answers that it heard, and by what it shows at this moment
 abbrev pub outcome_at : Ticks → Outcome → Option Ineligibility
-outcome_at now o = outcome_by (shown now o) o.knows.seen o.knows.answers
+outcome_at now o = outcome_by (shown now o) (turn_keys o.knows) o.knows.answers
 
 -- who wins asks for the leader key
 abbrev pub judged_as : Ticks → Option Ineligibility → Outcome → Outcome

@@ -232,8 +232,8 @@ step-asks now points (HearsOperator action) o = tt
 pub step-wins : (now : Ticks) (points : List HistoryPoint) (heard : Heard) (o : Outcome)
     → AsksWhereWon now heard (prepared now heard o) (step now points heard o)
 step-wins now points (Answered sequence answer) o =
-    λ waited snapshot hears is. last-won now waited sequence answer snapshot (reconciled now o) hears is
-step-wins now points Wake o = λ waited snapshot runs is. late-won now waited snapshot o runs is
+    λ waited hears is. last-won now waited sequence answer (reconciled now o) hears is
+step-wins now points Wake o = λ waited runs is. late-won now waited o runs is
 step-wins now points (ReadAnswered sequence snapshot) o = tt
 step-wins now points (HeardGranted sequence grant snapshot) o = tt
 step-wins now points (Mismatch sequence key found) o = tt

@@ -1,3 +1,4 @@
 pub mod FreeKey
 pub mod Beginning
 pub mod Handovers
+pub mod TurnReads

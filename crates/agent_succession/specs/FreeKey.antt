@@ -7,10 +7,10 @@ use Rattle.pat_base.specs.declared.ineligibility.Ineligibility.{Ineligibility}
 use Rattle.lease_store.specs.declared.granted.Granted.{Granted}
 use Rattle.store_keys.specs.declared.txn.Txn.TheVariants as txns
 use Rattle.leader_race.specs.Eligibility.{eligibility_of}
-use Rattle.leader_race.specs.Outcome.{outcome_of}
+use Rattle.leader_race.specs.Outcome.{outcome_by, race_keys_in}
 use Rattle.event_book.specs.declared.agent_note.AgentNote.TheVariants as agent_notes
 use Rattle.event_book.specs.declared.message.Body.TheVariants as bodies
-use Rattle.cluster_view.specs.Snapshots.{SnapshotFacts, leader_in, settings_in}
+use Rattle.cluster_view.specs.Snapshots.{IsRead, SnapshotFacts, leader_in, settings_in}
 use Rattle.agent_model.specs.declared.heard.Heard.{Heard}
 use Rattle.agent_model.specs.declared.heard.Heard.TheVariants.{Wake, ReadAnswered, Granted as HeardGranted, Answered}
 use Rattle.agent_model.specs.declared.knowledge.Knowledge.{Knowledge}
@@ -29,7 +29,7 @@ use Rattle.agent_model.specs.Pausing.{is_paused}
 use Rattle.agent_model.specs.Peers.{is_asking, awaits_answer}
 use Rattle.agent_roles.specs.Powers.{IsAwaitedLease}
 use Rattle.agent_model.specs.FailsafeKeys.{failsafe_compared}
-use Rattle.agent_model.specs.Racing.{answers_until}
+use Rattle.agent_model.specs.Racing.{answers_until, turn_keys}
 use Rattle.agent_model.specs.Snapshots.{awaits_read, informed}
 use Rattle.agent_model.specs.Synchronous.{expected_of}
 use Rattle.agent_model.specs.Views.{shown}
@@ -65,36 +65,35 @@ pub record AsksForKey (o after : Outcome) : Type 0 where
       (failsafe_compared after.knows) None)))
       o.outputs
 
--- the agent asks each other member how far its server is, and nobody else, all
--- under one new number. It waits for the answers, of which it has none yet
-pub record AsksOthers (now : Ticks) (o after : Outcome) : Type 0 where
+-- the agent asks each other member how far its server is, and nobody else, all under one new number. It waits
+-- for the answers, of which it has none yet; the race is to be judged by the keys of the snapshot that it read
+pub record AsksOthers (now : Ticks) (snapshot : SnapshotFacts) (o after : Outcome) : Type 0 where
   pub waited : PendingQuestion
   pub waits : after.knows.waited ≡ Some waited
   pub asks : waited.question ≡ ComparingPositions
   pub later : o.knows.sequence < waited.sequence
   pub until : waited.until ≡ answers_until now
   pub unheard : after.knows.answers ≡ []
+  pub keys : IsRead snapshot.entries → turn_keys after.knows ≡ race_keys_in snapshot
   pub each : (member : MemberId) → is_other o.knows.who member ≡ true
       → Contains after.outputs (outputs.Send (targets.Member member) waited.sequence bodies.Ask)
   pub outputs_are : after.outputs ≡ asking_all o.knows.who waited.sequence o.outputs
 
--- the agent waits for the answers of the others, and its newest snapshot is this one
-pub record AwaitsAnswers (waited : PendingQuestion) (snapshot : SnapshotFacts) (o : Outcome) : Type 0 where
+-- the agent waits for the answers of the others
+pub record AwaitsAnswers (waited : PendingQuestion) (o : Outcome) : Type 0 where
   pub waits : o.knows.waited ≡ Some waited
   pub asking : is_asking waited.question ≡ true
   pub role : may_create o.role ≡ true
-  pub seen : o.knows.seen ≡ Some snapshot
 
 -- this is the last answer that it waits for
-pub record HearsLast (waited : PendingQuestion) (sequence : ℕ) (answer : PeerAnswer)
-    (snapshot : SnapshotFacts) (o : Outcome) : Type 0 where
-  pub awaits : AwaitsAnswers waited snapshot o
+pub record HearsLast (waited : PendingQuestion) (sequence : ℕ) (answer : PeerAnswer) (o : Outcome) : Type 0 where
+  pub awaits : AwaitsAnswers waited o
   pub number : awaits_answer waited sequence ≡ true
   pub all : all_answered o.knows.who (with_answer answer o.knows.answers) ≡ true
 
 -- the time for the answers that it waits for is over
-pub record RunsLate (now : Ticks) (waited : PendingQuestion) (snapshot : SnapshotFacts) (o : Outcome) : Type 0 where
-  pub awaits : AwaitsAnswers waited snapshot o
+pub record RunsLate (now : Ticks) (waited : PendingQuestion) (o : Outcome) : Type 0 where
+  pub awaits : AwaitsAnswers waited o
   pub late : nat_le waited.until.0 now.0 ≡ true
 
 -- the agent tells what bars it, and tells of itself. That is all: its
@@ -119,17 +118,17 @@ pub record LosesAndTurns (now : Ticks) (bar : Ineligibility) (o after : Outcome)
 abbrev pub AsksWhereFree : Ticks → Heard → Outcome → Outcome → Type 0
 AsksWhereFree now (ReadAnswered sequence snapshot) o after =
     HearsFree sequence snapshot o → eligibility_of (shown now o) snapshot ≡ None
-    → (all_answered o.knows.who [] ≡ false → AsksOthers now o after)
+    → (all_answered o.knows.who [] ≡ false → AsksOthers now snapshot o after)
     × (all_answered o.knows.who [] ≡ true → AsksForKey o after)
 AsksWhereFree now _ o after = Unit {0}
 
--- an input that judges a race, since the last answer came or the time for them is over: who wins asks for the key
+-- an input that judges a race, since the last answer came or the time for them is over: who
+-- wins asks for the key. It is judged by what the turn that asked read of the key store
 abbrev pub AsksWhereWon : Ticks → Heard → Outcome → Outcome → Type 0
-AsksWhereWon now (Answered sequence answer) o after =
-    (waited : PendingQuestion) (snapshot : SnapshotFacts) → HearsLast waited sequence answer snapshot o
-    → outcome_of (shown now o) snapshot (with_answer answer o.knows.answers) ≡ None → AsksForKey o after
-AsksWhereWon now Wake o after = (waited : PendingQuestion) (snapshot : SnapshotFacts)
-    → RunsLate now waited snapshot o → outcome_of (shown now o) snapshot o.knows.answers ≡ None → AsksForKey o after
+AsksWhereWon now (Answered sequence answer) o after = (waited : PendingQuestion) → HearsLast waited sequence answer o
+    → outcome_by (shown now o) (turn_keys o.knows) (with_answer answer o.knows.answers) ≡ None → AsksForKey o after
+AsksWhereWon now Wake o after = (waited : PendingQuestion) → RunsLate now waited o
+    → outcome_by (shown now o) (turn_keys o.knows) o.knows.answers ≡ None → AsksForKey o after
 AsksWhereWon now _ o after = Unit {0}
 
 -- the agent leads by the lease of this revision, and its server begins

@@ -1,2 +1,3 @@
 pub mod FreeKey
 pub mod Handovers
+pub mod TurnReads

@@ -15,13 +15,14 @@ use Rattle.cluster_view.specs.declared.view.AgentView.{AgentView}
 use Rattle.cluster_view.specs.KeyValues.{config_in, failover_in, status_in, active_sync_in}
 use Rattle.cluster_view.specs.Naming.{candidate_of, is_candidate, is_failover_to, is_named}
 use Rattle.cluster_view.specs.Snapshots.{SnapshotFacts, failsafe_in}
+use Rattle.leader_race.specs.declared.racer.RaceKeys.{RaceKeys}
 use Rattle.leader_race.specs.declared.racer.Racer.{Racer}
 use Rattle.leader_race.specs.declared.racer.Rule.{Rule}
 use Rattle.leader_race.specs.declared.racer.Rule.TheVariants as rules
 use Rattle.leader_race.specs.Bars.{first_bar}
 use Rattle.leader_race.specs.Eligibility.{not_running, may_fail_over, no_failover, paused, other_candidate, not_sync, too_far_behind, not_listed, holding, eligibility_of}
 use Rattle.leader_race.specs.Peers.{counts, is_standby_if, is_compared, is_below, is_level, bars_by, first_of}
-use Rattle.leader_race.specs.Outcome.{racer_of, other_writes, ahead, priority, unless, outcome_of, ComparesWith}
+use Rattle.leader_race.specs.Outcome.{racer_of, other_writes, ahead, priority, unless, outcome_by, ComparesWith}
 use Rattle.leader_race.proofs.Barring.{no, no-bar, first_bar-none, bar_where-none, option_map-none, first_of-none, first_of-skip_at}
 
 -- ---- who may race
@@ -83,16 +84,16 @@ race-sync view seen sync e active other =
     other
 
 -- ---- who wins
-record Wins (view : AgentView) (seen : SnapshotFacts) (answers : List PeerAnswer) : Type 0 where
-  writes : first_of (bars_by (racer_of view seen) rules.OtherWrites) answers ≡ None
-  ahead : unless (is_candidate view.me (failover_in seen)) (ahead (racer_of view seen) answers) ≡ None
-  priority : unless (is_candidate view.me (failover_in seen)) (priority (racer_of view seen) answers) ≡ None
+record Wins (view : AgentView) (keys : RaceKeys) (answers : List PeerAnswer) : Type 0 where
+  writes : first_of (bars_by (racer_of view keys) rules.OtherWrites) answers ≡ None
+  ahead : unless (is_candidate view.me keys.failover) (ahead (racer_of view keys) answers) ≡ None
+  priority : unless (is_candidate view.me keys.failover) (priority (racer_of view keys) answers) ≡ None
 
-wins-by : (view : AgentView) (seen : SnapshotFacts) (answers : List PeerAnswer)
-    → outcome_of view seen answers ≡ None → Wins view seen answers
-wins-by view seen answers e =
-    let racer = racer_of view seen in
-    let named = is_candidate view.me (failover_in seen) in
+wins-by : (view : AgentView) (keys : RaceKeys) (answers : List PeerAnswer)
+    → outcome_by view keys answers ≡ None → Wins view keys answers
+wins-by view keys answers e =
+    let racer = racer_of view keys in
+    let named = is_candidate view.me keys.failover in
     let first = first_bar-none (other_writes racer answers) _ e in
     let second = first_bar-none (unless named (ahead racer answers)) _ first.1 in
     let third = first_bar-none (unless named (priority racer answers)) _ second.1 in
@@ -110,34 +111,34 @@ no-rule : (named : Bool) (bar : Option Ineligibility) → named ≡ false → un
 no-rule false bar e h = h
 no-rule true bar e h = absurd (no e)
 
-pub win-no_writer : (view : AgentView) (seen : SnapshotFacts) (answers : List PeerAnswer) (answer : PeerAnswer)
-    → outcome_of view seen answers ≡ None → Contains answers answer → counts view.me answer ≡ true
+pub win-no_writer : (view : AgentView) (keys : RaceKeys) (answers : List PeerAnswer) (answer : PeerAnswer)
+    → outcome_by view keys answers ≡ None → Contains answers answer → counts view.me answer ≡ true
     → answer.writes ≡ false
-win-no_writer view seen answers answer e there counted =
+win-no_writer view keys answers answer e there counted =
     and-rest (counts view.me answer) answer.writes counted
-    (first_of-none (bars_by (racer_of view seen) rules.OtherWrites) answers answer
-    (wins-by view seen answers e).writes there)
+    (first_of-none (bars_by (racer_of view keys) rules.OtherWrites) answers answer
+    (wins-by view keys answers e).writes there)
 
-pub win-not_behind : (view : AgentView) (seen : SnapshotFacts) (answers : List PeerAnswer) (answer : PeerAnswer)
-    → outcome_of view seen answers ≡ None → is_candidate view.me (failover_in seen) ≡ false → Contains answers answer
-    → is_compared (racer_of view seen) answer ≡ true → is_below view.end answer.end ≡ false
-win-not_behind view seen answers answer e other there compared =
-    let racer = racer_of view seen in
+pub win-not_behind : (view : AgentView) (keys : RaceKeys) (answers : List PeerAnswer) (answer : PeerAnswer)
+    → outcome_by view keys answers ≡ None → is_candidate view.me keys.failover ≡ false → Contains answers answer
+    → is_compared (racer_of view keys) answer ≡ true → is_below view.end answer.end ≡ false
+win-not_behind view keys answers answer e other there compared =
+    let racer = racer_of view keys in
     let nobody = option_map-none bars.Ahead (first_of (bars_by racer rules.Ahead) answers)
-    (no-rule (is_candidate view.me (failover_in seen)) (ahead racer answers) other
-    (wins-by view seen answers e).ahead) in
+    (no-rule (is_candidate view.me keys.failover) (ahead racer answers) other
+    (wins-by view keys answers e).ahead) in
     and-rest (is_compared racer answer) (is_below view.end answer.end) compared
     (first_of-none (bars_by racer rules.Ahead) answers answer nobody there)
 
-pub win-preferred : (view : AgentView) (seen : SnapshotFacts) (answers : List PeerAnswer) (answer : PeerAnswer)
-    → outcome_of view seen answers ≡ None → is_candidate view.me (failover_in seen) ≡ false
-    → Contains answers answer → is_compared (racer_of view seen) answer ≡ true → is_level view.end answer.end ≡ true
+pub win-preferred : (view : AgentView) (keys : RaceKeys) (answers : List PeerAnswer) (answer : PeerAnswer)
+    → outcome_by view keys answers ≡ None → is_candidate view.me keys.failover ≡ false
+    → Contains answers answer → is_compared (racer_of view keys) answer ≡ true → is_level view.end answer.end ≡ true
     → int_lt view.tags.failover_priority answer.tags.failover_priority ≡ false
-win-preferred view seen answers answer e other there compared level =
-    let racer = racer_of view seen in
+win-preferred view keys answers answer e other there compared level =
+    let racer = racer_of view keys in
     let nobody = option_map-none bars.Priority (first_of (bars_by racer rules.Priority) answers)
-    (no-rule (is_candidate view.me (failover_in seen)) (priority racer answers) other
-    (wins-by view seen answers e).priority) in
+    (no-rule (is_candidate view.me keys.failover) (priority racer answers) other
+    (wins-by view keys answers e).priority) in
     let lower = int_lt view.tags.failover_priority answer.tags.failover_priority in
     and-rest (is_level view.end answer.end) lower level
     (and-rest (is_compared racer answer) (is_level view.end answer.end && lower) compared
@@ -157,12 +158,12 @@ own-bars racer rules.Priority answer e =
     && (is_level racer.end answer.end && int_lt racer.priority answer.tags.failover_priority))
     e
 
-pub win-own : (view : AgentView) (seen : SnapshotFacts) (before : List PeerAnswer) (answer : PeerAnswer)
+pub win-own : (view : AgentView) (keys : RaceKeys) (before : List PeerAnswer) (answer : PeerAnswer)
     (after : List PeerAnswer) → answer.member.number ≡ view.me.number
-    → outcome_of view seen (before ++ answer ∷ after) ≡ outcome_of view seen (before ++ after)
-win-own view seen before answer after mine =
-    let racer : Racer = racer_of view seen in
-    let named : Bool = is_candidate view.me (failover_in seen) in
+    → outcome_by view keys (before ++ answer ∷ after) ≡ outcome_by view keys (before ++ after)
+win-own view keys before answer after mine =
+    let racer : Racer = racer_of view keys in
+    let named : Bool = is_candidate view.me keys.failover in
     let all : List PeerAnswer = before ++ answer ∷ after in
     let others : List PeerAnswer = before ++ after in
     let counted : counts view.me answer ≡ false =
@@ -199,50 +200,50 @@ level-priorities (pos m) (negsuc n) p q = absurd (no q)
 level-priorities (negsuc m) (pos n) p q = absurd (no p)
 level-priorities (negsuc m) (negsuc n) p q = ap (λ k. negsuc k) (squeezed m n q p)
 
-not-behind : (view other : AgentView) (seen : SnapshotFacts) (answers : List PeerAnswer)
-    → ComparesWith view seen answers other → outcome_of view seen answers ≡ None → is_below view.end other.end ≡ false
-not-behind view other seen answers c e =
-    ap (is_below view.end) (sym c.end) ∙ win-not_behind view seen answers c.answer e c.no_candidate c.heard c.compared
+not-behind : (view other : AgentView) (keys : RaceKeys) (answers : List PeerAnswer)
+    → ComparesWith view keys answers other → outcome_by view keys answers ≡ None → is_below view.end other.end ≡ false
+not-behind view other keys answers c e =
+    ap (is_below view.end) (sym c.end) ∙ win-not_behind view keys answers c.answer e c.no_candidate c.heard c.compared
 
-not-lower : (view other : AgentView) (seen : SnapshotFacts) (answers : List PeerAnswer)
-    → ComparesWith view seen answers other → outcome_of view seen answers ≡ None
+not-lower : (view other : AgentView) (keys : RaceKeys) (answers : List PeerAnswer)
+    → ComparesWith view keys answers other → outcome_by view keys answers ≡ None
     → is_level view.end other.end ≡ true → int_lt view.tags.failover_priority other.tags.failover_priority ≡ false
-not-lower view other seen answers c e level =
+not-lower view other keys answers c e level =
     ap (λ tags. int_lt view.tags.failover_priority tags.failover_priority) (sym c.tags)
-    ∙ win-preferred view seen answers c.answer e c.no_candidate c.heard c.compared
+    ∙ win-preferred view keys answers c.answer e c.no_candidate c.heard c.compared
     (ap (is_level view.end) c.end ∙ level)
 
-pub both-end : (a b : AgentView) (seen_by_a seen_by_b : SnapshotFacts) (heard_by_a heard_by_b : List PeerAnswer)
-    → ComparesWith a seen_by_a heard_by_a b → ComparesWith b seen_by_b heard_by_b a
-    → outcome_of a seen_by_a heard_by_a ≡ None → outcome_of b seen_by_b heard_by_b ≡ None → a.end ≡ b.end
-both-end a b seen_by_a seen_by_b heard_by_a heard_by_b c d wins_a wins_b =
-    level-ends a.end b.end (not-behind a b seen_by_a heard_by_a c wins_a) (not-behind b a seen_by_b heard_by_b d wins_b)
+pub both-end : (a b : AgentView) (read_by_a read_by_b : RaceKeys) (heard_by_a heard_by_b : List PeerAnswer)
+    → ComparesWith a read_by_a heard_by_a b → ComparesWith b read_by_b heard_by_b a
+    → outcome_by a read_by_a heard_by_a ≡ None → outcome_by b read_by_b heard_by_b ≡ None → a.end ≡ b.end
+both-end a b read_by_a read_by_b heard_by_a heard_by_b c d wins_a wins_b =
+    level-ends a.end b.end (not-behind a b read_by_a heard_by_a c wins_a) (not-behind b a read_by_b heard_by_b d wins_b)
 
-pub both-priority : (a b : AgentView) (seen_by_a seen_by_b : SnapshotFacts) (heard_by_a heard_by_b : List PeerAnswer)
-    → ComparesWith a seen_by_a heard_by_a b → ComparesWith b seen_by_b heard_by_b a
-    → outcome_of a seen_by_a heard_by_a ≡ None → outcome_of b seen_by_b heard_by_b ≡ None → IsSome a.end
+pub both-priority : (a b : AgentView) (read_by_a read_by_b : RaceKeys) (heard_by_a heard_by_b : List PeerAnswer)
+    → ComparesWith a read_by_a heard_by_a b → ComparesWith b read_by_b heard_by_b a
+    → outcome_by a read_by_a heard_by_a ≡ None → outcome_by b read_by_b heard_by_b ≡ None → IsSome a.end
     → a.tags.failover_priority ≡ b.tags.failover_priority
-both-priority a b seen_by_a seen_by_b heard_by_a heard_by_b c d wins_a wins_b there =
-    let ends = both-end a b seen_by_a seen_by_b heard_by_a heard_by_b c d wins_a wins_b in
+both-priority a b read_by_a read_by_b heard_by_a heard_by_b c d wins_a wins_b there =
+    let ends = both-end a b read_by_a read_by_b heard_by_a heard_by_b c d wins_a wins_b in
     let level : is_level a.end b.end ≡ true = ap (is_level a.end) (sym ends) ∙ level-self a.end there in
     let level' : is_level b.end a.end ≡ true = ap (λ t. is_level t a.end) (sym ends) ∙ level-self a.end there in
     level-priorities a.tags.failover_priority b.tags.failover_priority
-    (not-lower a b seen_by_a heard_by_a c wins_a level) (not-lower b a seen_by_b heard_by_b d wins_b level')
+    (not-lower a b read_by_a heard_by_a c wins_a level) (not-lower b a read_by_b heard_by_b d wins_b level')
 
 -- ---- what the rules give, one by one
-pub outcome-by : (view : AgentView) (seen : SnapshotFacts) (answers : List PeerAnswer) (racer : Racer)
-    (named : Bool) (writing further furthest preferred most : Option Ineligibility) → racer ≡ racer_of view seen
-    → named ≡ is_candidate view.me (failover_in seen) → writing ≡ other_writes racer answers
+pub outcome-by : (view : AgentView) (keys : RaceKeys) (answers : List PeerAnswer) (racer : Racer)
+    (named : Bool) (writing further furthest preferred most : Option Ineligibility) → racer ≡ racer_of view keys
+    → named ≡ is_candidate view.me keys.failover → writing ≡ other_writes racer answers
     → further ≡ ahead racer answers → furthest ≡ unless named further → preferred ≡ priority racer answers
-    → most ≡ unless named preferred → first_bar (writing ∷ furthest ∷ most ∷ []) ≡ outcome_of view seen answers
-outcome-by view seen answers racer named writing further furthest preferred most racing naming first second second'
+    → most ≡ unless named preferred → first_bar (writing ∷ furthest ∷ most ∷ []) ≡ outcome_by view keys answers
+outcome-by view keys answers racer named writing further furthest preferred most racing naming first second second'
     third third' =
-    let theirs : Racer = racer_of view seen in
+    let theirs : Racer = racer_of view keys in
     ap (λ o. first_bar (o ∷ furthest ∷ most ∷ [])) (first ∙ ap (λ (r : Racer). other_writes r answers) racing)
     ∙ ap (λ o. first_bar (other_writes theirs answers ∷ o ∷ most ∷ []))
     (second' ∙ ap (unless named) (second ∙ ap (λ (r : Racer). ahead r answers) racing)
     ∙ ap (λ n. unless n (ahead theirs answers)) naming)
     ∙ ap (λ o. first_bar
-    (other_writes theirs answers ∷ unless (is_candidate view.me (failover_in seen)) (ahead theirs answers) ∷ o ∷ []))
+    (other_writes theirs answers ∷ unless (is_candidate view.me keys.failover) (ahead theirs answers) ∷ o ∷ []))
     (third' ∙ ap (unless named) (third ∙ ap (λ (r : Racer). priority r answers) racing)
     ∙ ap (λ n. unless n (priority theirs answers)) naming)

@@ -12,4 +12,5 @@ pub use laws::{
     own_answers_never_count, the_first_declared_bars, two_that_compare_do_not_both_win,
     who_may_race, who_wins,
 };
-pub use outcome::{earlier, wins};
+pub use outcome::{earlier, wins, wins_by};
+pub use racer::RaceKeys;

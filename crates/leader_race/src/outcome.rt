@@ -1,20 +1,18 @@
 //! Who wins the race for a free leader key.
 ghost use Rattle.std.specs.Prelude.{◌≡◌, ◌&&◌};
 ghost use Rattle.std.specs.Result.{result_err};
-ghost use Rattle.leader_race.specs.Outcome.{racer_of, other_writes, ahead, priority, unless, outcome_of};
+ghost use Rattle.leader_race.specs.Outcome.{race_keys_in, racer_of, other_writes, ahead, priority, unless, outcome_by, outcome_of};
 ghost use Rattle.leader_race.specs.Peers.{counts, is_standby_if, is_compared, is_below, is_level, writes_elsewhere, is_ahead, is_preferred, bars_by, member_where, earlier, first_of};
 
 use crate::bars::{first_bar, judged};
 use crate::eligibility::may_fail_over;
-use crate::racer::{Racer, Rule};
+use crate::racer::{RaceKeys, Racer, Rule};
 use cluster_view::{AgentView, Snapshot, is_candidate, is_standby};
 use pat_base::{Ineligibility, Lsn, MemberId, PeerAnswer};
 use store_keys::SyncKey;
 
-/// Whether a member that may race wins, by the answers of the others, in whatever order they came; or what bars it, by the
-/// first rule that applies, and of the members that bar by that rule the one that the script declares first. An answer of
-/// its own, or of a member that may not fail over, doesn't count (Patroni's documentation, "YAML Configuration Settings",
-/// under "Tags"). Equal logs are decided by priority alone. It takes no memory.
+/// Whether a member that may race wins, by the answers of the others, in whatever order they came, and by this snapshot; or
+/// what bars it: [`wins_by`] its keys. It takes no memory.
 pub fn wins(
     view: &AgentView<'_>,
     seen: &Snapshot,
@@ -22,8 +20,22 @@ pub fn wins(
 ) -> Result<(), Ineligibility>
     ensures { result_err result ≡ outcome_of view.now seen.now answers.now }
 {
-    let racer = racer_of(view, seen);
-    let names_me = is_candidate(view.me, seen.failover());
+    wins_by(view, &race_keys_in(seen), answers)
+}
+
+/// Whether a member that may race wins, by the answers of the others, in whatever order they came; or what bars it, by the
+/// first rule that applies, and of the members that bar by that rule the one that the script declares first. An answer of
+/// its own, or of a member that may not fail over, doesn't count (Patroni's documentation, "YAML Configuration Settings",
+/// under "Tags"). Equal logs are decided by priority alone. It takes no memory.
+pub fn wins_by(
+    view: &AgentView<'_>,
+    keys: &RaceKeys,
+    answers: &[PeerAnswer],
+) -> Result<(), Ineligibility>
+    ensures { result_err result ≡ outcome_by view.now keys.now answers.now }
+{
+    let racer = racer_of(view, keys);
+    let names_me = is_candidate(view.me, keys.failover);
     judged(first_bar(&[
         other_writes(&racer, answers),
         unless(names_me, ahead(&racer, answers)),
@@ -31,15 +43,25 @@ pub fn wins(
     ]))
 }
 
+/// What a snapshot says of a race.
+fn race_keys_in(seen: &Snapshot) -> RaceKeys
+    ensures { result ≡ race_keys_in seen.now }
+{
+    RaceKeys {
+        failover: seen.failover(),
+        sync: seen.active_sync(),
+    }
+}
+
 /// What the answers are compared with.
-fn racer_of(view: &AgentView<'_>, seen: &Snapshot) -> Racer
-    ensures { result ≡ racer_of view.now seen.now }
+fn racer_of(view: &AgentView<'_>, keys: &RaceKeys) -> Racer
+    ensures { result ≡ racer_of view.now keys.now }
 {
     Racer {
         me: view.me,
         end: view.end,
         priority: view.tags.failover_priority,
-        sync: seen.active_sync(),
+        sync: keys.sync,
     }
 }
 

@@ -16,8 +16,9 @@ abbrev pub leads : MemberId → Option LeaderEntry → Bool
 leads member None = false
 leads member (Some leader) = leader.holder.number == member.number
 
--- how many bytes an end lies behind where the leader's log ends, and 0 where it is ahead, if both are known
+-- how many bytes a member's log ends behind where the leader's does, as that one told last: 0 where it ends
+-- further on, or the leader told nothing yet. Nothing where the member's own end isn't known, and only there
 abbrev pub lag_bytes : Option Lsn → Option Lsn → Option ℕ
-lag_bytes None end = None
-lag_bytes (Some status) None = None
+lag_bytes status None = None
+lag_bytes None (Some end) = Some 0
 lag_bytes (Some status) (Some end) = Some (status.position - end.position)

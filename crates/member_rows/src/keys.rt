@@ -38,12 +38,14 @@ pub fn leads(member: MemberId, leader: Option<LeaderEntry>) -> bool
     }
 }
 
-/// How many bytes an end lies behind where the leader's log ends, and 0 where it is ahead. `None` exactly where one of the two isn't known.
+/// How many bytes a member's log ends behind where the leader's does: 0 where it ends further on, or the leader told nothing
+/// yet, as in Patroni. `None` exactly where the member's own end isn't known.
 pub fn lag_bytes(status: Option<Lsn>, end: Option<Lsn>) -> Option<u64>
     ensures { result ≡ lag_bytes status end }
 {
     match (status, end) {
+        (_, None) => None,
+        (None, Some(_)) => Some(0),
         (Some(status), Some(end)) => Some(status.position.saturating_sub(end.position)),
-        _ => None,
     }
 }

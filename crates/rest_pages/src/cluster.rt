@@ -16,8 +16,8 @@ use std::alloc::{AllocError, Global};
 /// The body of `/cluster`: `members`, a list of those with a member key, in the order of their names; `pause`, where the cluster is
 /// paused; and `scope`, its name. Each member has its `host`, its `name`, its `role` (`leader`, `sync_standby` where the sync key names it,
 /// else `replica`), its `state`, its `timeline` where that is known, and, but for the leader, its `lag`: how many bytes its log ends behind
-/// the position that the leader told last, 0 where it is ahead, and `unknown` where one of the two isn't known. It fails only for want of
-/// memory.
+/// the position that the leader told last, 0 where it is ahead or the leader told none yet, and `unknown` where the member has no
+/// position. It fails only for want of memory.
 pub fn cluster_text(alloc: Global, snapshot: &Snapshot) -> Result<String, AllocError>
     ensures { IfOk result (λ text. string_bytes text ≡ compact_text (object (cluster_members snapshot.now))) }
 {

@@ -26,14 +26,16 @@ ghost use Rattle.member_rows.specs.Standbys.{names_standby};
 ghost use Rattle.member_rows.specs.declared.keys.ClusterKeys.{ClusterKeys};
 ghost use Rattle.member_rows.specs.declared.rows.Row.{Row};
 
-/// In `/cluster` the leader has no lag, and each other member has one: what its log lacks of the position that the leader told last, where
-/// both ends are known.
+/// In `/cluster` the leader has no lag, and each other member has one: what its log lacks of the position that the leader told last, 0
+/// where it told none yet, and `unknown` just where the member has no position.
 pub fn all_but_the_leader_lag()
     ensures leader { (keys : ClusterKeys) (row : Row) → leads row.member keys.leader ≡ true → get_member (codes "lag") (row_members keys row) ≡ None }
     ensures others { (keys : ClusterKeys) (row : Row) → leads row.member keys.leader ≡ false
         → get_member (codes "lag") (row_members keys row) ≡ Some (lag_data keys.status row.info.end) }
     ensures behind { (status end : Lsn) (lag : ℕ) → end.position + lag ≡ status.position → lag_data (Some status) (Some end) ≡ natural lag }
     ensures ahead { (status end : Lsn) → status.position ≤ end.position → lag_data (Some status) (Some end) ≡ natural 0 }
+    ensures untold { (end : Lsn) → lag_data None (Some end) ≡ natural 0 }
+    ensures unknown { (status : Option Lsn) → lag_data status None ≡ string (codes "unknown") }
 {}
 
 /// In `/cluster` a member is told as the leader where the leader key names it, and else as a synchronous standby just where the sync key
