@@ -1,4 +1,4 @@
-//! Connections as text: a line each, in which `\r`, `\n` and `\xff` stand for one byte, as in a literal of Rust.
+//! Connections as text: a line each, in which `\r`, `\n`, `\t` and `\xff` with any two digits stand for one byte, as in a literal of Rust.
 use std::alloc::{AllocError, Global};
 
 /// The bytes that are asked on each connection.
@@ -13,7 +13,7 @@ pub fn connections_in(alloc: Global, text: &str) -> Result<Vec<Vec<u8>>, AllocEr
 }
 
 /// The bytes that a line stands for.
-fn bytes_of(alloc: Global, line: &str) -> Result<Vec<u8>, AllocError> {
+pub fn bytes_of(alloc: Global, line: &str) -> Result<Vec<u8>, AllocError> {
     let mut pieces = line.split('\\');
     let mut bytes = Vec::new(alloc);
     if let Some(front) = pieces.next() {
@@ -35,10 +35,19 @@ fn escaped_byte(piece: &str) -> (u8, &str) {
     if let Some(rest) = piece.strip_prefix("n") {
         return (b'\n', rest);
     }
-    match piece.strip_prefix("xff") {
-        Some(rest) => (0xff, rest),
+    if let Some(rest) = piece.strip_prefix("t") {
+        return (b'\t', rest);
+    }
+    match piece.strip_prefix("x").and_then(byte_by_digits) {
+        Some(found) => found,
         None => (b'\\', piece),
     }
+}
+
+/// The byte of the two hexadecimal digits that a text begins with, and the rest.
+fn byte_by_digits(text: &str) -> Option<(u8, &str)> {
+    let (digits, rest) = text.split_at_checked(2)?;
+    Some((u8::from_str_radix(digits, 16).ok()?, rest))
 }
 
 /// What is answered on a connection, as a line.

@@ -8,6 +8,6 @@ mod faults;
 mod repeats;
 
 pub use case::{Case, Turn, case_of, text_or};
-pub use connections::{connections_in, line_of};
+pub use connections::{bytes_of, connections_in, line_of};
 pub use difference::{Difference, first_difference, lines_more};
 pub use faults::failing;
