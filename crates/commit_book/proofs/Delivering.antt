@@ -24,12 +24,12 @@ use Rattle.lease_model.specs.Showing.{granted_events, refused_events, read_event
 use Rattle.lease_model.specs.Stores.{IsSpannedTxn, is_granted as is_grant}
 use Rattle.lease_model.proofs.Tools.{both, put-all}
 use Rattle.commit_actions.specs.Actions.{Action, Create, Decide, Note, OtherWrite, Release, Renew, SendSnapshot, IsAllowed, IsNumbered, MayRenew, is_granted}
-use Rattle.commit_book.specs.Books.{IsShown, AreAllowed, book_of}
+use Rattle.commit_showing.specs.Books.{IsShown, AreAllowed, book_of}
 use Rattle.commit_actions.specs.Flights.{Flying}
 use Rattle.commit_actions.specs.Past.{Setup, Past, VolatileState, OtherQuery, claim_request, publish_request, query_of, query_in_flight_of, is_keyless, is_leaderless, leader_revision, past_over, state_of}
-use Rattle.commit_book.specs.Showing.{IsOtherTxn, carries_set, decided_events}
+use Rattle.commit_showing.specs.Showing.{IsOtherTxn, carries_set, decided_events}
 use Rattle.commit_actions.specs.States.{State}
-use Rattle.commit_book.proofs.Showing.{claim-shown, publish-shown, create-shown, renew-shown, other-shown, release-shown, answered-shown, refused-shown, snapshot-shown}
+use Rattle.commit_showing.proofs.ShownMessages.{claim-shown, publish-shown, create-shown, renew-shown, other-shown, release-shown, answered-shown, refused-shown, snapshot-shown}
 use Rattle.commit_book.specs.Deliveries.{transition_of, granted_if, granted_actions, refused_action, ComparesNoSync, MayBeGranted, IsDelivered}
 use Rattle.commit_book.specs.Flights.{flying_if, IsSameFlight, IsSameBook}
 use Rattle.commit_book.specs.Keys.{IsSameKeys}

@@ -1,11 +1,3 @@
-pub mod Fronts
-pub mod Showing
-pub mod FromLease
-pub mod Renewals
-pub mod Asides
-pub mod Claims
-pub mod Inside
-pub mod Publishing
 pub mod Keys
 pub mod SyncKeys
 pub mod Flights

@@ -15,9 +15,9 @@ use Rattle.event_book.specs.declared.message.Body.TheVariants as bodies
 use Rattle.event_book.specs.Facts.{Facts, facts_over}
 use Rattle.lease_model.specs.Showing.{granted_events}
 use Rattle.commit_actions.specs.Actions.{Action, Create, Decide, Note, OtherWrite, Release, Renew, SendSnapshot, IsNumbered}
-use Rattle.commit_book.specs.Books.{Transition, AreAllowed, book_of}
+use Rattle.commit_showing.specs.Books.{Transition, AreAllowed, book_of}
 use Rattle.commit_actions.specs.Past.{Setup, Past, VolatileState, past_over}
-use Rattle.commit_book.specs.Showing.{carries_set, decided_events, event_at}
+use Rattle.commit_showing.specs.Showing.{carries_set, decided_events, event_at}
 use Rattle.commit_actions.specs.States.{State}
 use Rattle.commit_book.specs.Flights.{IsSameBook}
 

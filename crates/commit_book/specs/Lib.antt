@@ -1,11 +1,3 @@
-pub mod Books
-pub mod Showing
-pub mod ShownActions
-pub mod FromLease
-pub mod Renewals
-pub mod Changes
-pub mod Order
-pub mod Requests
 pub mod Deliveries
 pub mod Example
 pub mod Flights

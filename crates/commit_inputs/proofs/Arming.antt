@@ -18,7 +18,7 @@ use Rattle.lease_model.proofs.Tools.{both, some-is}
 use Rattle.commit_actions.specs.Inputs.{ArmsAlone}
 use Rattle.commit_actions.specs.Past.{leader_revision}
 use Rattle.commit_actions.specs.States.{State}
-use Rattle.commit_book.proofs.FromLease.{grant-alone, grant-present}
+use Rattle.commit_showing.proofs.FromLease.{grant-alone, grant-present}
 use Rattle.lease_parts.specs.Declaring.{declared_of, works_of}
 use Rattle.lease_parts.specs.Kept.{MeetsPremises}
 use Rattle.lease_parts.specs.Volatile as run_volatile

@@ -22,7 +22,7 @@ use Rattle.commit_actions.specs.Keys.{strict_quorum}
 use Rattle.commit_actions.specs.Flights.{Flying, SyncRequest}
 use Rattle.commit_actions.specs.Inputs.{IsGivenByLease, Sending}
 use Rattle.commit_actions.specs.Past.{Past, Setup, VolatileState, confirmers_in, confirmers_of, past_over}
-use Rattle.commit_book.proofs.Fronts.{past-append}
+use Rattle.commit_showing.proofs.Fronts.{past-append}
 use Rattle.commit_servers.specs.Acting.{Fits}
 use Rattle.commit_servers.specs.Matching.{live_in}
 use Rattle.commit_servers.specs.Sound.{WaitsForMembers}
@@ -30,7 +30,7 @@ use Rattle.run_promise.specs.Members.{member_count}
 use Rattle.lease_inputs.proofs.InputMachines.{Seen as MachineSeen}
 use Rattle.lease_inputs.proofs.InputSeen.{found-of}
 use Rattle.run_promise.proofs.Upholding.{over-append}
-use Rattle.commit_book.proofs.Asides.{once-behind, once-none}
+use Rattle.commit_showing.proofs.Asides.{once-behind, once-none}
 use Rattle.commit_parts.specs.Bridged.{CommitsBridged}
 use Rattle.commit_parts.specs.Reading.{past_of, setup_of, state_of_run, volatile_of}
 use Rattle.commit_outputs.proofs.Alone.{alone-moves}

@@ -45,13 +45,13 @@ use Rattle.commit_actions.proofs.Counting.{none-less}
 use Rattle.commit_actions.specs.Stored.{quorum_written}
 use Rattle.commit_actions.specs.Keys.{strict_quorum}
 use Rattle.commit_actions.specs.Actions.{send}
-use Rattle.commit_book.specs.Books.{AllLeaveCommits}
+use Rattle.commit_showing.specs.Books.{AllLeaveCommits}
 use Rattle.commit_actions.specs.Flights.{Flying, Requested, SyncRequest}
 use Rattle.commit_actions.specs.Functions.{forget}
 use Rattle.commit_actions.specs.Inputs.{IsGivenByLease, Sending}
 use Rattle.commit_actions.specs.States.{Reaches}
 use Rattle.commit_actions.specs.Past.{position_of, publish_request, LeaseQuery, CarryQuery, OtherQuery, Past, Query, Setup, SyncQuery, confirmers_of, is_holder, past_after, past_over, query_in_flight_of, query_of, request_in_flight_of, was_live_by_message, was_live_by_txn}
-use Rattle.commit_book.proofs.Fronts.{past-append}
+use Rattle.commit_showing.proofs.Fronts.{past-append}
 use Rattle.commit_servers.specs.Acting.{Fits}
 use Rattle.commit_servers.specs.Matching.{live_in}
 use Rattle.commit_servers.proofs.Beginning.{fits-aside}
@@ -59,12 +59,12 @@ use Rattle.lease_parts.specs.Bridged.{KnowsItself}
 use Rattle.lease_parts.specs.Declaring.{declared_of}
 use Rattle.run_promise.specs.Members.{member_count}
 use Rattle.run_promise.proofs.Upholding.{over-append}
-use Rattle.commit_book.specs.Changes.{AllLeaveOrder}
-use Rattle.commit_book.specs.Order.{IsConfirmer}
-use Rattle.commit_book.specs.Requests.{MayBePublished, PublishesAwaited}
-use Rattle.commit_book.proofs.Asides.{leave-then, once-none}
-use Rattle.commit_book.proofs.Inside.{Seen, all-aside, seen_of}
-use Rattle.commit_book.proofs.Publishing.{publication, strict-publication}
+use Rattle.commit_showing.specs.Changes.{AllLeaveOrder}
+use Rattle.commit_showing.specs.Order.{IsConfirmer}
+use Rattle.commit_showing.specs.Requests.{MayBePublished, PublishesAwaited}
+use Rattle.commit_showing.proofs.Asides.{leave-then, once-none}
+use Rattle.commit_showing.proofs.Inside.{Seen, all-aside, seen_of}
+use Rattle.commit_showing.proofs.Publishing.{publication, strict-publication}
 use Rattle.sync_state.specs.Standbys.{noted_position}
 use Rattle.commit_parts.specs.Ordered.{AllInOrder, AsksInOrder, noted_by}
 use Rattle.commit_parts.proofs.Ordering.{order-then}

@@ -28,7 +28,7 @@ use Rattle.cluster_model.specs.State.{Cluster}
 use Rattle.lease_model.proofs.Tools.{both, put-here, put-there}
 use Rattle.commit_actions.specs.Actions.{Input}
 use Rattle.commit_actions.specs.Past.{Past, Setup, VolatileState, past_over}
-use Rattle.commit_book.proofs.Fronts.{past-append}
+use Rattle.commit_showing.proofs.Fronts.{past-append}
 use Rattle.commit_servers.specs.Acting.{Fits}
 use Rattle.commit_servers.specs.Matching.{IsLiveAhead, live_in, live_now}
 use Rattle.run_promise.specs.Members.{member_count}

@@ -37,11 +37,11 @@ use Rattle.cluster_model.specs.State.{Cluster}
 use Rattle.lease_model.specs.Past as lease_past
 use Rattle.lease_model.proofs.Tools.{none-some, some-is}
 use Rattle.commit_actions.specs.Actions.{IsNumbered, Lose, Note}
-use Rattle.commit_book.specs.Books.{IsShown}
+use Rattle.commit_showing.specs.Books.{IsShown}
 use Rattle.commit_actions.specs.Inputs.{AgentInput}
 use Rattle.commit_actions.specs.Past.{VolatileState}
-use Rattle.commit_book.specs.Showing.{IsIdle}
-use Rattle.commit_book.proofs.Showing.{idle-shown}
+use Rattle.commit_showing.specs.Showing.{IsIdle}
+use Rattle.commit_showing.proofs.Showing.{idle-shown}
 use Rattle.lease_parts.specs.Declaring.{declared_of, works_of}
 use Rattle.run_promise.specs.Members.{member_count, IsDeclared}
 use Rattle.lease_parts.specs.Kept.{IsKept}

@@ -57,7 +57,7 @@ use Rattle.commit_book.proofs.Hearing.{heard-lease, heard-snapshot, heard-write}
 use Rattle.run_promise.specs.Members.{member_count}
 use Rattle.lease_parts.specs.Waiting.{IsAddressed, IsAnswer, IsPeerBody}
 use Rattle.lease_hearing.proofs.InputHears.{message-is, unpaused-told}
-use Rattle.commit_book.specs.Order.{NamesMembers}
+use Rattle.commit_showing.specs.Order.{NamesMembers}
 use Rattle.commit_parts.specs.Bridged.{CommitsBridged}
 use Rattle.commit_parts.specs.Modes.{IsSynchronousEntry, IsSynchronousTold, IsSynchronousValue}
 use Rattle.commit_parts.specs.Reading.{past_of, state_of_run}

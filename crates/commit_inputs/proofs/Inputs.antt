@@ -39,14 +39,14 @@ use Rattle.lease_model.specs.Leases.{LeaderKey}
 use Rattle.lease_model.specs.Past as lease_past
 use Rattle.lease_model.proofs.Tools.{none-some, put-all}
 use Rattle.commit_actions.specs.Actions.{Input, send}
-use Rattle.commit_book.specs.Books.{AllLeaveCommits, ChangeOnce, IsShown}
+use Rattle.commit_showing.specs.Books.{AllLeaveCommits, ChangeOnce, IsShown}
 use Rattle.commit_actions.specs.Functions.{forget}
 use Rattle.commit_actions.specs.Inputs.{AgentInput, Arming, ChangingRequired, CreatingLeader, Does, HearingAnswer, Idling, IsGivenByLease, Promoting, Publishing, Racing, Sending, SettlingRequired, TakingOver, WinningRace}
 use Rattle.commit_actions.specs.Keys.{Confirmers, Nobody, strict_quorum}
 use Rattle.commit_actions.specs.Past.{Past, VolatileState, is_holder, key_holder, leader_revision, confirmers_in, confirmers_of, past_after, past_over}
-use Rattle.commit_book.specs.Showing.{AreOwn}
+use Rattle.commit_showing.specs.Showing.{AreOwn}
 use Rattle.commit_actions.specs.States.{Agent, State}
-use Rattle.commit_book.proofs.Showing.{input-shown}
+use Rattle.commit_showing.proofs.Showing.{input-shown}
 use Rattle.commit_servers.specs.Acting.{Fits}
 use Rattle.commit_servers.specs.Matching.{live_in}
 use Rattle.lease_parts.specs.Declaring.{declared_of, works_of}
@@ -56,7 +56,7 @@ use Rattle.lease_hearing.specs.Hearing.{IsHeardWell}
 use Rattle.lease_inputs.proofs.InputKinds.{IsOpening}
 use Rattle.cluster_model.proofs.Places.{get-elsewhere, get-here}
 use Rattle.commit_parts.specs.Bridged.{CommitsBridged}
-use Rattle.commit_book.specs.Changes.{AllLeaveOrder, ChangeOrderOnce}
+use Rattle.commit_showing.specs.Changes.{AllLeaveOrder, ChangeOrderOnce}
 use Rattle.commit_parts.specs.Ordered.{AllInOrder}
 use Rattle.commit_parts.specs.Reading.{agent_now, past_of, setup_of, state_of_run, volatile_of}
 use Rattle.commit_parts.proofs.Agents.{volatile-put}

@@ -7,13 +7,13 @@ use Rattle.event_book.specs.declared.event.MessageEvent.TheVariants.{Delivered}
 use Rattle.cluster_model.specs.Cluster.{cluster_after}
 use Rattle.cluster_model.specs.Parts.{event_of}
 use Rattle.cluster_model.specs.State.{Cluster}
-use Rattle.commit_book.specs.Books.{AllLeaveCommits}
+use Rattle.commit_showing.specs.Books.{AllLeaveCommits}
 use Rattle.commit_actions.specs.Flights.{Flying}
 use Rattle.commit_actions.specs.Functions.{forget}
 use Rattle.commit_actions.specs.Past.{Past, past_after}
-use Rattle.commit_book.specs.Showing.{AreOwn}
+use Rattle.commit_showing.specs.Showing.{AreOwn}
 use Rattle.lease_inputs.proofs.InputKinds.{IsOpening}
-use Rattle.commit_book.specs.Changes.{LeavesOrder}
+use Rattle.commit_showing.specs.Changes.{LeavesOrder}
 use Rattle.commit_parts.specs.Ordered.{HappensInOrder}
 use Rattle.commit_outputs.proofs.Covering.{NoneAbove, told_of}
 

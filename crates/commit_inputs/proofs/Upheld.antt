@@ -47,11 +47,11 @@ use Rattle.lease_model.proofs.Tools.{some-is}
 use Rattle.lease_book.specs.Groups.{IsOfMembers}
 use Rattle.commit_actions.specs.Keys.{strict_quorum}
 use Rattle.commit_actions.specs.Actions.{IsNumbered}
-use Rattle.commit_book.specs.Books.{AllLeaveCommits, KeepsNow}
+use Rattle.commit_showing.specs.Books.{AllLeaveCommits, KeepsNow}
 use Rattle.event_book.specs.Premises.{runs_after}
 use Rattle.commit_actions.specs.Past.{Past, past_after, past_over}
 use Rattle.commit_actions.specs.States.{Agent, State}
-use Rattle.commit_book.proofs.Fronts.{aside-front, keeps-aside}
+use Rattle.commit_showing.proofs.Fronts.{aside-front, keeps-aside}
 use Rattle.commit_book.specs.Flights.{AreCausal}
 use Rattle.commit_book.proofs.Groups.{own-causal}
 use Rattle.commit_servers.proofs.Kept.{keeps-now}
@@ -91,9 +91,9 @@ use Rattle.commit_parts.proofs.Starting.{runs-now}
 use Rattle.commit_parts.proofs.Transitions.{order-behind, past-more, state_behind, mode-back}
 use Rattle.commit_parts.specs.Ordered.{AllInOrder}
 use Rattle.commit_parts.proofs.Ordering.{order-front}
-use Rattle.commit_book.specs.Changes.{AllLeaveOrder}
-use Rattle.commit_book.specs.Order.{IsAwaiting, NamesMembers}
-use Rattle.commit_book.proofs.Inside.{Seen, all-aside, aside-front as order-aside-front, order-as, seen_of}
+use Rattle.commit_showing.specs.Changes.{AllLeaveOrder}
+use Rattle.commit_showing.specs.Order.{IsAwaiting, NamesMembers}
+use Rattle.commit_showing.proofs.Inside.{Seen, all-aside, aside-front as order-aside-front, order-as, seen_of}
 use Rattle.commit_inputs.proofs.Quietly.{AsksQuietly, covered-quietly, quietly-ordered, unasking-quietly}
 use Rattle.commit_outputs.proofs.Covering.{IsCarried, carried}
 use Rattle.commit_outputs.proofs.Page.{PassesNone, covered-passes, none-passes}

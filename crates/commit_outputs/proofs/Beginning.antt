@@ -24,9 +24,9 @@ use Rattle.cluster_model.specs.State.{Cluster}
 use Rattle.wal_model.specs.Lacking.{lacks_in}
 use Rattle.lease_model.proofs.Tools.{none-some, some-is}
 use Rattle.commit_actions.specs.Actions.{Note}
-use Rattle.commit_book.specs.Books.{IsShown}
+use Rattle.commit_showing.specs.Books.{IsShown}
 use Rattle.commit_actions.specs.Past.{Past, Setup, VolatileState, past_over}
-use Rattle.commit_book.proofs.Showing.{idle-shown}
+use Rattle.commit_showing.proofs.Showing.{idle-shown}
 use Rattle.commit_servers.specs.Matching.{IsLiveAhead, IsSameServers, live_in, live_now}
 use Rattle.commit_servers.specs.Sound.{AreServersSound}
 use Rattle.commit_servers.proofs.Beginning.{begins-ahead}

@@ -44,14 +44,14 @@ use Rattle.cluster_model.specs.Requests.{config_text_of, told_kind}
 use Rattle.cluster_model.specs.State.{Cluster}
 use Rattle.lease_model.specs.Leases.{LeaderKey}
 use Rattle.lease_model.proofs.Tools.{none-some, put-all}
-use Rattle.commit_book.specs.Books.{AllLeaveCommits}
+use Rattle.commit_showing.specs.Books.{AllLeaveCommits}
 use Rattle.commit_actions.specs.Flights.{Flying}
 use Rattle.commit_actions.specs.Past.{Past, create_query, flying_of, past_after, past_over, query_in_flight_of, query_of, renew_query, request_in_flight_of, was_live_by_message, was_live_by_txn}
-use Rattle.commit_book.specs.Showing.{AreOwn}
-use Rattle.commit_book.proofs.Fronts.{past-append}
+use Rattle.commit_showing.specs.Showing.{AreOwn}
+use Rattle.commit_showing.proofs.Fronts.{past-append}
 use Rattle.run_promise.proofs.Upholding.{over-append}
-use Rattle.commit_book.specs.Changes.{AllLeaveOrder}
-use Rattle.commit_book.proofs.Asides.{leave-then}
+use Rattle.commit_showing.specs.Changes.{AllLeaveOrder}
+use Rattle.commit_showing.proofs.Asides.{leave-then}
 use Rattle.commit_parts.specs.Ordered.{AllInOrder, AsksInOrder}
 use Rattle.commit_parts.proofs.Ordering.{order-then}
 

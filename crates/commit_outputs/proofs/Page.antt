@@ -37,12 +37,12 @@ use Rattle.commit_servers.proofs.Kept.{others-by}
 use Rattle.commit_servers.proofs.Matching.{same-by}
 use Rattle.commit_servers.proofs.Keeping.{sound-by}
 use Rattle.cluster_model.proofs.Places.{get-here}
-use Rattle.commit_book.specs.Changes.{ChangeOrderOnce}
+use Rattle.commit_showing.specs.Changes.{ChangeOrderOnce}
 use Rattle.commit_outputs.proofs.Covering.{IsCarried, NoneAbove, Told, told_of}
 use Rattle.event_book.specs.Logs.{logs_in}
 use Rattle.event_book.specs.Required.{required_in, confirmed_in}
-use Rattle.commit_book.specs.Showing.{AreOwn}
-use Rattle.commit_book.specs.Books.{AllLeaveCommits}
+use Rattle.commit_showing.specs.Showing.{AreOwn}
+use Rattle.commit_showing.specs.Books.{AllLeaveCommits}
 use Rattle.pat_base.specs.declared.member_set.MemberSet.{MemberSet}
 use Rattle.std.proofs.lemmas.Bool.Decides.{nat_tests}
 use Rattle.event_book.specs.Writers.{writes_in}

@@ -21,7 +21,7 @@ use Rattle.cluster_model.specs.Parts.{event_of, events_of}
 use Rattle.cluster_model.specs.State.{Cluster}
 use Rattle.commit_actions.specs.Actions.{Cease}
 use Rattle.commit_actions.specs.Past.{Past, Setup, past_after}
-use Rattle.commit_book.proofs.Showing.{cease-shown}
+use Rattle.commit_showing.proofs.ShownServers.{cease-shown}
 use Rattle.commit_servers.specs.Acting.{Fits}
 use Rattle.commit_servers.specs.Matching.{IsLiveAhead, IsSameServers, live_in, live_now}
 use Rattle.commit_servers.specs.Sound.{AreServersSound}

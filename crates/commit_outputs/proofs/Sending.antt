@@ -30,7 +30,7 @@ use Rattle.commit_actions.specs.Actions.{AnswerRace, IsNumbered, Lose}
 use Rattle.commit_actions.specs.Flights.{Flying}
 use Rattle.commit_actions.specs.Past.{Past, Setup, flying_of, past_over, race_answer_of, state_of}
 use Rattle.commit_actions.specs.States.{State}
-use Rattle.commit_book.proofs.Showing.{lost-shown, race-answer-shown}
+use Rattle.commit_showing.proofs.ShownMessages.{lost-shown, race-answer-shown}
 use Rattle.commit_servers.specs.Acting.{Fits}
 use Rattle.commit_parts.specs.Reading.{volatile_of}
 use Rattle.commit_outputs.proofs.Covering.{failsafe-says, SaysNothing, ask-says, quiet-says}

@@ -21,10 +21,11 @@ use Rattle.cluster_model.specs.Parts.{event_of, events_of}
 use Rattle.cluster_model.specs.State.{Cluster}
 use Rattle.lease_model.proofs.Tools.{both, some-is}
 use Rattle.commit_actions.specs.Actions.{End, Note}
-use Rattle.commit_book.specs.Books.{IsShown}
+use Rattle.commit_showing.specs.Books.{IsShown}
 use Rattle.commit_actions.specs.Past.{Past, Setup, VolatileState, machine_of, state_of}
 use Rattle.commit_actions.specs.States.{Machine}
-use Rattle.commit_book.proofs.Showing.{idle-shown, members-shown}
+use Rattle.commit_showing.proofs.ShownServers.{members-shown}
+use Rattle.commit_showing.proofs.Showing.{idle-shown}
 use Rattle.commit_servers.specs.Acting.{Fits}
 use Rattle.commit_servers.specs.Matching.{live_now}
 use Rattle.commit_servers.proofs.Acting.{writes-at}

@@ -16,13 +16,13 @@ ghost use Rattle.cluster_model.specs.Messages.{begin_events, output_events, rece
 ghost use Rattle.cluster_model.specs.Parts.{each};
 ghost use Rattle.cluster_model.specs.State.{Cluster};
 ghost use Rattle.commit_actions.specs.Actions.{IsNumbered};
-ghost use Rattle.commit_book.specs.Books.{AllLeaveCommits};
+ghost use Rattle.commit_showing.specs.Books.{AllLeaveCommits};
 ghost use Rattle.commit_actions.specs.Past.{Past, Setup, VolatileState, past_over, state_of};
-ghost use Rattle.commit_book.specs.Showing.{AreOwn};
+ghost use Rattle.commit_showing.specs.Showing.{AreOwn};
 ghost use Rattle.commit_servers.specs.Acting.{Fits};
 ghost use Rattle.commit_servers.specs.Matching.{IsLiveAhead, IsSameServers, live_in};
 ghost use Rattle.commit_servers.specs.Sound.{AreServersSound};
-ghost use Rattle.commit_book.specs.Changes.{AllLeaveOrder};
+ghost use Rattle.commit_showing.specs.Changes.{AllLeaveOrder};
 ghost use Rattle.commit_parts.specs.Moving.{Moves, MovesFrom};
 ghost use Rattle.commit_parts.specs.Reading.{volatile_of};
 ghost use Rattle.commit_outputs.specs.Answering.{AnswersNone, LogEndsAt};

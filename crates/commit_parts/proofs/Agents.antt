@@ -17,7 +17,7 @@ use Rattle.lease_model.proofs.Tools.{none-some, put-all, some-is}
 use Rattle.commit_actions.specs.Actions.{Kill}
 use Rattle.commit_actions.specs.Past.{Past, Setup, VolatileState, past_after}
 use Rattle.commit_actions.specs.States.{Agent}
-use Rattle.commit_book.proofs.Showing.{killed-shown}
+use Rattle.commit_showing.proofs.ShownServers.{killed-shown}
 use Rattle.commit_servers.specs.Acting.{Fits}
 use Rattle.commit_servers.proofs.Beginning.{fits-agents, fits-aside}
 use Rattle.commit_servers.proofs.Kept.{change-once}

@@ -34,7 +34,7 @@ use Rattle.lease_model.proofs.Tools.{put-there}
 use Rattle.agent_commit_law.specs.Committing.{IsSynchronousBody, IsSynchronousTxn}
 use Rattle.commit_actions.specs.Keys.{strict_quorum}
 use Rattle.commit_actions.specs.Actions.{Action, IsNumbered}
-use Rattle.commit_book.specs.Books.{Transition}
+use Rattle.commit_showing.specs.Books.{Transition}
 use Rattle.commit_actions.specs.Past.{claim_request, OtherQuery, Past, Setup, VolatileState, past_after, past_over}
 use Rattle.commit_actions.specs.States.{State}
 use Rattle.commit_book.specs.Deliveries.{ComparesNoSync, IsDelivered, MayBeGranted, granted_if, is_told}
@@ -59,8 +59,8 @@ use Rattle.commit_parts.specs.Moving.{volatile_last}
 use Rattle.commit_parts.specs.Ordered.{AllInOrder, HappensInOrder}
 use Rattle.event_book.specs.declared.event.StoreEvent.TheVariants as stores
 use Rattle.commit_book.proofs.Flights.{request-flying}
-use Rattle.commit_book.specs.Changes.{EachChangesOnce}
-use Rattle.commit_book.proofs.Claims.{claim-named}
+use Rattle.commit_showing.specs.Changes.{EachChangesOnce}
+use Rattle.commit_showing.proofs.Claims.{claim-named}
 
 -- ---- deliveries as they go
 fits-asides : (past : Past) (cluster : Cluster) (events : List Event) (volatile_states : ℕ → VolatileState)

@@ -25,7 +25,7 @@ use Rattle.event_book.specs.Premises.{IsHandsOffKind}
 use Rattle.lease_law.proofs.Runs.{head-is, none-more}
 use Rattle.commit_actions.specs.Actions.{Lose}
 use Rattle.commit_actions.specs.Past.{Setup}
-use Rattle.commit_book.proofs.Showing.{lost-shown}
+use Rattle.commit_showing.proofs.ShownMessages.{lost-shown}
 use Rattle.commit_servers.specs.Happening.{MayHappen}
 use Rattle.commit_servers.proofs.Beginning.{fits-aside}
 use Rattle.commit_servers.proofs.Commits.{commit-may}

@@ -16,10 +16,10 @@ use Rattle.cluster_model.specs.Starting.{cluster_of, first_agent, options_of}
 use Rattle.lease_model.specs.Past as lease_past
 use Rattle.lease_model.proofs.Tools.{none-some, some-is}
 use Rattle.commit_actions.specs.Actions.{fresh_agent}
-use Rattle.commit_book.specs.Books.{first_volatile_states}
+use Rattle.commit_showing.specs.Books.{first_volatile_states}
 use Rattle.commit_actions.specs.Carried.{IsSound}
 use Rattle.commit_actions.specs.Past.{VolatileState, state_of}
-use Rattle.commit_book.proofs.Fronts.{inv-first}
+use Rattle.commit_showing.proofs.Fronts.{inv-first}
 use Rattle.commit_book.proofs.Groups.{book-first}
 use Rattle.commit_servers.specs.Acting.{Fits}
 use Rattle.commit_servers.proofs.First.{bytes-first, fits-first}

@@ -18,7 +18,7 @@ use Rattle.lease_book.proofs.Hearing.{heard-asked}
 use Rattle.commit_actions.specs.Actions.{IsAllowed, IsNumbered, SendSnapshot}
 use Rattle.commit_actions.specs.Past.{is_keyless, is_leaderless, leader_revision}
 use Rattle.commit_actions.specs.States.{Agent, is_ready}
-use Rattle.commit_book.proofs.FromLease.{grant-absent, grant-free, same-lease}
+use Rattle.commit_showing.proofs.FromLease.{grant-absent, grant-free, same-lease}
 use Rattle.lease_parts.specs.Declaring.{declared_of}
 use Rattle.run_promise.specs.Members.{member_count}
 use Rattle.lease_parts.specs.Volatile as run_volatile

@@ -9,7 +9,7 @@ use Rattle.event_book.specs.Kinds.{AllAre}
 use Rattle.lease_law.proofs.Showing.{past-append as lease-append}
 use Rattle.commit_actions.specs.Keys.{strict_quorum}
 use Rattle.commit_actions.specs.Past.{Past, Setup, past_after, past_over}
-use Rattle.commit_book.proofs.Fronts.{past-append}
+use Rattle.commit_showing.proofs.Fronts.{past-append}
 use Rattle.commit_actions.specs.States.{State}
 use Rattle.commit_book.specs.Flights.{AreCausal}
 use Rattle.commit_servers.specs.Acting.{Fits}

@@ -14,10 +14,10 @@ use Rattle.lease_law.proofs.Runs.{assoc}
 use Rattle.lease_law.proofs.Showing.{past-append as lease-append}
 use Rattle.commit_actions.specs.Keys.{strict_quorum}
 use Rattle.commit_actions.specs.Actions.{Action, IsAllowed}
-use Rattle.commit_book.specs.Books.{AreAllowed, IsShown, Transition, book_of}
+use Rattle.commit_showing.specs.Books.{AreAllowed, IsShown, Transition, book_of}
 use Rattle.commit_actions.specs.Past.{Past, Setup, VolatileState, past_over, state_of}
 use Rattle.commit_actions.specs.States.{State}
-use Rattle.commit_book.proofs.Fronts.{past-append}
+use Rattle.commit_showing.proofs.Fronts.{past-append}
 use Rattle.commit_book.specs.Flights.{AreCausal}
 use Rattle.commit_servers.specs.Acting.{Fits}
 use Rattle.commit_servers.specs.Happening.{LeavesSound}
@@ -36,7 +36,7 @@ use Rattle.commit_parts.specs.Reading.{past_of, setup_of, state_of_run, volatile
 use Rattle.commit_parts.proofs.Numbers.{StayNumbered, ask-numbered, numbered-last}
 use Rattle.commit_parts.proofs.Over.{AskSynchronously, StoreFits, store-over, strict-front}
 use Rattle.commit_parts.specs.Ordered.{AllInOrder}
-use Rattle.commit_book.specs.Changes.{EachChangesOnce}
+use Rattle.commit_showing.specs.Changes.{EachChangesOnce}
 use Rattle.commit_parts.proofs.Transitions.{FitsBehind, past-more, state_behind, upheld-by}
 use Rattle.commit_parts.specs.Moving.{volatile_last, MovesFrom, Moves}
 

@@ -7,12 +7,12 @@ use Rattle.event_book.specs.declared.message.Body.TheVariants as bodies
 use Rattle.event_book.specs.Functions.{put_at}
 use Rattle.lease_model.proofs.Tools.{none-some, put-all, some-is}
 use Rattle.commit_actions.specs.Actions.{Accept, Action, Cease, Clone, Commit, Confirm, Decide, End, Input, IsAllowed, IsNumbered, Kill, Receive, Rewind, Start, Wipe, act, fresh_agent, machine_after}
-use Rattle.commit_book.specs.Books.{AreAllowed, Transition, book_of}
+use Rattle.commit_showing.specs.Books.{AreAllowed, Transition, book_of}
 use Rattle.commit_actions.specs.Inputs.{AgentInput, IsLawful}
 use Rattle.commit_actions.specs.Past.{Past, Setup, VolatileState, past_over, state_of}
 use Rattle.commit_actions.specs.States.{Agent, Machine, State}
 use Rattle.commit_law.proofs.Deciding.{decided-members}
-use Rattle.commit_book.proofs.Fronts.{past-append}
+use Rattle.commit_showing.proofs.Fronts.{past-append}
 use Rattle.commit_parts.specs.Agents.{IsAskNumbered}
 use Rattle.commit_parts.specs.Moving.{volatile_last}
 

@@ -31,7 +31,7 @@ use Rattle.commit_book.proofs.Groups.{book-by}
 use Rattle.commit_book.proofs.Keys.{sync-present}
 use Rattle.summary_model.specs.Claims.{KeepMode}
 use Rattle.commit_parts.specs.Agents.{AreSynchronous, AsksAreNumbered, IsAskNumbered, TellsMembers}
-use Rattle.commit_book.specs.Order.{NamesMembers}
+use Rattle.commit_showing.specs.Order.{NamesMembers}
 use Rattle.commit_parts.specs.Modes.{IsSynchronous}
 use Rattle.commit_parts.proofs.Flights.{HoldsAsSent, all-after}
 use Rattle.commit_parts.proofs.Modes.{synchronous-by}

@@ -29,7 +29,7 @@ use Rattle.commit_actions.specs.Keys.{strict_quorum}
 use Rattle.commit_actions.specs.Actions.{Start, fresh_agent}
 use Rattle.commit_actions.specs.Past.{Past, Setup, VolatileState, past_after, past_over}
 use Rattle.commit_actions.specs.States.{Agent}
-use Rattle.commit_book.proofs.Showing.{start-shown}
+use Rattle.commit_showing.proofs.ShownServers.{start-shown}
 use Rattle.commit_servers.specs.Acting.{Fits}
 use Rattle.commit_servers.specs.Happening.{MayFollow, MayHappen}
 use Rattle.commit_servers.proofs.Beginning.{fits-agents, fits-aside}
@@ -42,7 +42,7 @@ use Rattle.cluster_model.proofs.Lists.{HoldsIf}
 use Rattle.cluster_model.proofs.Places.{get-changed, get-elsewhere, get-here, there}
 use Rattle.lease_parts.proofs.Starting.{kept-restart}
 use Rattle.run_promise.proofs.Upholding.{upheld-none}
-use Rattle.commit_book.proofs.FromLease.{same-lease}
+use Rattle.commit_showing.proofs.FromLease.{same-lease}
 use Rattle.commit_parts.specs.Agents.{AreAgentsSynchronous, IsAgentSynchronous}
 use Rattle.commit_parts.specs.Bridged.{CommitsBridged, kept_commits}
 use Rattle.commit_parts.specs.Reading.{agent_now, past_of, setup_of, volatile_of}

@@ -23,10 +23,10 @@ use Rattle.lease_model.specs.Leases.{LeaderKey}
 use Rattle.event_book.specs.Kinds.{AllAre}
 use Rattle.lease_model.specs.States.{kept_if, leader_kept}
 use Rattle.commit_actions.specs.Actions.{Expire, Kill, Note}
-use Rattle.commit_book.specs.Books.{AreAllowed, Transition}
+use Rattle.commit_showing.specs.Books.{AreAllowed, Transition}
 use Rattle.commit_actions.specs.Past.{Past, Setup, VolatileState, past_after}
-use Rattle.commit_book.specs.Showing.{event_at}
-use Rattle.commit_book.proofs.Showing.{expired-shown, tick-shown}
+use Rattle.commit_showing.specs.Showing.{event_at}
+use Rattle.commit_showing.proofs.ShownMessages.{expired-shown, tick-shown}
 use Rattle.commit_servers.specs.Acting.{Fits, Leads}
 use Rattle.commit_servers.specs.Happening.{MayFollow, MayHappen}
 use Rattle.commit_servers.specs.Matching.{volatile_after}
@@ -53,7 +53,7 @@ use Rattle.commit_parts.specs.Reading.{setup_of, volatile_of}
 use Rattle.commit_parts.proofs.Agents.{gone-leave, volatile-gone}
 use Rattle.commit_parts.proofs.Going.{GoesFrom, goes-follow, goes-none, goes-then, upheld-goes}
 use Rattle.commit_parts.specs.Moving.{Moves}
-use Rattle.commit_book.specs.Changes.{ChangeOrderOnce}
+use Rattle.commit_showing.specs.Changes.{ChangeOrderOnce}
 use Rattle.commit_parts.proofs.Still.{IsStill, agent-stays, volatile-same}
 use Rattle.pat_base.specs.declared.member_id.TheConstants.{MOST_MEMBERS}
 

@@ -4,7 +4,7 @@ use Rattle.script_model.specs.Script.{HeadText}
 use Rattle.event_book.specs.declared.event.Event.{Event}
 use Rattle.cluster_model.specs.Cluster.{cluster_over}
 use Rattle.cluster_model.specs.State.{Cluster}
-use Rattle.commit_book.specs.Books.{AreAllowed, KeepsNow, Transition, book_of}
+use Rattle.commit_showing.specs.Books.{AreAllowed, KeepsNow, Transition, book_of}
 use Rattle.commit_actions.specs.Keys.{strict_quorum}
 use Rattle.commit_actions.specs.Carried.{IsSound}
 use Rattle.commit_actions.specs.Past.{Past, Setup, VolatileState, past_over, state_of}
@@ -12,7 +12,7 @@ use Rattle.commit_actions.specs.States.{State}
 use Rattle.commit_law.specs.Noted.{AreNoted}
 use Rattle.commit_servers.proofs.Growing.{noted-behind}
 use Rattle.commit_servers.proofs.Kept.{keeps-now}
-use Rattle.commit_book.proofs.Fronts.{kept-after, kept-inside, past-append}
+use Rattle.commit_showing.proofs.Fronts.{kept-after, kept-inside, past-append}
 use Rattle.lease_law.proofs.Runs.{cuts, no-cons}
 use Rattle.lease_parts.specs.Bridged.{Bridged}
 use Rattle.lease_parts.specs.Kept.{IsKept}
@@ -24,9 +24,9 @@ use Rattle.commit_parts.specs.Bridged.{CommitsBridged, FitsCommits, KeepsInOrder
 use Rattle.commit_parts.specs.Ordered.{AllInOrder}
 use Rattle.commit_parts.specs.Reading.{past_of, setup_of, volatile_of}
 use Rattle.commit_parts.proofs.Ordering.{order-front, order-then}
-use Rattle.commit_book.specs.Changes.{EachChangesOnce}
-use Rattle.commit_book.specs.Order.{IsAwaiting, NamesMembers}
-use Rattle.commit_book.proofs.Inside.{order-inside, order-now}
+use Rattle.commit_showing.specs.Changes.{EachChangesOnce}
+use Rattle.commit_showing.specs.Order.{IsAwaiting, NamesMembers}
+use Rattle.commit_showing.proofs.Inside.{order-inside, order-now}
 use Rattle.cluster_model.specs.Starting.{cluster_of}
 use Rattle.run_promise.specs.Members.{member_count}
 use Rattle.run_promise.proofs.Upholding.{over-append}

@@ -21,7 +21,7 @@ use Rattle.commit_actions.specs.Past.{Query, SyncQuery}
 use Rattle.commit_actions.specs.States.{State}
 use Rattle.commit_book.specs.Flights.{is_creating}
 use Rattle.commit_book.specs.Keys.{sync_key_of}
-use Rattle.commit_book.specs.Order.{NamesMembers}
+use Rattle.commit_showing.specs.Order.{NamesMembers}
 
 -- each request in flight is as synchronous mode has it, among so many members, of which so many may lack a commit
 abbrev pub AreSynchronous : ℕ → ℕ → Flight → Type 0

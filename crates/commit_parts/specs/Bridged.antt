@@ -7,7 +7,7 @@ use Rattle.cluster_model.specs.Starting.{cluster_of}
 use Rattle.cluster_model.specs.State.{Cluster}
 use Rattle.lease_model.specs.Past as lease_past
 use Rattle.commit_law.specs.Noted.{AreNoted}
-use Rattle.commit_book.specs.Books.{KeepsNow}
+use Rattle.commit_showing.specs.Books.{KeepsNow}
 use Rattle.commit_actions.specs.Keys.{strict_quorum}
 use Rattle.commit_actions.specs.Carried.{IsSound}
 use Rattle.commit_actions.specs.Past.{Past}
@@ -19,7 +19,7 @@ use Rattle.lease_parts.specs.Kept.{MeetsPremises}
 use Rattle.run_promise.specs.Promise.{Promise}
 use Rattle.summary_model.specs.Claims.{KeepMode}
 use Rattle.commit_parts.specs.Agents.{AreAgentsSynchronous, AreSynchronous, AsksAreNumbered, TellsMembers}
-use Rattle.commit_book.specs.Order.{NamesMembers}
+use Rattle.commit_showing.specs.Order.{NamesMembers}
 use Rattle.commit_parts.specs.Modes.{IsSynchronous}
 use Rattle.commit_parts.specs.Ordered.{AllInOrder, StaysInOrder}
 use Rattle.commit_parts.specs.Reading.{past_of, state_of_run, volatile_of}

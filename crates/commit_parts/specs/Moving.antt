@@ -3,10 +3,10 @@ use Rattle.std.specs.Prelude.{ℕ, ◌≡◌, List, [], ◌∷◌}
 use Rattle.event_book.specs.declared.event.Event.{Event}
 use Rattle.cluster_model.specs.Cluster.{cluster_over}
 use Rattle.cluster_model.specs.State.{Cluster}
-use Rattle.commit_book.specs.Books.{AreAllowed, Transition, book_of}
+use Rattle.commit_showing.specs.Books.{AreAllowed, Transition, book_of}
 use Rattle.commit_actions.specs.Past.{Past, Setup, VolatileState, past_over}
 use Rattle.commit_servers.specs.Acting.{Fits}
-use Rattle.commit_book.specs.Changes.{EachChangesOnce}
+use Rattle.commit_showing.specs.Changes.{EachChangesOnce}
 use Rattle.commit_parts.specs.Reading.{volatile_of}
 
 -- what no event says of members after these actions

@@ -20,8 +20,8 @@ use Rattle.cluster_model.specs.State.{Cluster}
 use Rattle.event_book.specs.Functions.{set_members}
 use Rattle.commit_actions.specs.Carried.{NamesMember}
 use Rattle.commit_actions.specs.Past.{Past, past_after, publish_request}
-use Rattle.commit_book.specs.Order.{IsAwaiting}
-use Rattle.commit_book.specs.Requests.{PublishesAwaited}
+use Rattle.commit_showing.specs.Order.{IsAwaiting}
+use Rattle.commit_showing.specs.Requests.{PublishesAwaited}
 use Rattle.commit_parts.specs.Reading.{past_of}
 
 -- the log position that an agent noted, 0 where it noted none or isn't

@@ -34,8 +34,8 @@ use Rattle.commit_actions.specs.Keys.{SyncKey}
 use Rattle.commit_actions.specs.Past.{Past, confirmers_of, past_after, past_over, position_in, position_of, publish_request, revision_in}
 use Rattle.commit_actions.specs.States.{Reaches as ReachesSeen}
 use Rattle.commit_book.specs.Keys.{sync_key_of, sync_value}
-use Rattle.commit_book.specs.Order.{IsAwaiting, IsConfirmer}
-use Rattle.commit_book.specs.Requests.{PublishesAwaited}
+use Rattle.commit_showing.specs.Order.{IsAwaiting, IsConfirmer}
+use Rattle.commit_showing.specs.Requests.{PublishesAwaited}
 use Rattle.commit_book.proofs.SyncKeys.{IsSameSync, entry-holds, sync-over}
 use Rattle.commit_parts.specs.Ordered.{AllInOrder, HappensInOrder, StaysInOrder}
 use Rattle.commit_parts.specs.Reading.{past_of}

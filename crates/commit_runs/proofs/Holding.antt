@@ -6,8 +6,8 @@ use Rattle.event_book.specs.Acknowledged.{acknowledged_in}
 use Rattle.event_book.specs.Kept.{KeepsCommits}
 use Rattle.event_book.specs.Logs.{Logs, entries_at, logs_over}
 use Rattle.event_book.specs.Writers.{writes_over}
-use Rattle.commit_book.specs.Books.{KeepsNow}
-use Rattle.commit_book.proofs.Fronts.{past-logs, past-shown, past-writes}
+use Rattle.commit_showing.specs.Books.{KeepsNow}
+use Rattle.commit_showing.proofs.Fronts.{past-logs, past-shown, past-writes}
 use Rattle.wal_model.specs.Lacking.{has_serial}
 use Rattle.commit_parts.specs.Reading.{past_of}
 use Rattle.commit_runs.specs.Runs.{first_logs}

@@ -31,7 +31,7 @@ use Rattle.cluster_model.specs.Parts.{event_of, events_of}
 use Rattle.cluster_model.specs.State.{Cluster}
 use Rattle.event_book.specs.Kinds.{AllAre}
 use Rattle.lease_model.proofs.Tools.{both}
-use Rattle.commit_book.specs.Books.{KeepsNow}
+use Rattle.commit_showing.specs.Books.{KeepsNow}
 use Rattle.commit_actions.specs.Past.{Past, past_after}
 use Rattle.commit_servers.specs.Happening.{MayHappen, Takes}
 use Rattle.commit_servers.specs.Matching.{IsSameServers}

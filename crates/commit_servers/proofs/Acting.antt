@@ -37,9 +37,10 @@ use Rattle.lease_model.proofs.Tools.{some-is, both}
 use Rattle.commit_actions.specs.Actions.{Commit, Acknowledge, Receive, Confirm, Rewind, Clone, Wipe, Accept, End, Note, CopiesFrom, MayAcknowledge}
 use Rattle.commit_actions.specs.Keys.{Meets}
 use Rattle.commit_actions.specs.Past.{Setup, Past, VolatileState, front_to, log_found, confirmers_in, confirmers_of, position_in, position_of, past_after, state_of}
-use Rattle.commit_book.specs.Showing.{IsIdle}
+use Rattle.commit_showing.specs.Showing.{IsIdle}
 use Rattle.commit_actions.specs.States.{HasLog, HasEntryOf, Reaches}
-use Rattle.commit_book.proofs.Showing.{commit-shown, receive-shown, rewind-shown, clone-shown, wipe-shown, acknowledge-shown, confirm-shown, accept-shown, ended-shown, crashed-shown, reset-shown, idle-shown}
+use Rattle.commit_showing.proofs.ShownServers.{commit-shown, receive-shown, rewind-shown, clone-shown, wipe-shown, acknowledge-shown, confirm-shown, accept-shown, ended-shown, crashed-shown, reset-shown}
+use Rattle.commit_showing.proofs.Showing.{idle-shown}
 use Rattle.commit_servers.specs.Matching.{IsSameServers, IsLiveAs, live_now, volatile_after}
 use Rattle.commit_servers.specs.Sound.{IsServerSound, StandsIn, AllStandIn, WaitsForMembers}
 use Rattle.commit_servers.specs.Happening.{Appends, Takes, Receives, Rewinds, Copies, Wipes, Confirms, Acknowledges, MayHappen, MayHappenToLog, MayHappenToServer, MayBeReplicated, MayFollow}

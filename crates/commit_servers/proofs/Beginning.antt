@@ -21,10 +21,10 @@ use Rattle.cluster_model.specs.State.{Cluster}
 use Rattle.wal_model.specs.Lacking.{lacks_in}
 use Rattle.lease_model.proofs.Tools.{put-all, put-here, put-there}
 use Rattle.commit_actions.specs.Actions.{Kill}
-use Rattle.commit_book.specs.Books.{IsShown}
+use Rattle.commit_showing.specs.Books.{IsShown}
 use Rattle.commit_actions.specs.Past.{Setup, Past, VolatileState, machine_of, past_after, state_of}
 use Rattle.commit_actions.specs.States.{Agent, Machine}
-use Rattle.commit_book.proofs.Showing.{members-shown}
+use Rattle.commit_showing.proofs.ShownServers.{members-shown}
 use Rattle.commit_servers.specs.Matching.{IsSameServers, IsLiveAs, IsLiveAhead, live_in}
 use Rattle.commit_servers.specs.Sound.{AreServersSound}
 use Rattle.commit_servers.specs.Happening.{LeavesSound}

@@ -18,7 +18,7 @@ use Rattle.event_book.specs.Logs.{logs_in}
 use Rattle.event_book.specs.Required.{required_in, confirmed_in}
 use Rattle.event_book.specs.Members.{members_from, put_first}
 use Rattle.lease_model.proofs.Tools.{some-is, none-some}
-use Rattle.commit_book.specs.Books.{AllHaveBytes, first_volatile_states}
+use Rattle.commit_showing.specs.Books.{AllHaveBytes, first_volatile_states}
 use Rattle.commit_actions.specs.Past.{first_past, log_found}
 use Rattle.commit_actions.specs.States.{HaveBytes}
 use Rattle.commit_servers.specs.Matching.{live_in, IsLiveAs}

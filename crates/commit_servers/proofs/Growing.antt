@@ -25,10 +25,10 @@ use Rattle.commit_actions.specs.Past.{Past, Setup, VolatileState, log_found, con
 use Rattle.commit_actions.specs.States.{State}
 use Rattle.commit_law.specs.Noted.{AllFollow, AreNoted, Empties, Follows, Grows, Shrinks, Stays, lists}
 use Rattle.commit_law.proofs.Noting.{noted-by}
-use Rattle.commit_book.specs.Books.{AllLeaveCommits, ChangeOnce, IsShown, Transition}
-use Rattle.commit_book.specs.Changes.{ChangeOrderOnce}
-use Rattle.commit_book.proofs.Fronts.{all-logs-aside, aside-logs}
-use Rattle.commit_book.proofs.Inside.{Seen, all-aside, aside-seen, seen_of}
+use Rattle.commit_showing.specs.Books.{AllLeaveCommits, ChangeOnce, IsShown, Transition}
+use Rattle.commit_showing.specs.Changes.{ChangeOrderOnce}
+use Rattle.commit_showing.proofs.Fronts.{all-logs-aside, aside-logs}
+use Rattle.commit_showing.proofs.Inside.{Seen, all-aside, aside-seen, seen_of}
 
 -- ---- a list is set
 -- a bit is 0 or 1

@@ -15,11 +15,11 @@ use Rattle.event_book.specs.Facts.{Facts, facts_after}
 use Rattle.event_book.specs.Servers.{servers_after, servers_by}
 use Rattle.event_book.proofs.Parts.{logged-kept, replicated-kept}
 use Rattle.commit_actions.specs.Actions.{Note}
-use Rattle.commit_book.specs.Books.{ChangeOnce, KeepsNow, Transition}
+use Rattle.commit_showing.specs.Books.{ChangeOnce, KeepsNow, Transition}
 use Rattle.commit_actions.specs.Carried.{IsSound}
 use Rattle.commit_actions.specs.Past.{Setup, Past, VolatileState, past_after, past_over, state_of}
-use Rattle.commit_book.specs.Showing.{event_at}
-use Rattle.commit_book.proofs.Fronts.{kept-after, kept-inside}
+use Rattle.commit_showing.specs.Showing.{event_at}
+use Rattle.commit_showing.proofs.Fronts.{kept-after, kept-inside}
 use Rattle.commit_servers.specs.Matching.{live_in, live_now, volatile_after, volatile_over}
 use Rattle.commit_servers.specs.Happening.{IsAtServer, MovesOnly}
 use Rattle.commit_servers.specs.Acting.{AreActions, Leads}

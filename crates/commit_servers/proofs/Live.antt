@@ -21,7 +21,7 @@ use Rattle.event_book.proofs.Changed.{same-if}
 use Rattle.event_book.proofs.Parts.{logged-kept, replicated-kept}
 use Rattle.lease_model.proofs.Tools.{put-all}
 use Rattle.commit_actions.specs.Past.{VolatileState}
-use Rattle.commit_book.specs.Showing.{with_server_down}
+use Rattle.commit_showing.specs.Showing.{with_server_down}
 use Rattle.commit_servers.specs.Matching.{live_now, live_in, IsLiveAs, IsLiveAhead, volatile_after}
 use Rattle.commit_servers.specs.Happening.{IsLiveAt, MayHappen, MayHappenToServer}
 use Rattle.commit_servers.proofs.Places.{changed-here, changed-there, changed-none, seen-kept, seen-each}

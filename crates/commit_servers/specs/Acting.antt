@@ -7,9 +7,9 @@ use Rattle.event_book.specs.declared.event.EventKind.TheVariants as kinds
 use Rattle.event_book.specs.declared.event.WatchdogEvent.TheVariants as watchdogs
 use Rattle.event_book.specs.Facts.{Facts, facts_after}
 use Rattle.commit_actions.specs.Actions.{Action, IsAllowed}
-use Rattle.commit_book.specs.Books.{IsShown}
+use Rattle.commit_showing.specs.Books.{IsShown}
 use Rattle.commit_actions.specs.Past.{Setup, Past, VolatileState, past_after, state_of}
-use Rattle.commit_book.specs.Showing.{event_at}
+use Rattle.commit_showing.specs.Showing.{event_at}
 use Rattle.commit_servers.specs.Matching.{IsSameServers, IsLiveAs, volatile_after}
 use Rattle.commit_servers.specs.Sound.{AreServersSound}
 

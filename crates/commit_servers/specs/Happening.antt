@@ -20,7 +20,7 @@ use Rattle.event_book.specs.declared.event.ServerEvent.TheVariants as servers
 use Rattle.event_book.specs.declared.event.WatchdogEvent.TheVariants as watchdogs
 use Rattle.event_book.specs.declared.member.Member.{Member}
 use Rattle.event_book.specs.Facts.{Facts, facts_after}
-use Rattle.commit_book.specs.Showing.{IsIdle}
+use Rattle.commit_showing.specs.Showing.{IsIdle}
 use Rattle.commit_servers.specs.Sound.{WaitsForMembers}
 
 -- a server accepts writes, and the next commit may stand at its log's

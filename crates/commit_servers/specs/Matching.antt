@@ -12,7 +12,7 @@ use Rattle.event_book.specs.declared.event.ServerEvent.TheVariants as servers
 use Rattle.event_book.specs.declared.event.WatchdogEvent.TheVariants as watchdogs
 use Rattle.event_book.specs.declared.event.Event.{Event}
 use Rattle.commit_actions.specs.Past.{Past, VolatileState}
-use Rattle.commit_book.specs.Showing.{with_server_down}
+use Rattle.commit_showing.specs.Showing.{with_server_down}
 
 -- whether there is such a server, and it accepts writes, or will when its start is complete
 abbrev pub live_now : Option ServerFacts → Bool

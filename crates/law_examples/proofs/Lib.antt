@@ -1,3 +1,5 @@
 pub mod ExampleRun
 pub mod ExampleSynchronous
+pub mod QuorumStates
+pub mod QuorumActing
 pub mod ExampleQuorum

@@ -42,7 +42,9 @@ use Rattle.member_options.proofs.OptionTexts.{options-IsPlain}
 use Rattle.script_words.proofs.Cutting.{line-again}
 use Rattle.script_words.proofs.PlainTexts.{IsPlain, IsPlain-append, IsPlain-most, blank-IsPlain, name-IsPlain, decimal-IsPlain, plain-is_utf8, no-feeds}
 use Rattle.script_grammar.proofs.FirstWordLaws.{longest_word, some_name-IsPlain, word-IsPlain}
-use Rattle.script_law.proofs.SpellLaws.{size-fits, delay-fits, base-fits, spelled-is-read}
+use Rattle.script_law.proofs.SpelledLines.{size-fits, delay-fits}
+use Rattle.script_law.proofs.SpelledHeads.{base-fits}
+use Rattle.script_law.proofs.SpellLaws.{spelled-is-read}
 use Rattle.script_law.proofs.FirstWords.{spelled-counts}
 
 -- a line that a script has

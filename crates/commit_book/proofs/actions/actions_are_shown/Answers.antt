@@ -1,5 +1,0 @@
-use Rattle.commit_book.proofs.Showing.{actions-are-shown}
-use Rattle.commit_book.proofs.actions.actions_are_shown.Goals as goal
-
-pub returns : goal.returns
-returns c = actions-are-shown

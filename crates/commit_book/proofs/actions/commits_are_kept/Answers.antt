@@ -1,5 +1,0 @@
-use Rattle.commit_book.proofs.Fronts.{kept-book}
-use Rattle.commit_book.proofs.actions.commits_are_kept.Goals as goal
-
-pub returns : goal.returns
-returns c = kept-book

@@ -1,5 +1,0 @@
-use Rattle.commit_book.proofs.Inside.{overlaps-inside, overlaps-now, strict-order}
-use Rattle.commit_book.proofs.order.order_is_kept.Goals as goal
-
-pub returns : goal.returns
-returns c = record { between = overlaps-now; inside = overlaps-inside; strict = strict-order }

@@ -1,5 +1,0 @@
-use Rattle.commit_book.proofs.Publishing.{publication, strict-publication}
-use Rattle.commit_book.proofs.order.publications_are_confirmed.Goals as goal
-
-pub returns : goal.returns
-returns c = record { any = publication; strict = strict-publication }

@@ -1,0 +1,10 @@
+pub mod Fronts
+pub mod ShownServers
+pub mod ShownMessages
+pub mod Showing
+pub mod FromLease
+pub mod Renewals
+pub mod Asides
+pub mod Claims
+pub mod Inside
+pub mod Publishing
