@@ -1,5 +1,5 @@
 -- The set of expiries: what holds of it after each change, and what its front tells.
-use Rattle.std.proofs.Common.{◌≡◌, ◌≢◌, ℕ, ◌+◌, ◌≤◌, ◌<◌, ◌==◌, nat_lt, not, Bool, true, false, cond, ◌||◌, ◌&&◌, List, [], ◌∷◌, map, filter, Option, Some, None, IsTrue, Vec, arith, refl, ap, sym, ◌∙◌, subst}
+use Rattle.std.proofs.Common.{◌≡◌, ◌≢◌, ℕ, ◌≤◌, ◌<◌, ◌==◌, nat_lt, not, Bool, true, false, cond, ◌||◌, ◌&&◌, List, [], ◌∷◌, map, filter, Option, Some, None, IsTrue, Vec, arith, refl, ap, sym, ◌∙◌, subst}
 use Rattle.std.proofs.lemmas.Bool.{and_parts}
 use Rattle.std.proofs.lemmas.Bool.Decides.{nat_tests}
 use Rattle.std.proofs.lemmas.Cmp.{on_total, then_total, tied_itself, eq_by_cmp_equiv, nat_cmp_total}
@@ -15,16 +15,15 @@ use Rattle.std.specs.declared.cmp.Ordering.TheVariants.{Less, Equal, Greater}
 use Rattle.std.specs.Ordering.{is_eq, is_lt, nat_cmp, ordering_then, ordering_reverse, eq_by_cmp}
 use Rattle.pat_base.specs.declared.ticks.Ticks.{Ticks}
 use Rattle.store_keys.specs.declared.key.Key.{Key}
-use Rattle.store_keys.specs.declared.key.Key.TheVariants as keys
 use Rattle.store_keys.specs.declared.value.KeyEntry.{KeyEntry}
 use Rattle.lease_store.specs.Answers.{absent_keys, present_pairs}
 use Rattle.lease_store.specs.Copied.{AreCopies}
-use Rattle.lease_store.specs.Expiries.{expiry_cmp, is_among, is_expiry, expires_at, AreExpiriesOf, IsExchanged, expiries_of_others, expiries_with, has_come, first_of}
+use Rattle.lease_store.specs.Expiries.{expiry_cmp, is_among, is_expiry, expires_at, AreExpiriesOf, AreOfKeysOnce, IsExchanged, expiries_without, expiries_with, has_come, first_of}
 use Rattle.lease_store.specs.KeyOrder.{key_cmp}
 use Rattle.lease_store.specs.Keys.{is_present, present}
 use Rattle.lease_store.specs.Writes.{without}
-use Rattle.lease_store.proofs.KeyLaws.{keys_total, keys_exact}
-use Rattle.lease_store.proofs.Keeping.{find_put, find_without, find_present, same_key, find-below, equal-from}
+use Rattle.lease_store.proofs.KeyLaws.{keys_total}
+use Rattle.lease_store.proofs.Keeping.{find_put, find_without, find_present, same_key, find-below}
 
 abbrev pub Pairs : Type 0
 Pairs = List (Key × KeyEntry)
@@ -50,7 +49,8 @@ and-false false = refl
 
 -- ---- the order
 expiries_total : IsTotalOrder expiry_cmp
-expiries_total = then_total (on_total (λ (e : Ticks × Key). e.0.0) nat_cmp_total) (on_total (λ (e : Ticks × Key). e.1) keys_total)
+expiries_total =
+    then_total (on_total (λ (e : Ticks × Key). e.0.0) nat_cmp_total) (on_total (λ (e : Ticks × Key). e.1) keys_total)
 
 then-eq : (p o : Ordering) → is_eq (ordering_then p o) ≡ (is_eq p && is_eq o)
 then-eq Less o = refl
@@ -163,6 +163,69 @@ exchanged-bools true false r = refl
 exchanged-bools false true r = refl
 exchanged-bools false false r = refl
 
+or-right : (b c : Bool) → c ≡ true → (b || c) ≡ true
+or-right true c h = refl
+or-right false c h = h
+
+abbrev expiries_of_others : Key → Expiries → Expiries
+expiries_of_others key es = filter (λ expiry. not (eq_by_cmp key_cmp key expiry.1)) es
+
+others-chosen : (b : Bool) (e : Ticks × Key) (es rest : Expiries) → b ≡ false → rest ≡ es
+    → cond (not b) (e ∷ rest) rest ≡ e ∷ es
+others-chosen true e es rest other is = clash other
+others-chosen false e es rest other is = ap (λ t. e ∷ t) is
+
+-- without one of the key all are of others
+all-of-others : (key : Key) (es : Expiries)
+    → ((e : Ticks × Key) → is_among e es ≡ true → eq_by_cmp key_cmp key e.1 ≡ false)
+    → expiries_of_others key es ≡ es
+all-of-others key [] other = refl
+all-of-others key (e ∷ es) other =
+    others-chosen (eq_by_cmp key_cmp key e.1) e es (expiries_of_others key es)
+    (other e (ap (λ o. is_eq o || is_among e es) (tied_itself expiries_total e)))
+    (all-of-others key es (λ q among. other q (or-right (eq_by_cmp expiry_cmp q e) (is_among q es) among)))
+
+behind-not-among : (first : Ticks × Key) (es : Expiries) → AllByRecursion (λ y. expiry_cmp first y ≡ Less) es
+    → is_among first es ≡ false
+behind-not-among first [] all = refl
+behind-not-among first (e ∷ es) all =
+    ap (λ o. is_eq o || is_among first es) all.0 ∙ behind-not-among first es all.1
+
+not-same : (b : Bool) → (b ≡ true → ⊥) → b ≡ false
+not-same true h = absurd (h refl)
+not-same false h = refl
+
+-- behind one of the key there is none of it
+others-behind : (key : Key) (e q : Ticks × Key) (es : Expiries) → eq_by_cmp key_cmp key e.1 ≡ true
+    → AllByRecursion (λ y. expiry_cmp e y ≡ Less) es → AreOfKeysOnce (e ∷ es) → is_among q es ≡ true
+    → eq_by_cmp key_cmp key q.1 ≡ false
+others-behind key e q es here all once among = not-same (eq_by_cmp key_cmp key q.1) (λ same.
+    let keys-are : q.1 ≡ e.1 = sym (same_key key q.1 same) ∙ same_key key e.1 here in
+    let twice : is_among (q.0, e.1) es ≡ true = subst (λ (k : Key). is_among (q.0, k) es ≡ true) keys-are among in
+    let moments : e.0.0 ≡ q.0.0 = once e.0 q.0 e.1 (ap (λ o. is_eq o || is_among e es) (tied_itself expiries_total e))
+    (or-right (eq_by_cmp expiry_cmp (q.0, e.1) e) (is_among (q.0, e.1) es) twice) in
+    clash (sym (subst (λ (n : ℕ). is_among (record { 0 = n }, e.1) es ≡ true) (sym moments) twice)
+    ∙ behind-not-among e es all))
+
+without-cased_others : (key : Key) (e : Ticks × Key) (es : Expiries) (b : Bool) → eq_by_cmp key_cmp key e.1 ≡ b
+    → (eq_by_cmp key_cmp key e.1 ≡ true → expiries_of_others key es ≡ es)
+    → expiries_without key es ≡ expiries_of_others key es
+    → cond b es (e ∷ expiries_without key es) ≡ cond (not b) (e ∷ expiries_of_others key es) (expiries_of_others key es)
+without-cased_others key e es true here none rest = sym (none here)
+without-cased_others key e es false here none rest = ap (λ t. e ∷ t) rest
+
+-- where each key is there once, those without the first of a key are those of others
+without-is_others : (key : Key) (es : Expiries) → IsStrictlySortedBy expiry_cmp es → AreOfKeysOnce es
+    → expiries_without key es ≡ expiries_of_others key es
+unfolding IsStrictlySortedBy
+without-is_others key [] rise once = refl
+without-is_others key (e ∷ es) rise once =
+    without-cased_others key e es (eq_by_cmp key_cmp key e.1) refl
+    (λ here. all-of-others key es (λ q among. others-behind key e q es here rise.0 once among))
+    (without-is_others key es rise.1 (λ at later k a b. once at later k
+    (or-right (eq_by_cmp expiry_cmp (at, k) e) (is_among (at, k) es) a)
+    (or-right (eq_by_cmp expiry_cmp (later, k) e) (is_among (later, k) es) b)))
+
 among-others : (key : Key) (at : Ticks) (other : Key) (es : Expiries)
     → is_among (at, other) (expiries_of_others key es) ≡ (not (eq_by_cmp key_cmp other key) && is_among (at, other) es)
 among-others key at other es = among-filter (λ expiry. not (eq_by_cmp key_cmp key expiry.1)) (at, other) es
@@ -173,23 +236,25 @@ rise-others : (key : Key) (es : Expiries) → IsStrictlySortedBy expiry_cmp es
 rise-others key es rise =
     IsStrictlySortedBy-filter expiry_cmp (λ expiry. not (eq_by_cmp key_cmp key expiry.1)) es rise
 
-pub forgotten : (key : Key) (before after : Expiries) → IsStrictlySortedBy expiry_cmp before
-    → after ≡ expiries_of_others key before → IsExchanged key None before after
-forgotten key before after rise is = subst (IsExchanged key None before) (sym is) (record {
-  rise = rise-others key before rise;
-  are = λ at other. among-others key at other before
-      ∙ others-bools (eq_by_cmp key_cmp other key) (is_among (at, other) before);
-})
+pub forgotten : (key : Key) (before after : Expiries) → IsStrictlySortedBy expiry_cmp before → AreOfKeysOnce before
+    → after ≡ expiries_without key before → IsExchanged key None before after
+forgotten key before after rise once is = subst (IsExchanged key None before)
+    (sym (is ∙ without-is_others key before rise once)) (record {
+      rise = rise-others key before rise;
+      are = λ at other. among-others key at other before
+          ∙ others-bools (eq_by_cmp key_cmp other key) (is_among (at, other) before);
+    })
 
 new-of-others : (key : Key) (at : Ticks) (es : Expiries) → is_among (at, key) (expiries_of_others key es) ≡ false
 new-of-others key at es = among-others key at key es
     ∙ ap (λ o. not (is_eq o) && is_among (at, key) es) (tied_itself keys_total key)
 
 pub exchanged : (key : Key) (expiry : Ticks) (before others after : Expiries) → IsStrictlySortedBy expiry_cmp before
-    → others ≡ expiries_of_others key before → after ≡ expiries_with (expiry, key) others
+    → AreOfKeysOnce before → others ≡ expiries_without key before → after ≡ expiries_with (expiry, key) others
     → IsExchanged key (Some expiry) before after
-exchanged key expiry before others after rise left is =
-    subst (IsExchanged key (Some expiry) before) (sym (is ∙ ap (expiries_with (expiry, key)) left)) (record {
+exchanged key expiry before others after rise once left is =
+    subst (IsExchanged key (Some expiry) before)
+    (sym (is ∙ ap (expiries_with (expiry, key)) (left ∙ without-is_others key before rise once))) (record {
       rise = rise-with (expiry, key) (expiries_of_others key before) (rise-others key before rise)
           (new-of-others key expiry before);
       are = λ at other. among-with (expiry, key) (at, other) (expiries_of_others key before)
@@ -200,6 +265,22 @@ exchanged key expiry before others after rise left is =
     })
 
 -- ---- each change of the entries
+two-expiries : (at later : Ticks) (expiry : Option Ticks) → is_expiry at expiry ≡ true → is_expiry later expiry ≡ true
+    → at.0 ≡ later.0
+two-expiries at later None a b = clash (sym a)
+two-expiries at later (Some expiry) a b =
+    numbers-same at.0 expiry.0 a ∙ sym (numbers-same later.0 expiry.0 b)
+
+two-found : (at later : Ticks) (o : Option KeyEntry) → expires_at at o ≡ true → expires_at later o ≡ true
+    → at.0 ≡ later.0
+two-found at later None a b = clash (sym a)
+two-found at later (Some stored) a b = two-expiries at later stored.expiry a b
+
+-- a key expires but once
+pub each-once : (pairs : Pairs) (es : Expiries) → AreExpiriesOf pairs es → AreOfKeysOnce es
+each-once pairs es exact at later key a b =
+    two-found at later (find key_cmp key pairs) (sym (exact.are at key) ∙ a) (sym (exact.are later key) ∙ b)
+
 put-cased : (at : Ticks) (b r : Bool) (stored : KeyEntry) (o : Option KeyEntry) → r ≡ expires_at at o
     → cond b (is_expiry at stored.expiry) r ≡ expires_at at (cond b (Some stored) o)
 put-cased at true r stored o is = refl
@@ -438,7 +519,8 @@ pub all-present : (now : ℕ) (pairs : Pairs) (es : Expiries) → IsTrue (is_sor
 all-present now pairs es order exact none = all-kept now pairs (none-come now pairs es order exact none)
 
 -- what is copied of all is copied of what is present, where nothing has ended
-pub copies-kept : {Z : Type 0} (now : ℕ) (pairs : Pairs) (es : Expiries) (copies after : Option (Vec (Key × KeyEntry) Z))
+pub copies-kept : {Z : Type 0} (now : ℕ) (pairs : Pairs) (es : Expiries)
+    (copies after : Option (Vec (Key × KeyEntry) Z))
     → IsTrue (is_sorted key_cmp pairs) → AreExpiriesOf pairs es → AreCopies pairs copies
     → after ≡ cond (has_come now es) None copies → AreCopies (present_pairs now pairs) after
 copies-kept now pairs es copies after order exact are is =
@@ -450,17 +532,6 @@ copies-kept now pairs es copies after order exact are is =
         subst (λ (t : Pairs). AreCopies t copies) (sym (all-present now pairs es order exact none)) are
 
 -- ---- when the first comes
-chosen-within : (most first : Ticks) (b : Bool) → nat_lt first.0 most.0 ≡ b → (cond b first most).0 ≤ most.0
-chosen-within most first true is = less first.0 most.0 is
-  where
-    less : (m n : ℕ) → nat_lt m n ≡ true → m ≤ n
-    less m n h = grind (arith, nat_tests)
-chosen-within most first false is = omega arith
-
-pub first-within : (most : Ticks) (es : Expiries) → (first_of most es).0 ≤ most.0
-first-within most [] = omega arith
-first-within most (first ∷ es) = chosen-within most first.0 (nat_lt first.0.0 most.0) refl
-
 chosen-before : (now : ℕ) (most first : Ticks) (b : Bool) → nat_lt first.0 most.0 ≡ b → now < (cond b first most).0
     → not (nat_lt now first.0) ≡ false
 chosen-before now most first true is h = before now first.0 h

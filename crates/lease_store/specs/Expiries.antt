@@ -1,5 +1,5 @@
 -- When leases end: a set of pairs, each a moment and the key that expires then, as the list of its members in order.
-use Rattle.std.specs.Prelude.{◌≡◌, ◌==◌, ℕ, nat_lt, if◌then◌else◌, filter, Bool, false, cond, not, List, [], ◌∷◌, Option, Some, None, IsTrue}
+use Rattle.std.specs.Prelude.{◌≡◌, ◌==◌, ℕ, nat_lt, if◌then◌else◌, Bool, true, false, cond, not, List, [], ◌∷◌, Option, Some, None}
 use Rattle.std.specs.List.{list_any}
 use Rattle.std.specs.List.Sorted.{IsStrictlySortedBy}
 use Rattle.std.specs.FinMap.{find}
@@ -33,15 +33,22 @@ pub record AreExpiriesOf (pairs : List (Key × KeyEntry)) (expiries : List (Tick
   pub rise : IsStrictlySortedBy expiry_cmp expiries
   pub are : (at : Ticks) (key : Key) → is_among (at, key) expiries ≡ expires_at at (find key_cmp key pairs)
 
+-- each key expires once
+abbrev pub AreOfKeysOnce : List (Ticks × Key) → Type 0
+AreOfKeysOnce expiries = (at later : Ticks) (key : Key) → is_among (at, key) expiries ≡ true
+    → is_among (later, key) expiries ≡ true → at.0 ≡ later.0
+
 -- the set once a key expires at another moment, or never: every other key expires as before
 pub record IsExchanged (key : Key) (expiry : Option Ticks) (before after : List (Ticks × Key)) : Type 0 where
   pub rise : IsStrictlySortedBy expiry_cmp after
   pub are : (at : Ticks) (other : Key) → is_among (at, other) after
       ≡ cond (eq_by_cmp key_cmp other key) (is_expiry at expiry) (is_among (at, other) before)
 
--- the members of other keys
-abbrev pub expiries_of_others : Key → List (Ticks × Key) → List (Ticks × Key)
-expiries_of_others key expiries = filter (λ expiry. not (eq_by_cmp key_cmp key expiry.1)) expiries
+-- the members without the first of a key
+abbrev pub expiries_without : Key → List (Ticks × Key) → List (Ticks × Key)
+expiries_without key [] = []
+expiries_without key (expiry ∷ expiries) =
+    cond (eq_by_cmp key_cmp key expiry.1) expiries (expiry ∷ expiries_without key expiries)
 
 -- the members with a new one at its place in the order
 abbrev pub expiries_with : Ticks × Key → List (Ticks × Key) → List (Ticks × Key)

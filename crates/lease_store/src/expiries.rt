@@ -1,7 +1,7 @@
 //! When the leases of keys end.
-ghost use Rattle.std.specs.Prelude.{◌≡◌, ◌≤◌, ◌+◌, ◌++◌, ◌∷◌, None, nat_lt, take, drop, filter, length, vec_len, vec_capacity};
+ghost use Rattle.std.specs.Prelude.{◌≡◌, ◌≤◌, ◌<◌, ◌+◌, IfSome, IfNone, ◌++◌, ◌∷◌, None, nat_lt, take, drop, filter, length, vec_len, vec_capacity};
 ghost use Rattle.std.specs.List.Sorted.{IsStrictlySortedBy};
-ghost use Rattle.lease_store.specs.Expiries.{IsExchanged, expiry_cmp, expiries_of_others, expiries_with, first_of, has_come};
+ghost use Rattle.lease_store.specs.Expiries.{AreOfKeysOnce, IsExchanged, expiry_cmp, expiries_without, expiries_with, first_of, has_come};
 
 use crate::order::compare;
 use pat_base::Ticks;
@@ -45,19 +45,39 @@ fn add(expiries: &mut Expiries, added: (Ticks, Key))
     expiries.insert(at, added).unwrap();
 }
 
+/// Where that of a key stands. What ends next is at the front, and is mostly what is renewed next.
+fn place_of(expiries: &[(Ticks, Key)], key: Key) -> Option<usize>
+    ensures within { IfSome result (λ at. at < length expiries.now) }
+    ensures place { IfSome result (λ at. expiries_without key expiries.now ≡ take at expiries.now ++ drop (at + 1) expiries.now) }
+    ensures none { IfNone result (expiries_without key expiries.now ≡ expiries.now) }
+{
+    for (at, expiry) in expiries.iter().enumerate() {
+        if compare(key, expiry.1).is_eq() {
+            return Some(at);
+        }
+    }
+    None
+}
+
 /// Takes that of a key out.
 fn take_out(expiries: &mut Expiries, key: Key)
-    ensures expiries { expiries.new.items ≡ expiries_of_others key expiries.old.items }
+    ensures expiries { expiries.new.items ≡ expiries_without key expiries.old.items }
     ensures len { vec_len expiries.new ≤ vec_len expiries.old }
     ensures room { vec_capacity expiries.new ≡ vec_capacity expiries.old }
 {
-    expiries.retain(|expiry| compare(key, expiry.1).is_ne());
+    match place_of(expiries, key) {
+        None => {}
+        Some(at) => {
+            expiries.remove(at);
+        }
+    }
 }
 
 /// Lets a key expire at this moment, or never, from now on. There is room for one more.
 pub fn exchange(expiries: &mut Expiries, key: Key, expiry: Option<Ticks>)
     requires room { vec_len expiries.old + 1 ≤ vec_capacity expiries.old }
     requires rise { IsStrictlySortedBy expiry_cmp expiries.old.items }
+    requires once { AreOfKeysOnce expiries.old.items }
     ensures exchanged { IsExchanged key expiry expiries.old.items expiries.new.items }
     ensures len { vec_len expiries.new ≤ vec_len expiries.old + 1 }
     ensures room { vec_capacity expiries.old ≤ vec_capacity expiries.new }
@@ -71,7 +91,8 @@ pub fn exchange(expiries: &mut Expiries, key: Key, expiry: Option<Ticks>)
 
 /// Lets a key never expire from now on.
 pub fn forget(expiries: &mut Expiries, key: Key)
-    requires { IsStrictlySortedBy expiry_cmp expiries.old.items }
+    requires rise { IsStrictlySortedBy expiry_cmp expiries.old.items }
+    requires once { AreOfKeysOnce expiries.old.items }
     ensures { IsExchanged key None expiries.old.items expiries.new.items }
 {
     take_out(expiries, key);

@@ -1,8 +1,11 @@
 use Rattle.std.proofs.Common.{rules, subst}
 use Rattle.store_keys.specs.declared.value.KeyEntry.{KeyEntry}
 use Rattle.lease_store.specs.Expiries.{IsExchanged}
-use Rattle.lease_store.proofs.Expiring.{expiries-put}
+use Rattle.lease_store.proofs.Expiring.{each-once, expiries-put}
 use Rattle.lease_store.proofs.entries.put_all.Goals as goal
+
+pub exchange-requires-clause-once : goal.exchange-requires-clause-once
+exchange-requires-clause-once c = each-once _ _ c.loop-key.invariant.3
 
 pub loop-key-preserved : goal.loop-key-preserved
 loop-key-preserved c = (

@@ -9,10 +9,10 @@ returns-in-Some-clause-exchanged c =
     subst (λ (e : Option Ticks). IsExchanged c.args.key e c.args.expiries.now.items c.add.new.expiries.items)
     (sym c.in-Some.is)
     (exchanged c.args.key c.in-Some.expiry c.args.expiries.now.items c.take_out.new.expiries.items _
-    c.requires.rise c.take_out.ensures.expiries c.add.ensures.expiries)
+    c.requires.rise c.requires.once c.take_out.ensures.expiries c.add.ensures.expiries)
 
 pub returns-in-None-clause-exchanged : goal.returns-in-None-clause-exchanged
 returns-in-None-clause-exchanged c =
     subst (λ (e : Option Ticks). IsExchanged c.args.key e c.args.expiries.now.items c.take_out.new.expiries.items)
     (sym c.in-None.is)
-    (forgotten c.args.key c.args.expiries.now.items _ c.requires.rise c.take_out.ensures.expiries)
+    (forgotten c.args.key c.args.expiries.now.items _ c.requires.rise c.requires.once c.take_out.ensures.expiries)

@@ -1,6 +1,0 @@
-use Rattle.std.proofs.Common.{rules}
-use Rattle.std.proofs.lemmas.Fn.{filter_same}
-use Rattle.lease_store.proofs.expiries.take_out.Goals as goal
-
-pub returns-clause-expiries : goal.returns-clause-expiries
-returns-clause-expiries c = filter_same _ _ _ (λ x b f' k. search rules) _ _ c.retain.ensures.filtered
