@@ -88,7 +88,7 @@ kinds-put key stored (e ∷ es) is k =
     kinds-placed key stored e es (key_cmp key e.0) refl is k (kinds-put key stored es is k.1)
 
 -- ---- what is found
-equal-from : (o : Ordering) → is_eq o ≡ true → o ≡ Equal
+pub equal-from : (o : Ordering) → is_eq o ≡ true → o ≡ Equal
 equal-from Less h = cc
 equal-from Equal h = refl
 equal-from Greater h = cc
@@ -257,7 +257,7 @@ less-from Less h = refl
 less-from Equal h = cc
 less-from Greater h = cc
 
-find-below : (q : Key) (es : List (Key × KeyEntry)) → IsTrue (below_all key_cmp q es) → find key_cmp q es ≡ None
+pub find-below : (q : Key) (es : List (Key × KeyEntry)) → IsTrue (below_all key_cmp q es) → find key_cmp q es ≡ None
 find-below q [] h = refl
 find-below q (e ∷ es) h =
     ap (λ o. cond (is_eq o) (Some e.1) (find key_cmp q es))

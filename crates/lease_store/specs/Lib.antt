@@ -1,6 +1,7 @@
 pub mod Answers
 pub mod Copied
 pub mod Decision
+pub mod Expiries
 pub mod Fencing
 pub mod Kept
 pub mod KeyOrder

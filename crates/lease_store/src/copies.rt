@@ -1,9 +1,12 @@
 //! Copies of the list of all pairs, told again while nothing changes. They share the entries with the store.
-ghost use Rattle.std.specs.Prelude.{◌≡◌, IfOk};
+ghost use Rattle.std.specs.Prelude.{◌≡◌, if◌then◌else◌, None, IfOk, IsTrue};
+ghost use Rattle.std.specs.FinMap.{is_sorted};
 ghost use Rattle.lease_store.specs.Answers.{present_pairs};
 ghost use Rattle.lease_store.specs.Copied.{AreCopies};
+ghost use Rattle.lease_store.specs.Expiries.{AreExpiriesOf, has_come};
+ghost use Rattle.lease_store.specs.KeyOrder.{key_cmp};
 
-use crate::entries::has_absent;
+use crate::expiries::has_come;
 use crate::walks::copies_of_present;
 use pat_base::{Shared, Ticks};
 use std::alloc::{AllocError, Global};
@@ -17,14 +20,17 @@ pub type Copies = Shared<Vec<(Key, Shared<KeyEntry>)>>;
 pub fn told(
     alloc: Global,
     entries: &[(Key, Shared<KeyEntry>)],
+    expiries: &[(Ticks, Key)],
     copies: &mut Option<Copies>,
     now: Ticks,
 ) -> Result<Copies, AllocError>
+    requires order { IsTrue (is_sorted key_cmp entries.now) }
+    requires expiries { AreExpiriesOf entries.now expiries.now }
     requires copies { AreCopies entries.now copies.old }
     ensures told { IfOk result (λ told. told.items ≡ present_pairs now.0 entries.now) }
     ensures kept { AreCopies entries.now copies.new }
 {
-    if has_absent(entries, now) {
+    if has_come(expiries, now) {
         return Shared::new(alloc, copies_of_present(alloc, entries, now)?);
     }
     told_again(alloc, entries, copies, now)
@@ -50,12 +56,11 @@ fn told_again(
     Ok(told)
 }
 
-/// Forgets copies where a key is absent at this moment: they are those of what is present then.
-pub fn forget_absent(entries: &[(Key, Shared<KeyEntry>)], copies: &mut Option<Copies>, now: Ticks)
-    requires copies { AreCopies entries.now copies.old }
-    ensures { AreCopies (present_pairs now.0 entries.now) copies.new }
+/// Forgets copies where an expiry has come at this moment: they are those of what was present before.
+pub fn forget_ended(expiries: &[(Ticks, Key)], copies: &mut Option<Copies>, now: Ticks)
+    ensures { copies.new ≡ (if has_come now.0 expiries.now then None else copies.old) }
 {
-    if has_absent(entries, now) {
+    if has_come(expiries, now) {
         *copies = None;
     }
 }

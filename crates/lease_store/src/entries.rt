@@ -1,10 +1,14 @@
-//! The entries of keys, in pairs that rise by their keys.
-ghost use Rattle.std.specs.Prelude.{ℕ, ◌≡◌, ◌≢◌, ◌≤◌, ◌<◌, ◌↔◌, [], IsTrue, OnOk, OnErr};
-ghost use Rattle.lease_store.specs.Answers.{present_pairs, absent_keys};
+//! The entries of keys, in pairs that rise by their keys, with the set of their expiries: each change of both leaves the set exact.
+ghost use Rattle.std.specs.Prelude.{◌≡◌, IsTrue, OnOk, OnErr};
+ghost use Rattle.std.specs.FinMap.{is_sorted};
+ghost use Rattle.lease_store.specs.Answers.{present_pairs};
+ghost use Rattle.lease_store.specs.Expiries.{AreExpiriesOf};
+ghost use Rattle.lease_store.specs.KeyOrder.{key_cmp};
 ghost use Rattle.lease_store.specs.Puts.{puts_over};
 ghost use Rattle.lease_store.specs.Writes.{without};
 
 use crate::compares::is_present;
+use crate::expiries::{Expiries, drop_ended, exchange, forget, has_come};
 use crate::order::compare;
 use crate::pairs::put;
 use pat_base::{Shared, Ticks};
@@ -15,56 +19,44 @@ use store_keys::{Key, KeyEntry};
 pub type Entries = Vec<(Key, Shared<KeyEntry>)>;
 
 /// Holds these pairs. It fails only for want of memory, and then changes nothing.
-pub fn put_all(entries: &mut Entries, puts: Entries) -> Result<(), AllocError>
+pub fn put_all(
+    entries: &mut Entries,
+    expiries: &mut Expiries,
+    puts: Entries,
+) -> Result<(), AllocError>
+    requires expiries { AreExpiriesOf entries.old.items expiries.old.items }
     ensures entries { OnOk result (entries.new.items ≡ puts_over entries.old.items puts.items) }
+    ensures expiries { AreExpiriesOf entries.new.items expiries.new.items }
     ensures err { OnErr result (entries.new.items ≡ entries.old.items) }
 {
     entries.reserve(puts.len())?;
+    expiries.reserve(puts.len())?;
     for (key, stored) in puts {
+        exchange(expiries, key, stored.get().expiry);
         put(entries, key, stored);
     }
     Ok(())
 }
 
 /// Holds nothing at a key from now on.
-pub fn delete(entries: &mut Entries, key: Key)
-    ensures { entries.new.items ≡ without key entries.old.items }
+pub fn delete(entries: &mut Entries, expiries: &mut Expiries, key: Key)
+    requires expiries { AreExpiriesOf entries.old.items expiries.old.items }
+    ensures entries { entries.new.items ≡ without key entries.old.items }
+    ensures expiries { AreExpiriesOf entries.new.items expiries.new.items }
 {
+    forget(expiries, key);
     entries.retain(|pair| compare(key, pair.0).is_ne());
 }
 
-/// Whether a key is absent at this moment.
-pub fn has_absent(entries: &[(Key, Shared<KeyEntry>)], now: Ticks) -> bool
-    ensures { IsTrue result ↔ (absent_keys now.0 entries.now ≢ []) }
-{
-    for pair in entries {
-        if !is_present(now, pair.1.get().expiry) {
-            return true;
-        }
-    }
-    false
-}
-
-/// When the first key ends, but at most a given moment.
-pub fn first_expiry(entries: &[(Key, Shared<KeyEntry>)], most: Ticks) -> Ticks
-    ensures most { result.0 ≤ most.0 }
-    ensures before { (now : ℕ) → now < result.0 → absent_keys now entries.now ≡ [] }
-    ensures least { result.0 < most.0 → absent_keys result.0 entries.now ≢ [] }
-{
-    let mut first = most;
-    for pair in entries {
-        if let Some(expiry) = pair.1.get().expiry {
-            if expiry < first {
-                first = expiry;
-            }
-        }
-    }
-    first
-}
-
 /// Holds nothing at the keys that are absent at this moment.
-pub fn drop_absent(entries: &mut Entries, now: Ticks)
-    ensures { entries.new.items ≡ present_pairs now.0 entries.old.items }
+pub fn drop_absent(entries: &mut Entries, expiries: &mut Expiries, now: Ticks)
+    requires order { IsTrue (is_sorted key_cmp entries.old.items) }
+    requires expiries { AreExpiriesOf entries.old.items expiries.old.items }
+    ensures entries { entries.new.items ≡ present_pairs now.0 entries.old.items }
+    ensures expiries { AreExpiriesOf entries.new.items expiries.new.items }
 {
-    entries.retain(|pair| is_present(now, pair.1.get().expiry));
+    if has_come(expiries, now) {
+        drop_ended(expiries, now);
+        entries.retain(|pair| is_present(now, pair.1.get().expiry));
+    }
 }

@@ -4,6 +4,7 @@
 mod compares;
 mod copies;
 mod entries;
+mod expiries;
 mod granted;
 mod laws;
 mod order;

@@ -12,8 +12,9 @@ ghost use Rattle.lease_store.specs.Writes.{keys_after_grant, is_lease, ttl_of};
 ghost use Rattle.pat_base.specs.Moments.{latest};
 
 use crate::compares::{check, is_present, key_entry_at, present_at};
-use crate::copies::{Copies, forget_absent, told};
-use crate::entries::{Entries, drop_absent, first_expiry};
+use crate::copies::{Copies, forget_ended, told};
+use crate::entries::{Entries, drop_absent};
+use crate::expiries::{Expiries, first_expiry, has_come};
 use crate::walks::{absent_keys, copies_of_present};
 use crate::writes::{Stamp, grant, is_lease};
 use crate::{Granted, StoreRefusal};
@@ -29,6 +30,8 @@ use store_keys::{ConfigValue, Key, KeyEntry, Txn, Value};
 #[derive(Drop)]
 pub struct Store {
     entries: Entries,
+    /// Exactly the keys that have a lease, each with when it ends.
+    expiries: Expiries,
     revision: u64,
     /// Copies of all pairs, where they were told and nothing has changed since.
     copies: Option<Copies>,
@@ -37,13 +40,14 @@ pub struct Store {
 impl Model for Store {
     ghost use Rattle.lease_store.specs.Keys.{Keys};
     ghost use Rattle.lease_store.specs.Copied.{AreCopies};
+    ghost use Rattle.lease_store.specs.Expiries.{AreExpiriesOf};
     ghost use Rattle.lease_store.specs.Kept.{IsKept};
 
     ghost Value = { Keys };
 
     ghost view = { λ s. record { revision = s.revision; pairs = s.entries.items } };
 
-    ghost invariant = { λ s. IsKept s.entries.items × AreCopies s.entries.items s.copies };
+    ghost invariant = { λ s. IsKept s.entries.items × AreExpiriesOf s.entries.items s.expiries.items × AreCopies s.entries.items s.copies };
 }
 
 impl Store {
@@ -60,6 +64,7 @@ impl Store {
         entries.push((Key::Config, Shared::new(alloc, stored)?))?;
         Ok(Store {
             entries,
+            expiries: Vec::new(alloc),
             revision: 1,
             copies: None,
         })
@@ -102,7 +107,7 @@ impl Store {
             at: now,
         };
         self.copies = None;
-        grant(&mut self.entries, stamp, by, txn)?;
+        grant(&mut self.entries, &mut self.expiries, stamp, by, txn)?;
         self.revision += 1;
         Ok(Granted::of(self.revision, by, is_lease(txn)))
     }
@@ -111,7 +116,10 @@ impl Store {
     pub fn expired(&self, now: Ticks) -> Result<Vec<Key>, AllocError>
         ensures { IfOk result (λ keys. keys.items ≡ expired_keys self.now now.0) }
     {
-        absent_keys(*self.entries.allocator(), &self.entries, now)
+        if has_come(&self.expiries, now) {
+            return absent_keys(*self.entries.allocator(), &self.entries, now);
+        }
+        Ok(Vec::new(*self.entries.allocator()))
     }
 
     /// When the next key expires, but at most a given moment: no key that has an entry is absent before it, and where it is less than the
@@ -121,7 +129,7 @@ impl Store {
         ensures before { (now : ℕ) → now < result.0 → expired_keys self.now now ≡ [] }
         ensures least { result.0 < most.0 → expired_keys self.now result.0 ≢ [] }
     {
-        first_expiry(&self.entries, most)
+        first_expiry(&self.expiries, most)
     }
 
     /// The holder of the leader key, where that key has an entry and is absent at this moment.
@@ -140,8 +148,8 @@ impl Store {
         ensures same { (later : ℕ) (key : Key) → now.0 ≤ later → key_at self.new later key ≡ key_at self.old later key }
     {
         let holder = expired_holder(&self.entries, now);
-        forget_absent(&self.entries, &mut self.copies, now);
-        drop_absent(&mut self.entries, now);
+        forget_ended(&self.expiries, &mut self.copies, now);
+        drop_absent(&mut self.entries, &mut self.expiries, now);
         holder
     }
 
@@ -168,6 +176,7 @@ impl Store {
         told(
             *self.entries.allocator(),
             &self.entries,
+            &self.expiries,
             &mut self.copies,
             now,
         )

@@ -1,6 +1,7 @@
 //! What granted transactions write.
 ghost use Rattle.std.specs.Prelude.{◌≡◌, ◌≤◌, ◌<◌, ◌+◌, ◌++◌, ◌∷◌, [], ◌^◌, Some, None, IsTrue, IfOk, OnOk, OnErr};
 ghost use Rattle.std.specs.FinMap.{find};
+ghost use Rattle.lease_store.specs.Expiries.{AreExpiriesOf};
 ghost use Rattle.lease_store.specs.Kept.{IsKept};
 ghost use Rattle.lease_store.specs.KeyOrder.{key_cmp};
 ghost use Rattle.lease_store.specs.Writes.{Leases as LeasesKey, Extends, Sets, writes_of, pairs_over, puts_of, puts_of_all, deleted_key, extended_expiry, ttl_of, is_lease, status_writes, row_writes, failsafe_writes, sync_value};
@@ -8,6 +9,7 @@ ghost use Rattle.pat_base.specs.Moments.{latest};
 
 use crate::compares::key_entry_at;
 use crate::entries::{Entries, delete, put_all};
+use crate::expiries::Expiries;
 use pat_base::{Lsn, MemberId, MemberSet, Shared, Ticks};
 use std::alloc::AllocError;
 use store_keys::{ConfigValue, HistoryRow, Key, KeyEntry, MemberInfo, SyncKey, Txn, Value};
@@ -47,24 +49,32 @@ fn deleted_key(txn: &Txn) -> Option<Key>
     }
 }
 
-/// Writes what a transaction of a member writes, and keeps what holds of the pairs of every store. It fails only for want
-/// of memory, and then changes nothing.
-pub fn grant(entries: &mut Entries, stamp: Stamp, by: MemberId, txn: &Txn) -> Result<(), AllocError>
+/// Writes what a transaction of a member writes, and keeps what holds of the pairs of every store and of the set of their
+/// expiries. It fails only for want of memory, and then changes nothing.
+pub fn grant(
+    entries: &mut Entries,
+    expiries: &mut Expiries,
+    stamp: Stamp,
+    by: MemberId,
+    txn: &Txn,
+) -> Result<(), AllocError>
     requires kept { IsKept entries.old.items }
+    requires expiries { AreExpiriesOf entries.old.items expiries.old.items }
     requires moment { stamp.at.0 ≤ latest }
     requires span { ttl_of txn.now ≤ 2 ^ 40 }
     ensures entries { OnOk result (entries.new.items ≡ pairs_over stamp.revision stamp.at.0 entries.old.items (writes_of by txn.now)) }
     ensures kept { IsKept entries.new.items }
+    ensures expiries { AreExpiriesOf entries.new.items expiries.new.items }
     ensures err { OnErr result (entries.new.items ≡ entries.old.items) }
 {
     match deleted_key(txn) {
         Some(key) => {
-            delete(entries, key);
+            delete(entries, expiries, key);
             Ok(())
         }
         None => {
             let puts = puts_of(entries, stamp, by, txn)?;
-            put_all(entries, puts)?;
+            put_all(entries, expiries, puts)?;
             Ok(())
         }
     }
