@@ -54,11 +54,13 @@ creating now o = asking now Creating (seconds_after now o.knows.settings.retry_t
 abbrev pub barred : Ineligibility → Outcome → Outcome
 barred bar o = touching (record o { outputs = with_output (outputs.Note (agent_notes.DoesNotRace bar)) o.outputs })
 
--- what the last turn read that a race is judged by: the failover key, and the sync key where the synchronous mode is active
+-- what the last turn read that a race is judged by: the failover key,
+-- and the sync key where the synchronous mode is active
 abbrev pub turn_keys : Knowledge → RaceKeys
 turn_keys knows = record {
   failover = knows.turn_failover;
-  sync = active_sync_where knows.turn_settings.synchronous_mode (option_map (λ (read : SyncRead). read.key) knows.turn_sync);
+  sync = active_sync_where knows.turn_settings.synchronous_mode
+      (option_map (λ (read : SyncRead). read.key) knows.turn_sync);
 }
 
 -- what bars a member from winning the race: by what the turn that asked read of the key

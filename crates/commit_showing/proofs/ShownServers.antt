@@ -56,7 +56,8 @@ members-shown past past' volatile_states volatile_states' k y here there =
     fun_ext (λ n. put-all (λ n. machine_of past (volatile_states n) n) k y
     (λ n z. machine_of past' (volatile_states' n) n ≡ z) here there n)
 
-pub machine-eq : (live live' writes writes' : Bool) (required required' : Confirmers) (confirmed confirmed' : ℕ → Option ℕ)
+pub machine-eq : (live live' writes writes' : Bool) (required required' : Confirmers)
+    (confirmed confirmed' : ℕ → Option ℕ)
     (log log' : Option (List Entry)) (agent agent' : Option Agent) (runs runs' : ℕ) → live ≡ live' → writes ≡ writes'
     → required ≡ required' → confirmed ≡ confirmed' → log ≡ log' → agent ≡ agent' → runs ≡ runs' →
     ◌≡◌ {A = Machine} (record {
