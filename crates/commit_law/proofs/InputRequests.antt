@@ -16,17 +16,18 @@ use Rattle.commit_law.proofs.Prefixes.{behind-undiverged}
 use Rattle.commit_actions.proofs.Counting.{none-of, overlap-gives, publish-gives}
 use Rattle.commit_law.proofs.Logs.{key-some, live-complete, complete-some}
 use Rattle.commit_law.proofs.Acks.{reached}
-use Rattle.commit_law.proofs.Storing.{claim-take, publish-take, inv-fewer, turn-flight, requested-is, snapshot-flight}
+use Rattle.commit_law.proofs.Flights.{inv-fewer, turn-flight, requested-is, snapshot-flight}
+use Rattle.commit_law.proofs.Storing.{claim-take, publish-take}
 use Rattle.commit_law.proofs.Machines.{IsMachineKept, inv-machine, complete-put, undiverged-put}
 use Rattle.commit_law.proofs.InputServers.{Goes, grant-current, live-behind, sent-waits}
 
 -- a sync write is sent
 pub record IsSentKept (s : State) (w : SyncRequest) : Type 0 where
-  request : IsRequestKept s w
-  fresh : (i : ℕ) (g : LeaseGrant) → s.flight i ≡ Some (LeaseGranted g) → w.leader ≡ g.revision → ⊥
-  lease_unwaited : (i : ℕ) (g : LeaseGrant) → s.flight i ≡ Some (LeaseGranted g) → w.member ≡ g.member
+  pub request : IsRequestKept s w
+  pub fresh : (i : ℕ) (g : LeaseGrant) → s.flight i ≡ Some (LeaseGranted g) → w.leader ≡ g.revision → ⊥
+  pub lease_unwaited : (i : ℕ) (g : LeaseGrant) → s.flight i ≡ Some (LeaseGranted g) → w.member ≡ g.member
       → Waits (s.members g.member) g.incarnation g.sequence → ⊥
-  sync_unwaited : (i : ℕ) (a : SyncGrant) → s.flight i ≡ Some (SyncGranted a) → w.member ≡ a.member
+  pub sync_unwaited : (i : ℕ) (a : SyncGrant) → s.flight i ≡ Some (SyncGranted a) → w.member ≡ a.member
       → Waits (s.members a.member) a.incarnation a.sequence → ⊥
 
 inv-sent : (s : State) (number : ℕ) (w : SyncRequest) → IsSound s → IsSentKept s w

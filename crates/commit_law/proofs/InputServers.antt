@@ -18,10 +18,10 @@ use Rattle.commit_law.proofs.Machines.{IsChangeFor, IsMachineKept}
 
 -- the law's facts of the input without what it does
 pub record Goes (s : State) (m : ℕ) (input : AgentInput) (was : Agent) : Type 0 where
-  was_is : (s.members m).agent ≡ Some was
-  incarnation : input.agent.incarnation ≡ was.incarnation
-  last : was.last ≤ input.agent.last
-  waits : (sequence : ℕ) → input.agent.waits ≡ Some sequence → (was.waits ≡ Some sequence) ⊎ (was.last < sequence)
+  pub was_is : (s.members m).agent ≡ Some was
+  pub incarnation : input.agent.incarnation ≡ was.incarnation
+  pub last : was.last ≤ input.agent.last
+  pub waits : (sequence : ℕ) → input.agent.waits ≡ Some sequence → (was.waits ≡ Some sequence) ⊎ (was.last < sequence)
 
 was-ready : (s : State) (m : ℕ) (was : Agent) → (s.members m).agent ≡ Some was → was.ready ≡ true
     → is_ready (s.members m).agent ≡ true

@@ -1,5 +1,5 @@
 -- The events of an action, folded, are the action.
-use Rattle.std.proofs.Common.{◌≡◌, ℕ, Bool, List, ◌∷◌, Option, Some, slice_get, refl, ◌∙◌, ap}
+use Rattle.std.proofs.Common.{◌≡◌, ℕ, Bool, List, ◌∷◌, Option, Some, slice_get, refl, ◌∙◌, ap, []}
 use Rattle.std.proofs.Math.Path.{fun_ext}
 use Rattle.pat_base.specs.declared.lsn.Lsn.{Lsn}
 use Rattle.wal_model.specs.declared.entry.Entry.{Entry}

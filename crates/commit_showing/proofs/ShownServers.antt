@@ -1,5 +1,5 @@
 -- The events of what happens to logs, servers and agents, folded, are the action.
-use Rattle.std.proofs.Common.{◌≡◌, ℕ, zero, suc, ◌+◌, ◌<◌, Bool, true, false, List, ◌∷◌, ◌++◌, length, replicate, take, Option, Some, None, slice_get, slice_set, refl, ◌∙◌, ap, sym, arith}
+use Rattle.std.proofs.Common.{◌≡◌, ℕ, zero, suc, ◌+◌, ◌<◌, Bool, true, false, List, ◌∷◌, ◌++◌, length, replicate, take, Option, Some, None, slice_get, slice_set, refl, ◌∙◌, ap, sym, arith, []}
 use Rattle.std.proofs.Math.Path.{fun_ext}
 use Rattle.pat_base.specs.declared.lsn.Lsn.{Lsn}
 use Rattle.pat_base.specs.declared.ticks.Ticks.{Ticks}

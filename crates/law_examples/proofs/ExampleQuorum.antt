@@ -1,5 +1,5 @@
 -- Each action of that run is allowed, and what it comes to.
-use Rattle.std.proofs.Common.{◌≡◌, ℕ, ◌==◌, true, false, ◌∷◌, Some, None, refl, sym, subst, arith, inl, inr}
+use Rattle.std.proofs.Common.{◌≡◌, ℕ, ◌==◌, true, false, ◌∷◌, Some, None, refl, sym, subst, arith, inl, inr, []}
 use Rattle.commit_actions.specs.Keys.{Counted, Confirmed}
 use Rattle.commit_actions.specs.States.{State, Reaches}
 use Rattle.commit_actions.specs.Inputs.{WasLeaderless, Idling, Racing, HearingAnswer, WinningRace, CreatingLeader, Arming, ChangingRequired, Publishing, Promoting}

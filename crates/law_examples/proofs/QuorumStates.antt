@@ -1,6 +1,6 @@
 -- A run where creations compare the sync key and member 0 goes on without its leader key for
 -- -- a while: member 1's snapshot is read before the commit, and its asks go out after member 0 ended.
-use Rattle.std.proofs.Common.{ℕ, ◌==◌, ◌||◌, Bool, true, false, if◌then◌else◌, List, ◌∷◌, Some, None}
+use Rattle.std.proofs.Common.{ℕ, ◌==◌, ◌||◌, Bool, true, false, if◌then◌else◌, List, ◌∷◌, Some, None, []}
 use Rattle.commit_actions.specs.Keys.{SyncKey, Nobody, AtLeast}
 use Rattle.commit_actions.specs.Flights.{ClaimSync, PublishStandbys, CreateLeader, SyncRequest}
 use Rattle.commit_actions.specs.States.{Race, State}

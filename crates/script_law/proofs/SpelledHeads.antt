@@ -1,5 +1,5 @@
 -- What is spelled as a line of the head is read as it.
-use Rattle.std.proofs.Common.{◌≡◌, ℕ, ◌+◌, ◌^◌, ◌≤◌, ◌<◌, ◌&&◌, nat_le, true, false, cond, List, ◌∷◌, ◌++◌, length, map, Option, Some, None, Ok, Err, ◌∙◌, ap, arith}
+use Rattle.std.proofs.Common.{◌≡◌, ℕ, ◌+◌, ◌^◌, ◌≤◌, ◌<◌, ◌&&◌, nat_le, true, false, cond, List, ◌∷◌, ◌++◌, length, map, Option, Some, None, Ok, Err, ◌∙◌, ap, arith, []}
 use Rattle.std.specs.Fmt.{decimal}
 use Rattle.std.specs.Option.{ok_or}
 use Rattle.std.proofs.lemmas.Bool.Decides.{nat_tests}
@@ -65,7 +65,7 @@ next_base-again n least most =
     (in_range n least most)
 
 -- a head alone
-pub start : Name → Option Settings → Option ℕ → List MemberText → DraftText
+unfoldable pub start : Name → Option Settings → Option ℕ → List MemberText → DraftText
 start cluster config base members =
     record { cluster = cluster; config = config; base = base; members = members; body = [] }
 
