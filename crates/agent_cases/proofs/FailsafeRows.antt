@@ -63,40 +63,40 @@ pub record IsAwaitedYes (sequence : ℕ) (accepted : Bool) (o : Outcome) : Type 
   pub waited : PendingQuestion
   pub waits : o.knows.waited ≡ Some waited
   pub awaits : awaits_failsafe waited sequence ≡ true
-  pub yes : accepted ≡ true
+  pub accepts : accepted ≡ true
 
 accepted-failsafe : (P : Outcome → Type 0) (now : Ticks) (waited : PendingQuestion) (from : MemberId)
     (accepted : Bool) (sent : Ticks) (role : RoleFacts) (o : Outcome) → o.role ≡ role
     → o.knows.waited ≡ Some waited → is_staying waited.question ≡ true → StayElse P now o
     → (accepted ≡ true → StayRows P now from sent o) → P (accepted_failsafe now waited from accepted sent role o)
-accepted-failsafe P now waited from true sent (Leader revision) o role is staying rows yes = acknowledged-by P now
-    waited from sent (moment_of_all (heard o.knows.failsafe from true sent)) revision o role is staying refl (yes refl)
-accepted-failsafe P now waited from false sent (Leader revision) o role is staying rows yes =
+accepted-failsafe P now waited from true sent (Leader revision) o role is staying rows said = acknowledged-by P now
+    waited from sent (moment_of_all (heard o.knows.failsafe from true sent)) revision o role is staying refl (said refl)
+accepted-failsafe P now waited from false sent (Leader revision) o role is staying rows said =
     unacknowledged-by P now o rows.quiet rows.fails
-accepted-failsafe P now waited from accepted sent Follower o role is staying rows yes = rows.quiet
-accepted-failsafe P now waited from accepted sent (Holder held) o role is staying rows yes = rows.quiet
-accepted-failsafe P now waited from accepted sent (Ready held) o role is staying rows yes = rows.quiet
-accepted-failsafe P now waited from accepted sent (Ending held why) o role is staying rows yes = rows.quiet
-accepted-failsafe P now waited from accepted sent Unleased o role is staying rows yes = rows.quiet
+accepted-failsafe P now waited from accepted sent Follower o role is staying rows said = rows.quiet
+accepted-failsafe P now waited from accepted sent (Holder held) o role is staying rows said = rows.quiet
+accepted-failsafe P now waited from accepted sent (Ready held) o role is staying rows said = rows.quiet
+accepted-failsafe P now waited from accepted sent (Ending held why) o role is staying rows said = rows.quiet
+accepted-failsafe P now waited from accepted sent Unleased o role is staying rows said = rows.quiet
 
 failsafe-answered-for : (P : Outcome → Type 0) (now : Ticks) (from : MemberId) (sequence : ℕ)
     (accepted : Bool) (sent : Ticks) (waited : Option PendingQuestion) (o : Outcome) → o.knows.waited ≡ waited
     → StayElse P now o → (IsAwaitedYes sequence accepted o → StayRows P now from sent o)
     → P (failsafe_answered_for now from sequence accepted sent waited o)
-failsafe-answered-for P now from sequence accepted sent None o is rows yes = rows.kept
-failsafe-answered-for P now from sequence accepted sent (Some waited) o is rows yes =
+failsafe-answered-for P now from sequence accepted sent None o is rows said = rows.kept
+failsafe-answered-for P now from sequence accepted sent (Some waited) o is rows said =
     if-cases P (awaits_failsafe waited sequence) (accepted_failsafe now waited from accepted sent o.role o) o
     (λ awaits. accepted-failsafe P now waited from accepted sent o.role o refl is
     (and-left (is_staying waited.question) (waited.sequence == sequence) awaits) rows
-    (λ accepts. yes (record { waited = waited; waits = is; awaits = awaits; yes = accepts }))) (λ _. rows.kept)
+    (λ is_yes. said (record { waited = waited; waits = is; awaits = awaits; accepts = is_yes }))) (λ _. rows.kept)
 
 -- those of an acknowledgement by what is heard
 pub failsafe-answered-when : (P : Outcome → Type 0) (now : Ticks) (from : MemberId) (sequence : ℕ)
     (accepted : Bool) (sent : Ticks) (o : Outcome) → StayElse P now o
     → (IsAwaitedYes sequence accepted o → StayRows P now from sent o)
     → P (failsafe_answered now from sequence accepted sent o)
-failsafe-answered-when P now from sequence accepted sent o rows yes =
-    failsafe-answered-for P now from sequence accepted sent o.knows.waited o refl rows yes
+failsafe-answered-when P now from sequence accepted sent o rows said =
+    failsafe-answered-for P now from sequence accepted sent o.knows.waited o refl rows said
 
 pub failsafe-answered-by : (P : Outcome → Type 0) (now : Ticks) (from : MemberId) (sequence : ℕ) (accepted : Bool)
     (sent : Ticks) (o : Outcome) → StayRows P now from sent o → P (failsafe_answered now from sequence accepted sent o)

@@ -1,7 +1,6 @@
 -- Who has acknowledged a failsafe request once one more acknowledgement is heard.
 use Rattle.std.proofs.Common.{◌≡◌, ◌⊎◌, ℕ, ◌==◌, ◌||◌, Bool, true, false, if◌then◌else◌, Option, Some, None, refl, sym, ◌∙◌, inl, inr}
 use Rattle.pat_base.specs.declared.member_id.MemberId.{MemberId}
-use Rattle.pat_base.specs.declared.member_set.MemberSet.{MemberSet}
 use Rattle.pat_base.specs.declared.ticks.Ticks.{Ticks}
 use Rattle.failsafe.specs.declared.asks.Ask.{Ask}
 use Rattle.failsafe.specs.Asks.{counts, earliest_or, has, heard, is_within, moment_of_all, with_acknowledgement}

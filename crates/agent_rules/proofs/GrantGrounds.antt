@@ -11,7 +11,6 @@ use Rattle.store_keys.specs.declared.txn.Txn.TheVariants as txns
 use Rattle.cluster_view.specs.Snapshots.{SnapshotFacts, settings_in}
 use Rattle.event_book.specs.declared.agent_note.AgentNote.TheVariants as agent_notes
 use Rattle.event_book.specs.declared.message.Body.TheVariants as bodies
-use Rattle.failsafe.specs.Asks.{has}
 use Rattle.event_book.specs.declared.reason.Reason.TheVariants.{StartTooLong, WatchdogNotArmed}
 use Rattle.leader_key.specs.Watchdog.{is_armable, timeout_of}
 use Rattle.agent_model.specs.declared.heard.Heard.{Heard}
@@ -32,7 +31,6 @@ use Rattle.agent_model.specs.Pausing.{is_paused, is_wanted, disabling_told, disa
 use Rattle.agent_model.specs.Peers.{asked}
 use Rattle.agent_model.specs.Snapshots.{informed}
 use Rattle.agent_model.specs.Synchronous.{expected_of, sync_read_in, waiting_for}
-use Rattle.agent_model.specs.Table.{step}
 use Rattle.agent_cases.proofs.Rows.{if-cases}
 use Rattle.agent_cases.proofs.Grants.{led_on, leading_in_pause, passing-by, duties-when, granted-heard}
 use Rattle.agent_roles.proofs.Living.{no-way}
@@ -53,7 +51,7 @@ use Rattle.agent_model.specs.declared.knowledge.SyncRead.{SyncRead}
 use Rattle.agent_model.specs.Planning.{leader_view, naming, planned_as, settled, switching_off, writing_sync}
 use Rattle.agent_roles.specs.Powers.{IsAwaitedLease}
 use Rattle.agent_rules.specs.Grounds.RequireGround.{Plans, Settles}
-use Rattle.agent_rules.proofs.Grounds.{KeepsLeases, So, Sofar, arm-so, begin-so, disabled-so, end-so, failover-so, feed-so, from-lease, kept-by, more, postpone-so, quiet, waits, with-role}
+use Rattle.agent_rules.proofs.Grounds.{Ground, KeepsLeases, So, Sofar, arm-so, begin-so, disabled-so, end-so, failover-so, feed-so, from-lease, kept-by, more, postpone-so, quiet, waits, with-role}
 
 -- over what precedes the input, `b`, which hears this
 module _ (now : Ticks) (heard : Heard) (b : Outcome) where
@@ -229,7 +227,7 @@ module _ (now : Ticks) (heard : Heard) (b : Outcome) where
     }) (more now heard b b.outputs b.role None (outputs.Note agent_notes.CannotArm) tt tt r)
 
     -- the lease that is decided on is the one that is waited for
-    awaits : Decides sequence grant b → IsAwaitedLease sequence grant b.knows
+    abbrev awaits : Decides sequence grant b → IsAwaitedLease sequence grant b.knows
     awaits decides = record {
       waited = decides.asked;
       is = decides.is;
@@ -279,7 +277,7 @@ module _ (now : Ticks) (heard : Heard) (b : Outcome) where
         (λ _. gives-so grant.revision Heard_so r)
 
     -- the grant of a write of the sync key that is waited for
-    own-write : (question : Question) (asked : PendingQuestion) → b.knows.waited ≡ Some asked
+    abbrev own-write : (question : Question) (asked : PendingQuestion) → b.knows.waited ≡ Some asked
         → is_sync_decision asked sequence && is_write_of b.knows.who.me grant ≡ true → asked.question ≡ question
         → HearsOwnWrite heard b question
     own-write question asked waited decision asks = record {

@@ -427,7 +427,7 @@ module _ (now : Ticks) (heard : Heard) (b : Outcome) where
       (end-so FailsafeNotAcknowledged (waiting_no_more b) (quiet b s)) in
       failsafe-answered-when So now from sequence accepted sent b
       (record { kept = s; quiet = quiet b s; fails = fails })
-      (λ yes. record {
+      (λ said. record {
         kept = s;
         quiet = quiet b s;
         counts = λ _ _. s;
@@ -437,11 +437,11 @@ module _ (now : Ticks) (heard : Heard) (b : Outcome) where
             (λ until is_until. inl (record {
               from = from;
               sent = sent;
-              is = is ∙ heard-yes from sequence waited.sequence accepted sent yes.yes
+              is = is ∙ heard-yes from sequence waited.sequence accepted sent said.accepts
                   (numbers-same waited.sequence sequence
                   (second-true (is_staying waited.question) (waited.sequence == sequence)
                   (subst (λ (w : PendingQuestion). awaits_failsafe w sequence ≡ true)
-                  (some-is waited (sym yes.waits ∙ waits)) yes.awaits)));
+                  (some-is said.waited waited (sym said.waits ∙ waits)) said.awaits)));
               leads = ap is_leader leads;
               waited = waited;
               waits = waits;

@@ -1,5 +1,5 @@
 -- What a leader asks the other members that can't reach the key store.
-use Rattle.std.proofs.Common.{ℕ, zero, suc, ◌≡◌, ◌⊎◌, ◌≤◌, ◌<◌, ◌==◌, ◌&&◌, not, nat_le, Bool, true, false, cond, List, Option, Some, None, Contains, refl, sym, subst, ap, ◌∙◌, arith, inl, inr}
+use Rattle.std.proofs.Common.{ℕ, zero, suc, ◌≡◌, ◌⊎◌, ◌≤◌, ◌<◌, ◌+◌, ◌==◌, ◌&&◌, not, nat_le, Bool, true, false, cond, List, [], ◌∷◌, Option, Some, None, Contains, refl, sym, subst, ap, ◌∙◌, arith, inl, inr}
 use Rattle.std.proofs.lemmas.Bool.{false_from_ne_true}
 use Rattle.std.proofs.lemmas.Bool.Decides.{nat_tests}
 use Rattle.std.proofs.lemmas.List.Elements.{Contains-append_left, Contains-push}
@@ -21,11 +21,9 @@ use Rattle.agent_model.specs.declared.output.Output.{Output}
 use Rattle.agent_model.specs.declared.output.Output.TheVariants as outputs
 use Rattle.agent_model.specs.declared.output.Target.TheVariants as targets
 use Rattle.agent_model.specs.Acting.{lease_span, waiting_no_more}
-use Rattle.agent_model.specs.Agents.{RoleFacts, Follower, Holder, Ready, Leader, Ending, Unleased, Outcome}
+use Rattle.agent_model.specs.Agents.{RoleFacts, Leader, Outcome}
 use Rattle.agent_model.specs.Fits.{Fits}
-use Rattle.agent_model.specs.Operators.{given_up}
 use Rattle.agent_model.specs.Outputs.{with_output}
-use Rattle.agent_model.specs.Pausing.{is_paused}
 use Rattle.agent_model.specs.Reconciling.{reconciled}
 use Rattle.agent_model.specs.StayingPrimary.{asking_to_stay, may_stay, others_known, requesting_first, requesting_one, seeks_to_stay, stays_alone}
 use Rattle.agent_model.specs.Table.{step}
@@ -56,8 +54,8 @@ leader-lives role revision lives is fits = subst (λ (r : RoleFacts). Fits r liv
 pub heard-yes : (from : MemberId) (sequence number : ℕ) (accepted : Bool) (sent : Ticks) → accepted ≡ true
     → number ≡ sequence
     → heards.FailsafeAnswered from sequence accepted sent ≡ heards.FailsafeAnswered from number true sent
-heard-yes from sequence number accepted sent yes same =
-    ap (λ (a : Bool). heards.FailsafeAnswered from sequence a sent) yes
+heard-yes from sequence number accepted sent accepts same =
+    ap (λ (a : Bool). heards.FailsafeAnswered from sequence a sent) accepts
     ∙ ap (λ (n : ℕ). heards.FailsafeAnswered from n true sent) (sym same)
 
 -- only a leader whose deadline acknowledgements didn't set last has a set to carry

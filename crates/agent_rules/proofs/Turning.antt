@@ -1,15 +1,13 @@
 -- A turn that is due reads what the key store holds, by the rows of the decision table.
-use Rattle.std.proofs.Common.{ℕ, ◌≡◌, ◌≤◌, ◌<◌, ◌+◌, ◌||◌, ◌&&◌, ◌==◌, nat_le, Bool, true, false, cond, is_none, if◌then◌else◌, List, Option, Some, None, Contains, refl, sym, subst, ap, ◌∙◌, arith}
+use Rattle.std.proofs.Common.{ℕ, ◌≡◌, ◌≤◌, ◌<◌, ◌+◌, ◌||◌, ◌&&◌, ◌==◌, nat_le, Bool, true, false, cond, is_none, List, Option, Some, None, Contains, refl, sym, subst, ap, ◌∙◌, arith}
 use Rattle.std.proofs.lemmas.Bool.Decides.{nat_tests}
 use Rattle.std.proofs.lemmas.List.Elements.{Contains-push}
 use Rattle.pat_base.specs.declared.ticks.Ticks.{Ticks}
-use Rattle.pat_base.specs.ServerState.{live}
 use Rattle.store_keys.specs.declared.config.Config.{Config}
 use Rattle.wal_model.specs.declared.entry.HistoryPoint.{HistoryPoint}
 use Rattle.event_book.specs.declared.message.Body.TheVariants as bodies
 use Rattle.agent_model.specs.declared.heard.Heard.{Heard}
 use Rattle.agent_model.specs.declared.heard.Heard.TheVariants as heards
-use Rattle.agent_model.specs.declared.knowledge.Knowledge.{Knowledge}
 use Rattle.agent_model.specs.declared.knowledge.Question.{Question}
 use Rattle.agent_model.specs.declared.knowledge.Question.TheVariants.{Reading, ComparingPositions, Creating, Renewing, Claiming, Syncing, FindingCandidate, StayingPrimary}
 use Rattle.agent_model.specs.declared.knowledge.PendingQuestion.{PendingQuestion}
@@ -18,7 +16,7 @@ use Rattle.agent_model.specs.declared.output.Target.TheVariants as targets
 use Rattle.agent_model.specs.declared.why.Why.{Why}
 use Rattle.agent_model.specs.declared.why.Why.TheVariants.{HandOver, Lost}
 use Rattle.agent_model.specs.Acting.{seconds_after, waiting_no_more}
-use Rattle.agent_model.specs.Agents.{RoleFacts, Follower, Holder, Ready, Leader, Ending, Unleased, Outcome, is_leader, outcome_from}
+use Rattle.agent_model.specs.Agents.{RoleFacts, Follower, Holder, Ready, Leader, Ending, Unleased, Outcome, is_leader}
 use Rattle.agent_model.specs.Claiming.{claim_fails_as, postpones}
 use Rattle.agent_model.specs.Decisions.{may_create}
 use Rattle.agent_model.specs.HandingOver.{hands_over, judged_if_leading}
@@ -29,10 +27,10 @@ use Rattle.agent_model.specs.Racing.{barred, judged}
 use Rattle.agent_model.specs.Reconciling.{reconciled, has_ended}
 use Rattle.agent_model.specs.StayingPrimary.{leader_unacknowledged, asking_to_stay, may_stay, others_known, seeks_to_stay, stays_alone, unacknowledged_as}
 use Rattle.agent_model.specs.Table.{step}
-use Rattle.agent_model.specs.Wake.{finds_ended, has_turn, is_due, is_overdue, is_stopping, leader_out_of_reach, out_of_reach, out_of_reach_as, overdue, overdue_for, reading, roused, unleased_out_of_reach, turn_as, turn_begins, turn_noted, turned, unanswered}
+use Rattle.agent_model.specs.Wake.{finds_ended, has_turn, is_overdue, is_stopping, leader_out_of_reach, out_of_reach, out_of_reach_as, overdue, overdue_for, reading, roused, unleased_out_of_reach, turn_as, turn_begins, turn_noted, turned, unanswered}
 use Rattle.agent_cases.proofs.Rows.{dropping, before-by, given-up-by, handover-by, if-cases, judged-by}
 use Rattle.agent_roles.proofs.Living.{no-way}
-use Rattle.agent_rules.specs.Turns.{AsksFirst, HasTurn, HasTurnBehind, IsEnding, MayFollow, Reads, ReadsInTurn, TurnBehind, TurnsRead, WaitsForEnd}
+use Rattle.agent_rules.specs.Turns.{HasTurn, HasTurnBehind, IsEnding, FollowsUnanswered, ReadsNow, ReadsInTurn, TurnBehind, WaitsForEnd}
 use Rattle.agent_rules.specs.Turns.TurnBehind.{AsksOn, GivesUp, ReadsOn, WaitsOn}
 
 pub at-most : (a b : ℕ) → a ≤ b → nat_le a b ≡ true
@@ -59,7 +57,7 @@ record Turning (now : Ticks) (o x : Outcome) : Type 0 where
   counted : o.knows.sequence ≤ x.knows.sequence
 
 reads-turn : (now : Ticks) (o x : Outcome) → Turning now o x
-    → Reads now o (reading now (record x { knows = turn_noted now x.knows }))
+    → ReadsNow now o (reading now (record x { knows = turn_noted now x.knows }))
 reads-turn now o x t = record {
   waited = _;
   waits = refl;
@@ -83,10 +81,10 @@ turn-begun now x idle come =
 
 begun-reads : (now : Ticks) (role : RoleFacts) (o x : Outcome) → x.role ≡ role → Turning now o x
     → (IsEnding x.role → ⊥) → (WaitsForEnd x → ⊥)
-    → Reads now o (turn_as now role (record x { knows = turn_noted now x.knows }))
+    → ReadsNow now o (turn_as now role (record x { knows = turn_noted now x.knows }))
 begun-reads now (Ending revision why) o x is t ends waits = absurd (ends (rw is tt))
 begun-reads now Unleased o x is t ends waits =
-    if-cases (Reads now o) (is_stopping x.machine.server.state) (record x { knows = turn_noted now x.knows })
+    if-cases (ReadsNow now o) (is_stopping x.machine.server.state) (record x { knows = turn_noted now x.knows })
     (reading now (record x { knows = turn_noted now x.knows }))
     (λ stops. absurd (waits (record { role = is; stops = stops }))) (λ _. reads-turn now o x t)
 begun-reads now Follower o x is t ends waits = reads-turn now o x t
@@ -135,7 +133,7 @@ module _ (now : Ticks) (before : Question) (o : Outcome) where
     quiet = idle-behind (waiting_no_more t) refl more still
 
     -- the key store is out of reach
-    reach-as : MayFollow before StayingPrimary → (r : RoleFacts) → t.role ≡ r
+    reach-as : FollowsUnanswered before StayingPrimary → (r : RoleFacts) → t.role ≡ r
         → Behind (turned now (out_of_reach_as now r (waiting_no_more t)))
     reach-as follows (Leader revision) leader =
         let x : Outcome = waiting_no_more t in
@@ -162,7 +160,7 @@ module _ (now : Ticks) (before : Question) (o : Outcome) where
     reach-as follows (Ready revision) other = quiet
     reach-as follows (Ending revision why) other = quiet
 
-    reach-behind : MayFollow before StayingPrimary → Behind (turned now (out_of_reach now t))
+    reach-behind : FollowsUnanswered before StayingPrimary → Behind (turned now (out_of_reach now t))
     reach-behind follows = if-cases (λ (y : Outcome). Behind (turned now y)) (is_paused t.knows)
         (waiting_no_more t) (out_of_reach_as now t.role (waiting_no_more t))
         (λ _. quiet) (λ _. reach-as follows t.role refl)
@@ -205,7 +203,7 @@ module _ (now : Ticks) (before : Question) (o : Outcome) where
     handover-behind (Holder revision) other = quiet
     handover-behind (Ending revision why) other = quiet
 
-    race-behind : MayFollow before Creating → Behind (turned now (judged_if_racing now t))
+    race-behind : FollowsUnanswered before Creating → Behind (turned now (judged_if_racing now t))
     race-behind follows = if-cases (λ (y : Outcome). Behind (turned now y)) (may_create t.role) (judged now t)
         (waiting_no_more t)
         (λ _. judged-by (λ (y : Outcome). Behind (turned now y)) now t
@@ -226,9 +224,10 @@ module _ (now : Ticks) (before : Question) (o : Outcome) where
         (λ _. quiet)
 
     question-behind : (question : Question) → question ≡ before → Behind (turned now (unanswered now question t))
-    question-behind Reading same = reach-behind (subst (λ (q : Question). MayFollow q StayingPrimary) same tt)
-    question-behind Renewing same = reach-behind (subst (λ (q : Question). MayFollow q StayingPrimary) same tt)
-    question-behind ComparingPositions same = race-behind (subst (λ (q : Question). MayFollow q Creating) same tt)
+    question-behind Reading same = reach-behind (subst (λ (q : Question). FollowsUnanswered q StayingPrimary) same tt)
+    question-behind Renewing same = reach-behind (subst (λ (q : Question). FollowsUnanswered q StayingPrimary) same tt)
+    question-behind ComparingPositions same =
+        race-behind (subst (λ (q : Question). FollowsUnanswered q Creating) same tt)
     question-behind Creating same = quiet
     question-behind Claiming same = claim-behind t.role refl
     question-behind (Syncing settling) same = quiet
@@ -272,14 +271,14 @@ roused-so P now o due p points = subst P
 
 -- nothing is waited for
 idle-reads : (now : Ticks) (b t : Outcome) → t.knows.waited ≡ None → Turning now b t → (IsEnding t.role → ⊥)
-    → (WaitsForEnd t → ⊥) → Reads now b (turned now (overdue now t))
+    → (WaitsForEnd t → ⊥) → ReadsNow now b (turned now (overdue now t))
 idle-reads now b t idle is ends waits =
-    subst (λ (y : Outcome). Reads now b (turned now y))
+    subst (λ (y : Outcome). ReadsNow now b (turned now y))
     (sym (ap (λ (w : Option PendingQuestion). overdue_for now w t) idle))
-    (subst (Reads now b) (sym (turn-begun now t idle is.come)) (begun-reads now t.role b t refl is ends waits))
+    (subst (ReadsNow now b) (sym (turn-begun now t idle is.come)) (begun-reads now t.role b t refl is ends waits))
 
 due-reads : (now : Ticks) (points : List HistoryPoint) (o : Outcome) → HasTurn now (reconciled now o)
-    → Reads now (reconciled now o) (step now points heards.Wake o)
+    → ReadsNow now (reconciled now o) (step now points heards.Wake o)
 due-reads now points o has =
     let b : Outcome = reconciled now o in
     let keeps = before-keeps now o in
@@ -287,8 +286,8 @@ due-reads now points o has =
     let due : has_turn now o.knows ≡ true =
     ap (λ (w : Option PendingQuestion). is_none w && nat_le o.knows.next_turn.0 now.0) idle
     ∙ (ap (λ (m : Ticks). nat_le m.0 now.0) (sym keeps.next) ∙ at-most b.knows.next_turn.0 now.0 has.come) in
-    roused-so (Reads now b) now o (or-second (is_overdue now o.knows.waited) (has_turn now o.knows) due)
-    (given-up-by (λ (t : Outcome). Reads now b (turned now (overdue now t))) now b (record {
+    roused-so (ReadsNow now b) now o (or-second (is_overdue now o.knows.waited) (has_turn now o.knows) due)
+    (given-up-by (λ (t : Outcome). ReadsNow now b (turned now (overdue now t))) now b (record {
       kept = idle-reads now b b has.idle (record { come = has.come; settings = refl; counted = omega (arith) })
           has.ends has.waits;
       answers = λ request told. idle-reads now b (answering request told b) has.idle

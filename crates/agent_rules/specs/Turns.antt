@@ -1,5 +1,5 @@
 -- A turn that is due reads what the key store holds.
-use Rattle.std.specs.Prelude.{ℕ, ◌≡◌, ◌≤◌, ◌<◌, true, false, Some, None, Contains}
+use Rattle.std.specs.Prelude.{◌≡◌, ◌≤◌, ◌<◌, true, Some, None, Contains}
 use Rattle.pat_base.specs.declared.ticks.Ticks.{Ticks}
 use Rattle.event_book.specs.declared.message.Body.TheVariants as bodies
 use Rattle.agent_model.specs.declared.heard.Heard.{Heard}
@@ -40,7 +40,7 @@ pub record HasTurnBehind (now : Ticks) (waited : PendingQuestion) (o : Outcome) 
 
 -- the agent asks the key store what it holds, by the newest of its messages, and waits for the answer
 -- to that until `retry_timeout` seconds are over; its next turn comes `loop_wait` seconds after this one
-pub record Reads (now : Ticks) (o after : Outcome) : Type 0 where
+pub record ReadsNow (now : Ticks) (o after : Outcome) : Type 0 where
   pub waited : PendingQuestion
   pub waits : after.knows.waited ≡ Some waited
   pub asks : waited.question ≡ Reading
@@ -54,31 +54,31 @@ pub record Reads (now : Ticks) (o after : Outcome) : Type 0 where
 
 -- what an agent may ask at once where the time for an answer is over: for the leader key, by the answers of the
 -- other members that came; and these, whether it may stay primary, as its read or its renewal isn't answered
-abbrev pub MayFollow : Question → Question → Type 0
-MayFollow ComparingPositions Creating = Unit {0}
-MayFollow Reading StayingPrimary = Unit {0}
-MayFollow Renewing StayingPrimary = Unit {0}
-MayFollow _ _ = ⊥
+abbrev pub FollowsUnanswered : Question → Question → Type 0
+FollowsUnanswered ComparingPositions Creating = Unit {0}
+FollowsUnanswered Reading StayingPrimary = Unit {0}
+FollowsUnanswered Renewing StayingPrimary = Unit {0}
+FollowsUnanswered _ _ = ⊥
 
 -- it asks that, and waits for the answer; the turn comes later
 pub record AsksFirst (before : Question) (o after : Outcome) : Type 0 where
   pub waited : PendingQuestion
   pub waits : after.knows.waited ≡ Some waited
-  pub follows : MayFollow before waited.question
+  pub follows : FollowsUnanswered before waited.question
   pub later : o.knows.sequence < waited.sequence
   pub newest : waited.sequence ≡ after.knows.sequence
 
 -- what comes of a turn behind an unanswered question: the agent reads; or it asks first what
 -- may follow; or, of a leader, it ends its server; or it has no lease and waits for its server's end
 pub data TurnBehind (now : Ticks) (before : Question) (o after : Outcome) : Type 0 where
-  ReadsOn : (reads : Reads now o after) → TurnBehind now before o after
+  ReadsOn : (reads : ReadsNow now o after) → TurnBehind now before o after
   AsksOn : (asks : AsksFirst before o after) → TurnBehind now before o after
   GivesUp : (led : is_leader o.role ≡ true) → (ends : IsEnding after.role) → TurnBehind now before o after
   WaitsOn : (waits : WaitsForEnd after) → TurnBehind now before o after
 
 -- a wake in which a turn is due reads, and so does one behind an unanswered question
 pub record TurnsRead (now : Ticks) (o after : Outcome) : Type 0 where
-  pub due : HasTurn now o → Reads now o after
+  pub due : HasTurn now o → ReadsNow now o after
   pub behind : (waited : PendingQuestion) → HasTurnBehind now waited o → TurnBehind now waited.question o after
 
 -- an input that is a wake does
