@@ -53,7 +53,8 @@ use Rattle.agent_roles.proofs.Living.{no-way}
 use Rattle.agent_roles.proofs.Knowing.{before-onward, before-read}
 use Rattle.agent_answers.proofs.Replying.{Quiet, as-said, told-more, told-same, before-quiet, roused-quiet, got-quiet, refused-quiet, granted-quiet, answered-quiet, failsafe-quiet}
 use Rattle.agent_model.proofs.Judging.{if-true}
-use Rattle.agent_cases.proofs.Rows.{before-by, if-cases, wake-by, failsafe-asked-by}
+use Rattle.agent_cases.proofs.Rows.{before-by, if-cases, wake-by}
+use Rattle.agent_cases.proofs.FailsafeRows.{failsafe-asked-by}
 use Rattle.agent_model.specs.Views.{shown as view_shown}
 use Rattle.failsafe.specs.Holding.{may_hold}
 

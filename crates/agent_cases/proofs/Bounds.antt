@@ -40,7 +40,8 @@ use Rattle.failsafe.specs.Asks.{asked, has}
 use Rattle.agent_model.specs.Table.{granted_any, refused_any, step}
 use Rattle.agent_model.specs.Wake.{overdue, turned, woken}
 use Rattle.agent_cases.specs.Bounds.{IsSmall}
-use Rattle.agent_cases.proofs.Rows.{HandoverRows, ReplyRows, if-cases, before-by, overdue-by, turn-by, wake-by, got-by, refused-by, follow-by, repaired-by, free-by, judged-by, answered-by, given-up-by, looked-by, failsafe-asked-by, failsafe-answered-by, refused-any-by, asked-to-hold-by}
+use Rattle.agent_cases.proofs.Rows.{HandoverRows, ReplyRows, if-cases, before-by, overdue-by, turn-by, wake-by, got-by, refused-by, follow-by, repaired-by, free-by, judged-by, answered-by, given-up-by, looked-by, refused-any-by, asked-to-hold-by}
+use Rattle.agent_cases.proofs.FailsafeRows.{failsafe-asked-by, failsafe-answered-by}
 use Rattle.agent_cases.proofs.Grants.{WritesSync, kept_on, led_on, begins-or-claims-by, passing-by, judges-start-by, granted-by, granted-any-by, DutyRows, duties-of, leading_in_pause, takes-in-pause-by}
 use Rattle.agent_model.specs.Answers.{is_other, asking_one, asking_first}
 use Rattle.pat_base.specs.declared.member_id.TheConstants.{MOST_MEMBERS}

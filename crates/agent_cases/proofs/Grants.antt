@@ -216,15 +216,24 @@ failover-duty P now revision failover o rows =
     (λ _. handover-by P now revision (unheard o) rows.judges) (λ _. rows.asks failover.candidate)))
 
 duty-on : (P : Outcome → Type 0) (now : Ticks) (revision : ℕ) (failover : Option FailoverKey) (o : Outcome)
-    → P (planned now revision o) → FailoverRows P now revision o → P (duty_on now revision failover o)
-duty-on P now revision None o plans rows =
-    if-cases P (is_paused o.knows) o (planned now revision o) (λ _. rows.kept) (λ _. plans)
-duty-on P now revision (Some failover) o plans rows = failover-duty P now revision failover o rows
+    → o.knows.turn_failover ≡ failover
+    → (o.knows.turn_failover ≡ None → is_paused o.knows ≡ false → P (planned now revision o))
+    → FailoverRows P now revision o → P (duty_on now revision failover o)
+duty-on P now revision None o is plans rows =
+    if-cases P (is_paused o.knows) o (planned now revision o) (λ _. rows.kept) (plans is)
+duty-on P now revision (Some failover) o is plans rows = failover-duty P now revision failover o rows
 
--- what it owes its cluster with each renewal: a step with its synchronous standbys, or what a failover key asks
+-- what it owes its cluster with each renewal: without a failover key, and outside
+-- a pause, a step with its synchronous standbys, or what a failover key asks
+pub duties-when : (P : Outcome → Type 0) (now : Ticks) (revision : ℕ) (o : Outcome)
+    → (o.knows.turn_failover ≡ None → is_paused o.knows ≡ false → P (planned now revision o))
+    → FailoverRows P now revision o → P (duties now revision o)
+duties-when P now revision o plans rows = duty-on P now revision o.knows.turn_failover o refl plans rows
+
+-- the same, whenever that applies
 pub duties-by : (P : Outcome → Type 0) (now : Ticks) (revision : ℕ) (o : Outcome) → P (planned now revision o)
     → FailoverRows P now revision o → P (duties now revision o)
-duties-by P now revision o plans rows = duty-on P now revision o.knows.turn_failover o plans rows
+duties-by P now revision o plans rows = duties-when P now revision o (λ _ _. plans) rows
 
 -- the same by the rows of its step
 pub record DutyRows (P : Outcome → Type 0) (now : Ticks) (revision : ℕ) (o : Outcome) : Type 0 where
@@ -307,18 +316,34 @@ settled-by P KeepsList o kept requires = kept
 settled-by P (NamesStandbys standbys) o kept requires = requires (waiting_for o.knows.settings standbys)
 settled-by P ClearsList o kept requires = requires Nobody
 
+-- a write of the sync key that this question asked was granted, by when each row applies
+pub record SyncHeard (P : Outcome → Type 0) (now : Ticks) (question : Question) (o : Outcome) : Type 0 where
+  pub other : P o
+  pub begins : question ≡ Claiming → (revision : ℕ) → o.role ≡ Ready revision
+      → may_begin_on_claim o.knows o.machine.server ≡ true → P (begins now revision o)
+  pub postpones : (revision : ℕ) → o.role ≡ Ready revision → P (postpones revision o)
+  pub settles : (settling : Settling) → question ≡ Syncing settling → is_leader o.role ≡ true → P (settled settling o)
+
+sync-heard : (P : Outcome → Type 0) (now : Ticks) (question : Question) (o : Outcome) → SyncWhen P now o
+    → SyncHeard P now question o
+sync-heard P now question o rows = record {
+  other = rows.other;
+  begins = λ _ revision is may. rows.begins revision is may;
+  postpones = rows.postpones;
+  settles = λ settling _ leads. settled-by P settling o rows.other (λ required. rows.settles required leads);
+}
+
 sync-granted : (P : Outcome → Type 0) (now : Ticks) (question : Question) (role : RoleFacts) (o : Outcome)
-    → o.role ≡ role → belongs question role ≡ true → SyncWhen P now o → P (sync_granted now question role o)
+    → o.role ≡ role → belongs question role ≡ true → SyncHeard P now question o → P (sync_granted now question role o)
 sync-granted P now Claiming (Ready revision) o is fits rows =
     if-cases P (may_begin_on_claim o.knows o.machine.server) (begins now revision o) (postpones revision o)
-    (rows.begins revision is) (λ _. rows.postpones revision is)
+    (rows.begins refl revision is) (λ _. rows.postpones revision is)
 sync-granted P now Claiming Follower o is fits rows = rows.other
 sync-granted P now Claiming (Holder held) o is fits rows = rows.other
 sync-granted P now Claiming (Leader held) o is fits rows = rows.other
 sync-granted P now Claiming (Ending held why) o is fits rows = rows.other
 sync-granted P now Claiming Unleased o is fits rows = rows.other
-sync-granted P now (Syncing settling) role o is fits rows =
-    settled-by P settling o rows.other (λ required. rows.settles required (ap is_leader is ∙ fits))
+sync-granted P now (Syncing settling) role o is fits rows = rows.settles settling refl (ap is_leader is ∙ fits)
 sync-granted P now Reading role o is fits rows = rows.other
 sync-granted P now ComparingPositions role o is fits rows = rows.other
 sync-granted P now Creating role o is fits rows = rows.other
@@ -332,7 +357,9 @@ granted-for : (P : Outcome → Type 0) (now : Ticks) (sequence : ℕ) (grant : G
     is_decision asked sequence && is_lease_of o.knows.who.me grant ≡ true →
     GrantWhen P now asked grant.revision (record o { knows = informed snapshot o.knows }))
     → ((after : Outcome) → P after → P (confirming snapshot after))
-    → SyncWhen P now (record o { knows = informed snapshot o.knows })
+    → ((asked : PendingQuestion) → o.knows.waited ≡ Some asked →
+    is_sync_decision asked sequence && is_write_of o.knows.who.me grant ≡ true →
+    SyncHeard P now asked.question (record o { knows = informed snapshot o.knows }))
     → P (granted_for now sequence grant snapshot waited o)
 granted-for P now sequence grant snapshot None o is kept quiet rows confirms syncs = kept
 granted-for P now sequence grant snapshot (Some waited) o is kept quiet rows confirms syncs =
@@ -349,10 +376,26 @@ granted-for P now sequence grant snapshot (Some waited) o is kept quiet rows con
     (λ unpaused. lease-heard P now waited grant.revision told unpaused (rows waited is decision)))) (λ _. quiet))
     (λ _. if-cases P (is_sync_decision waited sequence && is_write_of o.knows.who.me grant)
     (accepted_sync now waited snapshot o) o
-    (λ _. if-cases P (belongs waited.question o.role) (sync_granted now waited.question o.role told) (waiting_no_more o)
-    (λ fits. sync-granted P now waited.question o.role told refl fits syncs) (λ _. quiet)) (λ _. kept))
+    (λ decision. if-cases P (belongs waited.question o.role)
+    (sync_granted now waited.question o.role told) (waiting_no_more o)
+    (λ fits. sync-granted P now waited.question o.role told refl fits (syncs waited is decision)) (λ _. quiet))
+    (λ _. kept))
 
--- a request was granted, by when each row applies
+-- a request was granted, by what is heard and when each row applies
+pub granted-heard : (P : Outcome → Type 0) (now : Ticks) (sequence : ℕ) (grant : Granted)
+    (snapshot : SnapshotFacts) (o : Outcome) → P o → P (waiting_no_more o)
+    → ((asked : PendingQuestion) → o.knows.waited ≡ Some asked →
+    is_decision asked sequence && is_lease_of o.knows.who.me grant ≡ true →
+    GrantWhen P now asked grant.revision (record o { knows = informed snapshot o.knows }))
+    → ((after : Outcome) → P after → P (confirming snapshot after))
+    → ((asked : PendingQuestion) → o.knows.waited ≡ Some asked →
+    is_sync_decision asked sequence && is_write_of o.knows.who.me grant ≡ true →
+    SyncHeard P now asked.question (record o { knows = informed snapshot o.knows }))
+    → P (granted now sequence grant snapshot o)
+granted-heard P now sequence grant snapshot o kept quiet rows confirms syncs =
+    granted-for P now sequence grant snapshot o.knows.waited o refl kept quiet rows confirms syncs
+
+-- the same, whatever write of the sync key is heard
 pub granted-when : (P : Outcome → Type 0) (now : Ticks) (sequence : ℕ) (grant : Granted)
     (snapshot : SnapshotFacts) (o : Outcome) → P o → P (waiting_no_more o)
     → ((asked : PendingQuestion) → o.knows.waited ≡ Some asked →
@@ -361,7 +404,8 @@ pub granted-when : (P : Outcome → Type 0) (now : Ticks) (sequence : ℕ) (gran
     → ((after : Outcome) → P after → P (confirming snapshot after))
     → SyncWhen P now (record o { knows = informed snapshot o.knows }) → P (granted now sequence grant snapshot o)
 granted-when P now sequence grant snapshot o kept quiet rows confirms syncs =
-    granted-for P now sequence grant snapshot o.knows.waited o refl kept quiet rows confirms syncs
+    granted-heard P now sequence grant snapshot o kept quiet rows confirms
+    (λ asked _ _. sync-heard P now asked.question (record o { knows = informed snapshot o.knows }) syncs)
 
 -- the same, whenever they apply
 pub granted-by : (P : Outcome → Type 0) (now : Ticks) (sequence : ℕ) (grant : Granted)

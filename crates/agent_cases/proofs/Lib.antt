@@ -1,3 +1,4 @@
 pub mod Rows
+pub mod FailsafeRows
 pub mod Grants
 pub mod Bounds

@@ -1,6 +1,6 @@
 -- The rows of the decision table, one by one: what holds of each row
 -- that applies holds of the whole. Those of a grant stand in Grants.
-use Rattle.std.proofs.Common.{◌≡◌, ℕ, ◌==◌, ◌&&◌, nat_le, Bool, true, false, if◌then◌else◌, Option, Some, None, List, refl, sym, subst, ap, ◌∙◌, not, []}
+use Rattle.std.proofs.Common.{◌≡◌, ◌⊎◌, ℕ, ◌==◌, ◌&&◌, nat_le, Bool, true, false, if◌then◌else◌, Option, Some, None, List, refl, subst, ap, ◌∙◌, not, [], inl, inr}
 use Rattle.pat_base.specs.declared.ineligibility.Ineligibility.{Ineligibility}
 use Rattle.wal_model.specs.declared.entry.HistoryPoint.{HistoryPoint}
 use Rattle.cluster_view.specs.declared.snapshot.LeaderEntry.{LeaderEntry}
@@ -20,7 +20,7 @@ use Rattle.store_keys.specs.declared.txn.Txn.{Txn}
 use Rattle.store_keys.specs.declared.txn.Txn.TheVariants as txns
 use Rattle.lease_store.specs.Writes.{nobody}
 use Rattle.agent_model.specs.declared.why.Why.{Why}
-use Rattle.agent_model.specs.Acting.{sending, lease_span, disarming, comes_late, waiting_no_more, touching, starting_replica, following_server, is_hold_active, shutting_down}
+use Rattle.agent_model.specs.Acting.{sending, lease_span, disarming, waiting_no_more, touching, starting_replica, following_server, is_hold_active, shutting_down}
 use Rattle.agent_model.specs.Agents.{RoleFacts, Follower, Holder, Ready, Leader, Ending, Unleased, Outcome}
 use Rattle.agent_model.specs.Reconciling.{leader_finds_ended, has_ended, finds_live, unleased_finds_ended, before_as, reconciled}
 use Rattle.agent_model.specs.Pausing.{is_paused, ends_forks, running_without_key}
@@ -44,15 +44,14 @@ use Rattle.agent_model.specs.Snapshots.{leader_loses_key, unleased_loses_key, re
 use Rattle.agent_model.specs.Racing.{can_start, starts_alone, bar_of, creating, barred, races_unless, free_key, finds_free, outcome_at, judged_as, judged, asking_others, unheard}
 use Rattle.agent_model.specs.Answers.{all_answered}
 use Rattle.agent_model.specs.Peers.{is_asking, awaits_others, awaits_answer, awaits_check, judged_if_all, keeping, accepted_answer, answered_for, answered}
-use Rattle.agent_model.specs.StayingPrimary.{others_known, asking_to_stay, stays, stays_alone, seeks_to_stay, may_stay, leader_unacknowledged, unacknowledged_as, unacknowledged, stays_if, counting, accepted_failsafe, is_staying, awaits_failsafe, failsafe_answered_for, failsafe_answered, awaits_lease, answering_failsafe, holding_for, failsafe_asked}
-use Rattle.failsafe.specs.Asks.{heard, moment_of_all}
+use Rattle.agent_model.specs.StayingPrimary.{others_known, asking_to_stay, stays_alone, seeks_to_stay, may_stay, leader_unacknowledged, unacknowledged_as, unacknowledged, awaits_lease, holding_for}
 use Rattle.failsafe.specs.Holding.{may_hold}
 use Rattle.agent_model.specs.Views.{shown}
 use Rattle.agent_model.specs.Table.{refused_any}
 use Rattle.agent_model.specs.Wake.{roused, is_due, has_turn, leader_out_of_reach, unleased_out_of_reach, out_of_reach_as, out_of_reach, unanswered, overdue_for, overdue, is_stopping, reading, turn_noted, turn_as, turn_begins, turned, woken}
 use Rattle.operator_answers.specs.declared.answer_text.Text.{Text}
 
-and-left : (a b : Bool) → a && b ≡ true → a ≡ true
+pub and-left : (a b : Bool) → a && b ≡ true → a ≡ true
 and-left true b e = refl
 and-left false b e = e
 
@@ -295,7 +294,7 @@ unacknowledged-as P now (Ready r) o is quiet fails = quiet
 unacknowledged-as P now (Ending r why) o is quiet fails = quiet
 
 -- one that was asked to let the leader stay doesn't acknowledge
-unacknowledged-by : (P : Outcome → Type 0) (now : Ticks) (o : Outcome) → P (waiting_no_more o)
+pub unacknowledged-by : (P : Outcome → Type 0) (now : Ticks) (o : Outcome) → P (waiting_no_more o)
     → ((revision : ℕ) → o.role ≡ Leader revision → is_paused o.knows ≡ false →
     P (leader_unacknowledged now revision (waiting_no_more o)))
     → P (unacknowledged now o)
@@ -303,27 +302,65 @@ unacknowledged-by P now o quiet fails =
     if-cases P (is_paused o.knows) (waiting_no_more o) (unacknowledged_as now o.role (waiting_no_more o))
     (λ _. quiet) (λ unpaused. unacknowledged-as P now o.role o refl quiet (λ r is. fails r is unpaused))
 
+-- the rows of what a wait leaves that is over, but for those of a read or a renewal
+pub record OverdueElse (P : Outcome → Type 0) (now : Ticks) (o : Outcome) : Type 0 where
+  pub kept : P o
+  pub quiet : P (waiting_no_more o)
+  pub silent : (revision : ℕ) → o.role ≡ Leader revision → is_paused o.knows ≡ false
+      → P (leader_unacknowledged now revision (waiting_no_more o))
+  pub judges : awaits_others o.knows.waited ≡ true → may_create o.role ≡ true → P (judged now o)
+  pub ready : (revision : ℕ) → o.role ≡ Ready revision → P (postpones revision (waiting_no_more o))
+  pub checks : (revision : ℕ) → o.role ≡ Leader revision → HandoverRows P now revision o
+
+-- the question is a read or a renewal
+abbrev pub AsksToLead : Question → Type 0
+AsksToLead question = (question ≡ Reading) ⊎ (question ≡ Renewing)
+
 unanswered-by : (P : Outcome → Type 0) (now : Ticks) (question : Question) (o : Outcome)
-    → (is_asking question ≡ true → awaits_others o.knows.waited ≡ true) → OverdueWhen P now o
-    → P (unanswered now question o)
-unanswered-by P now Reading o asked rows = out-of-reach P now o rows
-unanswered-by P now Renewing o asked rows = out-of-reach P now o rows
-unanswered-by P now Creating o asked rows = rows.quiet
-unanswered-by P now Claiming o asked rows = claim-fails-by P (waiting_no_more o) rows.quiet rows.ready
-unanswered-by P now (Syncing settling) o asked rows = rows.quiet
-unanswered-by P now FindingCandidate o asked rows = judged-if-leading P now o.role o refl rows.quiet rows.checks
-unanswered-by P now StayingPrimary o asked rows = unacknowledged-by P now o rows.quiet rows.silent
-unanswered-by P now ComparingPositions o asked rows =
+    → (is_asking question ≡ true → awaits_others o.knows.waited ≡ true) → OverdueElse P now o
+    → (AsksToLead question → OverdueWhen P now o) → P (unanswered now question o)
+unanswered-by P now Reading o asked rows reach = out-of-reach P now o (reach (inl refl))
+unanswered-by P now Renewing o asked rows reach = out-of-reach P now o (reach (inr refl))
+unanswered-by P now Creating o asked rows reach = rows.quiet
+unanswered-by P now Claiming o asked rows reach = claim-fails-by P (waiting_no_more o) rows.quiet rows.ready
+unanswered-by P now (Syncing settling) o asked rows reach = rows.quiet
+unanswered-by P now FindingCandidate o asked rows reach =
+    judged-if-leading P now o.role o refl rows.quiet rows.checks
+unanswered-by P now StayingPrimary o asked rows reach = unacknowledged-by P now o rows.quiet rows.silent
+unanswered-by P now ComparingPositions o asked rows reach =
     if-cases P (may_create o.role) (judged now o) (waiting_no_more o) (rows.judges (asked refl)) (λ _. rows.quiet)
 
+-- what is waited for is this read or renewal, and the time for its answer is over
+pub record OutlastsToLead (now : Ticks) (o : Outcome) : Type 0 where
+  pub waited : PendingQuestion
+  pub waits : o.knows.waited ≡ Some waited
+  pub asks : AsksToLead waited.question
+  pub over : nat_le waited.until.0 now.0 ≡ true
+
 overdue-for : (P : Outcome → Type 0) (now : Ticks) (waited : Option PendingQuestion) (o : Outcome)
-    → o.knows.waited ≡ waited → OverdueWhen P now o → P (overdue_for now waited o)
-overdue-for P now None o is rows = rows.kept
-overdue-for P now (Some waited) o is rows = if-cases P (nat_le waited.until.0 now.0) (unanswered now waited.question o)
-    o (λ _. unanswered-by P now waited.question o (λ asked. ap awaits_others is ∙ asked) rows) (λ _. rows.kept)
+    → o.knows.waited ≡ waited → OverdueElse P now o → (OutlastsToLead now o → OverdueWhen P now o)
+    → P (overdue_for now waited o)
+overdue-for P now None o is rows reach = rows.kept
+overdue-for P now (Some waited) o is rows reach =
+    if-cases P (nat_le waited.until.0 now.0) (unanswered now waited.question o) o
+    (λ over. unanswered-by P now waited.question o (λ asked. ap awaits_others is ∙ asked) rows
+    (λ asks. reach (record { waited = waited; waits = is; asks = asks; over = over }))) (λ _. rows.kept)
+
+-- those of a read or a renewal by what is over
+pub overdue-told : (P : Outcome → Type 0) (now : Ticks) (o : Outcome) → OverdueElse P now o
+    → (OutlastsToLead now o → OverdueWhen P now o) → P (overdue now o)
+overdue-told P now o rows reach = overdue-for P now o.knows.waited o refl rows reach
 
 pub overdue-when : (P : Outcome → Type 0) (now : Ticks) (o : Outcome) → OverdueWhen P now o → P (overdue now o)
-overdue-when P now o rows = overdue-for P now o.knows.waited o refl rows
+overdue-when P now o rows = overdue-told P now o (record {
+  kept = rows.kept;
+  quiet = rows.quiet;
+  silent = rows.silent;
+  judges = rows.judges;
+  ready = rows.ready;
+  checks = rows.checks;
+})
+    (λ _. rows)
 
 -- the same, whenever they apply
 pub record OverdueRows (P : Outcome → Type 0) (now : Ticks) (o : Outcome) : Type 0 where
@@ -740,81 +777,3 @@ pub refused-any-by : (P : Outcome → Type 0) (now : Ticks) (sequence : ℕ) (o 
     → P (refused now sequence o) → P (refused_any now sequence o)
 refused-any-by P now sequence o rows own = if-cases P (operates o.knows sequence) (operator_refused o.knows.operating o)
     (refused now sequence o) (λ _. operator-refused-by P o.knows.operating o rows) (λ _. own)
-
--- the answer of another member to a failsafe request, by when each row applies
-pub record StayRows (P : Outcome → Type 0) (now : Ticks) (from : MemberId) (sent : Ticks) (o : Outcome) : Type 0 where
-  pub kept : P o
-  pub quiet : P (waiting_no_more o)
-  pub counts : (revision : ℕ) → o.role ≡ Leader revision → P (counting from sent o)
-  pub stays : (revision : ℕ) → o.role ≡ Leader revision → (waited : PendingQuestion)
-      → o.knows.waited ≡ Some waited → is_staying waited.question ≡ true → (since : Ticks)
-      → moment_of_all (heard o.knows.failsafe from true sent) ≡ Some since
-      → (is_paused o.knows ≡ false → comes_late now waited o.machine ≡ false)
-      → P (stays now waited.ttl waited.sequence since (counting from sent o))
-  pub counts_late : (revision : ℕ) → o.role ≡ Leader revision → is_paused o.knows ≡ false
-      → P (waiting_no_more (counting from sent o))
-  pub fails : (revision : ℕ) → o.role ≡ Leader revision → is_paused o.knows ≡ false
-      → P (leader_unacknowledged now revision (waiting_no_more o))
-
-not-of : (b : Bool) → not b ≡ true → b ≡ false
-not-of true e = sym e
-not-of false e = refl
-
-unless-paused : (paused late : Bool) → not paused && late ≡ false → paused ≡ false → late ≡ false
-unless-paused true true e unpaused = unpaused
-unless-paused true false e unpaused = refl
-unless-paused false late e unpaused = e
-
-acknowledged-by : (P : Outcome → Type 0) (now : Ticks) (waited : PendingQuestion) (from : MemberId)
-    (sent : Ticks) (moment : Option Ticks) (revision : ℕ) (o : Outcome) → o.role ≡ Leader revision
-    → o.knows.waited ≡ Some waited → is_staying waited.question ≡ true
-    → moment_of_all (heard o.knows.failsafe from true sent) ≡ moment → StayRows P now from sent o
-    → P (stays_if now waited moment (counting from sent o))
-acknowledged-by P now waited from sent None revision o role is staying all rows = rows.counts revision role
-acknowledged-by P now waited from sent (Some since) revision o role is staying all rows =
-    if-cases P (not (is_paused o.knows) && comes_late now waited o.machine)
-    (waiting_no_more (counting from sent o)) (stays now waited.ttl waited.sequence since (counting from sent o))
-    (λ late. rows.counts_late revision role
-    (not-of (is_paused o.knows) (and-left (not (is_paused o.knows)) (comes_late now waited o.machine) late)))
-    (λ in_time. rows.stays revision role waited is staying since all
-    (unless-paused (is_paused o.knows) (comes_late now waited o.machine) in_time))
-
-accepted-failsafe : (P : Outcome → Type 0) (now : Ticks) (waited : PendingQuestion) (from : MemberId)
-    (accepted : Bool) (sent : Ticks) (role : RoleFacts) (o : Outcome) → o.role ≡ role
-    → o.knows.waited ≡ Some waited → is_staying waited.question ≡ true → StayRows P now from sent o
-    → P (accepted_failsafe now waited from accepted sent role o)
-accepted-failsafe P now waited from true sent (Leader revision) o role is staying rows = acknowledged-by P now
-    waited from sent (moment_of_all (heard o.knows.failsafe from true sent)) revision o role is staying refl rows
-accepted-failsafe P now waited from false sent (Leader revision) o role is staying rows =
-    unacknowledged-by P now o rows.quiet rows.fails
-accepted-failsafe P now waited from accepted sent Follower o role is staying rows = rows.quiet
-accepted-failsafe P now waited from accepted sent (Holder held) o role is staying rows = rows.quiet
-accepted-failsafe P now waited from accepted sent (Ready held) o role is staying rows = rows.quiet
-accepted-failsafe P now waited from accepted sent (Ending held why) o role is staying rows = rows.quiet
-accepted-failsafe P now waited from accepted sent Unleased o role is staying rows = rows.quiet
-
-failsafe-answered-for : (P : Outcome → Type 0) (now : Ticks) (from : MemberId) (sequence : ℕ)
-    (accepted : Bool) (sent : Ticks) (waited : Option PendingQuestion) (o : Outcome) → o.knows.waited ≡ waited
-    → StayRows P now from sent o → P (failsafe_answered_for now from sequence accepted sent waited o)
-failsafe-answered-for P now from sequence accepted sent None o is rows = rows.kept
-failsafe-answered-for P now from sequence accepted sent (Some waited) o is rows =
-    if-cases P (awaits_failsafe waited sequence) (accepted_failsafe now waited from accepted sent o.role o) o
-    (λ awaits. accepted-failsafe P now waited from accepted sent o.role o refl is
-    (and-left (is_staying waited.question) (waited.sequence == sequence) awaits) rows)
-    (λ _. rows.kept)
-
-pub failsafe-answered-by : (P : Outcome → Type 0) (now : Ticks) (from : MemberId) (sequence : ℕ) (accepted : Bool)
-    (sent : Ticks) (o : Outcome) → StayRows P now from sent o → P (failsafe_answered now from sequence accepted sent o)
-failsafe-answered-by P now from sequence accepted sent o rows =
-    failsafe-answered-for P now from sequence accepted sent o.knows.waited o refl rows
-
--- another member asks to stay primary
-pub failsafe-asked-by : (P : Outcome → Type 0) (now : Ticks) (from : MemberId) (incarnation sequence : ℕ)
-    (ttl : Ticks) (o : Outcome)
-    → (may_hold (shown now o) (awaits_lease o.knows.waited) ≡ true →
-    P (answering_failsafe from incarnation sequence true (holding_for now from sequence ttl o)))
-    → P (answering_failsafe from incarnation sequence false o) → P (failsafe_asked now from incarnation sequence ttl o)
-failsafe-asked-by P now from incarnation sequence ttl o holds refuses =
-    if-cases P (may_hold (shown now o) (awaits_lease o.knows.waited))
-    (answering_failsafe from incarnation sequence true (holding_for now from sequence ttl o))
-    (answering_failsafe from incarnation sequence false o) holds (λ _. refuses)

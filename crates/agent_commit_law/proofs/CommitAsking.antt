@@ -41,7 +41,8 @@ use Rattle.agent_model.specs.Table.{refused_any}
 use Rattle.agent_model.specs.Wake.{leader_out_of_reach, out_of_reach_as, unanswered, overdue_for, overdue, turned, woken, out_of_reach}
 use Rattle.agent_roles.proofs.Granting.{both-true}
 use Rattle.agent_roles.proofs.Living.{no-way}
-use Rattle.agent_cases.proofs.Rows.{ReplyRows, if-cases, before-by, turn-by, wake-by, got-by, refused-by, follow-by, repaired-by, free-by, judged-by, handover-by, looked-by, given-up-by, operator-granted-by, refused-any-by, operated-by, failsafe-answered-by, failsafe-asked-by}
+use Rattle.agent_cases.proofs.Rows.{ReplyRows, if-cases, before-by, turn-by, wake-by, got-by, refused-by, follow-by, repaired-by, free-by, judged-by, handover-by, looked-by, given-up-by, operator-granted-by, refused-any-by, operated-by}
+use Rattle.agent_cases.proofs.FailsafeRows.{failsafe-answered-by, failsafe-asked-by}
 use Rattle.agent_model.specs.Pausing.{is_paused, may_start_behind}
 
 -- nothing is waited for

@@ -42,7 +42,8 @@ use Rattle.agent_model.specs.Wake.{reading, turn_noted, leader_out_of_reach, unl
 use Rattle.agent_commit_law.proofs.CommitQuiet.{MayCarrySet, QuietTxn, Stands, quietly, quiet-disarmed, asks-quiet, whom-quiet, requests-quiet, staying-quiet}
 use Rattle.agent_roles.proofs.Knowing.{overdue-onward}
 use Rattle.agent_roles.proofs.Living.{no-way}
-use Rattle.agent_cases.proofs.Rows.{if-cases, failsafe-answered-by, failsafe-asked-by, HandoverRows, ReplyRows, IsOperatorTxn, dropping, before-by, overdue-by, turn-by, wake-by, got-by, refused-by, follow-by, repaired-by, free-by, judged-by, answered-by, looked-by, given-up-by, operator-granted-by, refused-any-by, operated-by}
+use Rattle.agent_cases.proofs.Rows.{if-cases, HandoverRows, ReplyRows, IsOperatorTxn, dropping, before-by, overdue-by, turn-by, wake-by, got-by, refused-by, follow-by, repaired-by, free-by, judged-by, answered-by, looked-by, given-up-by, operator-granted-by, refused-any-by, operated-by}
+use Rattle.agent_cases.proofs.FailsafeRows.{failsafe-answered-by, failsafe-asked-by}
 use Rattle.agent_cases.proofs.Grants.{FailoverRows}
 use Rattle.agent_model.specs.Pausing.{may_start_behind, running_without_key}
 

@@ -42,7 +42,8 @@ use Rattle.agent_lease_law.proofs.LawfulGrants.{deadline-of}
 use Rattle.agent_roles.proofs.Leaving.{Stays, acts-before, behind, stays, before-leaves}
 use Rattle.agent_roles.proofs.Living.{no-way}
 use Rattle.agent_roles.proofs.Staying.{before-waits}
-use Rattle.agent_cases.proofs.Rows.{failsafe-asked-by, if-cases}
+use Rattle.agent_cases.proofs.Rows.{if-cases}
+use Rattle.agent_cases.proofs.FailsafeRows.{failsafe-asked-by}
 use Rattle.agent_sending.proofs.MaySend.Fronts.{Silent, Released}
 use Rattle.agent_sending.proofs.MaySend.{Fronts, Grounds, IsReleaseOr, before-fronts, IsSilent, AllMay}
 use Rattle.agent_sending.proofs.StayingSends.{failsafe-answered-may, failsafe-asked-may, staying}

@@ -58,7 +58,8 @@ use Rattle.agent_model.specs.FailsafeKeys.{set_carried}
 use Rattle.agent_model.specs.StayingPrimary.{asking_to_stay, counting, failsafe_answered, fed_by_failsafe, holding_for, others_known, requesting_all, requesting_first, requesting_one, span_after, stays}
 use Rattle.agent_model.specs.Table.{granted_any, refused_any, step}
 use Rattle.agent_model.specs.Wake.{turn_noted, overdue, turned, woken}
-use Rattle.agent_cases.proofs.Rows.{HandoverRows, IsOperatorTxn, ReplyRows, dropping, if-cases, before-by, given-up-by, looked-by, operated-by, overdue-by, refused-any-by, turn-by, wake-by, got-by, refused-by, follow-by, repaired-by, free-by, judged-by, answered-by, failsafe-asked-by, failsafe-answered-by}
+use Rattle.agent_cases.proofs.Rows.{HandoverRows, IsOperatorTxn, ReplyRows, dropping, if-cases, before-by, given-up-by, looked-by, operated-by, overdue-by, refused-any-by, turn-by, wake-by, got-by, refused-by, follow-by, repaired-by, free-by, judged-by, answered-by}
+use Rattle.agent_cases.proofs.FailsafeRows.{failsafe-asked-by, failsafe-answered-by}
 use Rattle.agent_cases.proofs.Grants.{kept_on, led_on, begins-or-claims-by, passing-by, duties-by, granted-any-by, granted-by, leading_in_pause, takes-in-pause-by}
 use Rattle.agent_model.specs.declared.who.Who.{Who}
 use Rattle.agent_model.specs.Answers.{is_other, asking_all, asking_one, asking_first}

@@ -31,7 +31,8 @@ use Rattle.agent_model.specs.Reconciling.{has_ended, reconciled}
 use Rattle.agent_model.specs.StayingPrimary.{answering_failsafe, awaits_lease, counting, failsafe_answered, failsafe_asked, fed_by_failsafe, holding_for, may_stay, others_known, span_after, stays as staying, stays_alone}
 use Rattle.agent_model.specs.Views.{shown}
 use Rattle.agent_model.specs.Wake.{overdue, reading, turn_noted, turned, woken}
-use Rattle.agent_cases.proofs.Rows.{before-by, failsafe-answered-by, failsafe-asked-by, given-up-by, overdue-when, turn-by, wake-by, asked-to-hold-by}
+use Rattle.agent_cases.proofs.Rows.{before-by, given-up-by, overdue-when, turn-by, wake-by, asked-to-hold-by}
+use Rattle.agent_cases.proofs.FailsafeRows.{failsafe-answered-by, failsafe-asked-by}
 use Rattle.agent_roles.specs.Powers.{Acknowledges, IsFedByFailsafe, LeavesMachine, StaysAlone, StaysByWord, AcknowledgesOperated}
 use Rattle.agent_roles.proofs.Bringing.{overdue-brings, same-role, staying-brings, turn-brings}
 use Rattle.agent_roles.proofs.Granting.{both-true, one-before, one-last}
@@ -322,7 +323,7 @@ answer-leaves now from sequence accepted sent o =
     })
 
 -- ---- a failsafe request
-follower-is : (role : RoleFacts) → is_follower (word_of role) ≡ true → role ≡ Follower
+pub follower-is : (role : RoleFacts) → is_follower (word_of role) ≡ true → role ≡ Follower
 follower-is Follower e = refl
 follower-is (Holder held) e = absurd (no-way e)
 follower-is (Ready held) e = absurd (no-way e)

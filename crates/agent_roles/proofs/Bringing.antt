@@ -26,7 +26,8 @@ use Rattle.agent_model.specs.Table.{refused_any}
 use Rattle.store_keys.specs.declared.action.OperatorAction.{OperatorAction}
 use Rattle.event_book.specs.declared.message.Body.TheVariants as bodies
 use Rattle.agent_roles.proofs.Living.{no-way, stop-live, start-live, follow-live, restart-live, wipe-live}
-use Rattle.agent_cases.proofs.Rows.{HandoverRows, ReplyRows, ActRows, dropping, looked-by, given-up-by, refused-any-by, operated-by, before-by, overdue-by, turn-by, wake-by, got-by, refused-by, follow-by, repaired-by, free-by, judged-by, answered-by, failsafe-asked-by, failsafe-answered-by}
+use Rattle.agent_cases.proofs.Rows.{HandoverRows, ReplyRows, ActRows, dropping, looked-by, given-up-by, refused-any-by, operated-by, before-by, overdue-by, turn-by, wake-by, got-by, refused-by, follow-by, repaired-by, free-by, judged-by, answered-by}
+use Rattle.agent_cases.proofs.FailsafeRows.{failsafe-asked-by, failsafe-answered-by}
 use Rattle.agent_model.specs.StayingPrimary.{answering_failsafe, asking_to_stay, counting, failsafe_answered, failsafe_asked, holding_for, leader_unacknowledged, others_known, stays, stays_alone}
 use Rattle.agent_model.specs.Peers.{asked, keeping, answered}
 use Rattle.agent_model.specs.Pausing.{may_start_behind, running_without_key}

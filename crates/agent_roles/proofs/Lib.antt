@@ -7,3 +7,4 @@ pub mod Acknowledging
 pub mod Knowing
 pub mod Staying
 pub mod Unfed
+pub mod AllSaid

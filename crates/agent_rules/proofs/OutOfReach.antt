@@ -38,7 +38,8 @@ use Rattle.agent_model.specs.Acting.{touching}
 use Rattle.agent_model.specs.StayingPrimary.{accepted_failsafe, failsafe_answered, failsafe_answered_for, is_staying, leader_unacknowledged, may_stay, others_known, seeks_to_stay, unacknowledged, unacknowledged_as}
 use Rattle.agent_model.specs.Table.{step}
 use Rattle.agent_model.specs.Wake.{has_turn, is_due, is_overdue, finds_ended, leader_out_of_reach, overdue, overdue_for, out_of_reach, out_of_reach_as, roused, turned, unanswered}
-use Rattle.agent_cases.proofs.Rows.{HandoverRows, if-cases, before-by, looked-by, given-up-by, refused-any-by, operated-by, overdue-by, turn-by, wake-by, got-by, refused-by, answered-by, follow-by, repaired-by, free-by, judged-by, failsafe-answered-by, failsafe-asked-by}
+use Rattle.agent_cases.proofs.Rows.{HandoverRows, if-cases, before-by, looked-by, given-up-by, refused-any-by, operated-by, overdue-by, turn-by, wake-by, got-by, refused-by, answered-by, follow-by, repaired-by, free-by, judged-by}
+use Rattle.agent_cases.proofs.FailsafeRows.{failsafe-answered-by, failsafe-asked-by}
 use Rattle.agent_cases.proofs.Grants.{DutyRows, kept_on, led_on, leading_in_pause, granted-any-by, judges-start-by, renewed-by, duties-of, begins-or-claims-by, takes-in-pause-by, granted-by}
 use Rattle.agent_roles.proofs.Living.{no-way}
 use Rattle.agent_rules.specs.OutOfReach.{asks_to_lead, AsksToStay, EndsServer, IsOutOfReach, HasNoAnswer, IsUnacknowledged, WaitsForTurn, turn_of}

@@ -52,7 +52,8 @@ use Rattle.agent_model.specs.Synchronous.{unnamed}
 use Rattle.agent_model.specs.StayingPrimary.{counting, failsafe_answered, failsafe_asked, fed_by_failsafe, span_after}
 use Rattle.agent_model.specs.Table.{step}
 use Rattle.agent_model.specs.Wake.{overdue, turned}
-use Rattle.agent_cases.proofs.Rows.{HandoverRows, ReplyRows, if-cases, before-by, looked-by, given-up-by, refused-any-by, overdue-when, turn-by, wake-by, follow-by, got-when, refused-when, answered-when, judged-by, failsafe-answered-by, failsafe-asked-by, asked-to-hold-by}
+use Rattle.agent_cases.proofs.Rows.{HandoverRows, ReplyRows, if-cases, before-by, looked-by, given-up-by, refused-any-by, overdue-when, turn-by, wake-by, follow-by, got-when, refused-when, answered-when, judged-by, asked-to-hold-by}
+use Rattle.agent_cases.proofs.FailsafeRows.{failsafe-answered-by, failsafe-asked-by}
 use Rattle.agent_cases.proofs.Grants.{DutyRows, kept_on, led_on, leading_in_pause, granted-any-by, judges-start-by, renewed-by, duties-of, passing-by, begins-or-claims-by, granted-when}
 use Rattle.agent_roles.proofs.Living.{no-way}
 use Rattle.agent_rules.specs.Grounds.{IsReinit}

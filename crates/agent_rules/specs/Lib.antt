@@ -1,3 +1,4 @@
 pub mod Grounds
 pub mod OutOfReach
 pub mod Pauses
+pub mod Turns

@@ -44,7 +44,8 @@ use Rattle.agent_roles.proofs.Granting.{Told}
 use Rattle.agent_roles.proofs.Knowing.{IsAlone, alone-of, before-onward, given-up-onward}
 use Rattle.agent_roles.proofs.Staying.{before-waits}
 use Rattle.agent_roles.proofs.Living.{no-way}
-use Rattle.agent_cases.proofs.Rows.{if-cases, overdue-by, turn-by, wake-by, got-by, refused-by, follow-by, repaired-by, free-by, judged-by, answered-by, failsafe-asked-by, failsafe-answered-by, HandoverRows, ReplyRows, dropping, refused-any-by, given-up-by, looked-by, operated-by}
+use Rattle.agent_cases.proofs.Rows.{if-cases, overdue-by, turn-by, wake-by, got-by, refused-by, follow-by, repaired-by, free-by, judged-by, answered-by, HandoverRows, ReplyRows, dropping, refused-any-by, given-up-by, looked-by, operated-by}
+use Rattle.agent_cases.proofs.FailsafeRows.{failsafe-asked-by, failsafe-answered-by}
 use Rattle.agent_cases.proofs.Grants.{kept_on, led_on, judges-start-by, renewed-by, begins-or-claims-by, granted-by, granted-any-by, DutyRows, duties-of, leading_in_pause, takes-in-pause-by}
 use Rattle.store_keys.specs.declared.action.OperatorRequest.TheVariants as requests
 use Rattle.store_keys.specs.declared.config_value.ConfigValue.{ConfigValue}

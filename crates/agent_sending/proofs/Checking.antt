@@ -57,7 +57,8 @@ use Rattle.agent_model.specs.StayingPrimary.{accepted_failsafe, asking_to_stay, 
 use Rattle.agent_model.specs.Table.{granted_any, refused_any, step}
 use Rattle.agent_model.specs.Views.{view_of}
 use Rattle.agent_model.specs.Wake.{leader_out_of_reach, overdue, reading, turn_noted, turned, unleased_out_of_reach, woken}
-use Rattle.agent_cases.proofs.Rows.{HandoverRows, ReplyRows, dropping, looked-by, given-up-by, refused-any-by, operated-by, if-cases, before-by, overdue-when, turn-by, wake-by, got-by, refused-by, follow-by, repaired-by, judged-by, answered-when, failsafe-asked-by}
+use Rattle.agent_cases.proofs.Rows.{HandoverRows, ReplyRows, dropping, looked-by, given-up-by, refused-any-by, operated-by, if-cases, before-by, overdue-when, turn-by, wake-by, got-by, refused-by, follow-by, repaired-by, judged-by, answered-when}
+use Rattle.agent_cases.proofs.FailsafeRows.{failsafe-asked-by}
 use Rattle.agent_cases.proofs.Grants.{DutyRows, GrantWhen, granted-any-by, kept_on, led_on, judges-start-by, renewed-by, takes-late-by, begins-or-claims-by, duties-of, leading_in_pause, takes-in-pause-by}
 use Rattle.agent_roles.proofs.Granting.{Told, both-true}
 use Rattle.agent_roles.proofs.Knowing.{given-up-onward}

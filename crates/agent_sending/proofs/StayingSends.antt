@@ -36,7 +36,8 @@ use Rattle.agent_model.specs.Wake.{leader_out_of_reach, reading, turn_noted, unl
 use Rattle.agent_roles.proofs.Knowing.{IsAlone, given-up-onward}
 use Rattle.agent_roles.proofs.Staying.{before-leaves, before-waits}
 use Rattle.agent_roles.proofs.Living.{no-way}
-use Rattle.agent_cases.proofs.Rows.{HandoverRows, dropping, given-up-by, if-cases, overdue-when, turn-by, wake-by, judged-by, failsafe-asked-by, failsafe-answered-by}
+use Rattle.agent_cases.proofs.Rows.{HandoverRows, dropping, given-up-by, if-cases, overdue-when, turn-by, wake-by, judged-by}
+use Rattle.agent_cases.proofs.FailsafeRows.{failsafe-asked-by, failsafe-answered-by}
 use Rattle.agent_model.specs.Pausing.{is_paused}
 use Rattle.agent_sending.proofs.MaySend.{IsSilent, Grounds, MayPut, AllMay, silent-may, front, push, silently, IsReleaseOr, Fronts, IsMild, AllMild, mild-may, mild-all, mild-front, up-to, more-mild, judged-mild, handover-mild, before-fronts, released, fronts-may, postpones-silent, reads-new, overdue-none, told-fronts, ComparesAs, before-compares, CreatesAsCompared, creates-behind, front-of}
 use Rattle.agent_sending.proofs.MaySend.Fronts.{Silent, Released}

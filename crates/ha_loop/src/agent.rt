@@ -13,7 +13,9 @@ ghost use Rattle.agent_cases.specs.Bounds.{IsSmall};
 ghost use Rattle.agent_succession.specs.FreeKey.{AsksWhereFree, AsksWhereWon, BeginsWhereGranted};
 ghost use Rattle.agent_answers.specs.OperatorAnswers.{told_in, AnswersOneAtMost, HaveCauses, TellsDecision, WaitsAsAsked};
 ghost use Rattle.agent_model.specs.Reconciling.{reconciled};
+ghost use Rattle.agent_outputs.specs.Orders.{IsCarriedOut};
 ghost use Rattle.agent_rules.specs.Grounds.{HasGrounds};
+ghost use Rattle.agent_rules.specs.Turns.{ReadsInTurn};
 ghost use Rattle.agent_lease_law.specs.Lawful.{IsLawfulFrom};
 ghost use Rattle.agent_model.specs.Outputs.{most_outputs};
 ghost use Rattle.agent_roles.specs.Seen.{machine_with, machine_seen};
@@ -112,9 +114,13 @@ impl Agent {
         requires room { most_outputs ≤ out.old.spare }
         ensures outcome { outcome_from self.new.role self.new.knows machine.new out.new.outputs ≡ step now history.now.points heard (outcome_from self.old.role self.old.knows machine.old out.old.outputs) }
         ensures lawful { out.old.outputs ≡ [] → IsLawfulFrom now heard (outcome_from self.old.role self.old.knows machine.old []) (outcome_from self.new.role self.new.knows machine.new out.new.outputs) }
-        // What it asks for, begins, repairs and gives back has its grounds.
+        // What it asks for, begins, requires, feeds, promises, repairs and gives back has its grounds.
         ensures grounds { out.old.outputs ≡ [] → HasGrounds now heard (reconciled now (outcome_from self.old.role self.old.knows machine.old [])) (outcome_from self.new.role self.new.knows machine.new out.new.outputs) }
         ensures commits { out.old.outputs ≡ [] → CommitsFrom now heard (outcome_from self.old.role self.old.knows machine.old []) (outcome_from self.new.role self.new.knows machine.new out.new.outputs) }
+        // Whatever becomes of its machine comes by its outputs.
+        ensures carried { out.old.outputs ≡ [] → IsCarriedOut now machine.old (outcome_from self.new.role self.new.knows machine.new out.new.outputs) }
+        // A turn that is due reads what the key store holds.
+        ensures reads { ReadsInTurn now heard (reconciled now (outcome_from self.old.role self.old.knows machine.old out.old.outputs)) (outcome_from self.new.role self.new.knows machine.new out.new.outputs) }
         // A free leader key is asked for, by whom nothing bars and who wins; and whom it is granted to begins.
         ensures free_key { AsksWhereFree now heard (prepared now heard (outcome_from self.old.role self.old.knows machine.old out.old.outputs)) (outcome_from self.new.role self.new.knows machine.new out.new.outputs) }
         ensures won_race { AsksWhereWon now heard (prepared now heard (outcome_from self.old.role self.old.knows machine.old out.old.outputs)) (outcome_from self.new.role self.new.knows machine.new out.new.outputs) }
@@ -152,6 +158,7 @@ impl Agent {
         ensures lawful { out.old.outputs ≡ [] → IsLawfulFrom now (heards.Operated action) (outcome_from self.old.role self.old.knows machine.old []) (outcome_from self.new.role self.new.knows machine.new out.new.outputs) }
         ensures grounds { out.old.outputs ≡ [] → HasGrounds now (heards.Operated action) (reconciled now (outcome_from self.old.role self.old.knows machine.old [])) (outcome_from self.new.role self.new.knows machine.new out.new.outputs) }
         ensures commits { out.old.outputs ≡ [] → CommitsFrom now (heards.Operated action) (outcome_from self.old.role self.old.knows machine.old []) (outcome_from self.new.role self.new.knows machine.new out.new.outputs) }
+        ensures carried { out.old.outputs ≡ [] → IsCarriedOut now machine.old (outcome_from self.new.role self.new.knows machine.new out.new.outputs) }
         // It answers no other request than this one, and no other comes to wait.
         ensures answers { out.old.outputs ≡ [] → AnswersOneAtMost now (heards.Operated action) (outcome_from self.old.role self.old.knows machine.old []) (outcome_from self.new.role self.new.knows machine.new out.new.outputs) (told_in out.new.outputs) }
         ensures causes { out.old.outputs ≡ [] → HaveCauses now (heards.Operated action) self.old.knows out.new.outputs }

@@ -27,7 +27,8 @@ use Rattle.agent_model.specs.Acting.{touching}
 use Rattle.agent_model.specs.StayingPrimary.{failsafe_answered}
 use Rattle.agent_model.specs.Table.{granted_any, refused_any, step}
 use Rattle.agent_model.specs.Wake.{overdue, turned, woken}
-use Rattle.agent_cases.proofs.Rows.{ActRows, HandoverRows, ReplyRows, answered-by, before-by, failsafe-answered-by, failsafe-asked-by, follow-by, free-by, given-up-by, got-by, if-cases, judged-by, looked-by, operated-by, overdue-by, refused-any-by, refused-by, repaired-by, turn-by, wake-by}
+use Rattle.agent_cases.proofs.Rows.{ActRows, HandoverRows, ReplyRows, answered-by, before-by, follow-by, free-by, given-up-by, got-by, if-cases, judged-by, looked-by, operated-by, overdue-by, refused-any-by, refused-by, repaired-by, turn-by, wake-by}
+use Rattle.agent_cases.proofs.FailsafeRows.{failsafe-answered-by, failsafe-asked-by}
 use Rattle.agent_cases.proofs.Grants.{DutyRows, begins-or-claims-by, duties-of, granted-any-by, granted-by, judges-start-by, kept_on, leading_in_pause, led_on, renewed-by, takes-in-pause-by}
 use Rattle.agent_roles.proofs.Granting.{Told}
 use Rattle.agent_sending.specs.Modes.{HearsMode, TellsMode}

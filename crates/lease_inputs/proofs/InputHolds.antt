@@ -25,7 +25,7 @@ use Rattle.agent_model.specs.Outputs.{has_one, with_output}
 use Rattle.agent_model.specs.Reconciling.{reconciled}
 use Rattle.agent_model.specs.StayingPrimary.{failsafe_asked, span_after}
 use Rattle.agent_model.specs.Table.{step}
-use Rattle.agent_cases.proofs.Rows.{failsafe-asked-by}
+use Rattle.agent_cases.proofs.FailsafeRows.{failsafe-asked-by}
 use Rattle.agent_roles.proofs.Knowing.{alone-of}
 use Rattle.agent_outputs.specs.Orders.{IsOfTable}
 use Rattle.agent_sending.specs.Asking.{HearsFailsafe, StandsOn}

@@ -39,7 +39,7 @@ use Rattle.agent_model.specs.StayingPrimary.{awaits_lease, is_staying, span_afte
 use Rattle.agent_model.specs.Views.{shown}
 use Rattle.failsafe.specs.Holding.{may_hold}
 use Rattle.agent_model.specs.Table.{step}
-use Rattle.agent_cases.proofs.Rows.{failsafe-asked-by}
+use Rattle.agent_cases.proofs.FailsafeRows.{failsafe-asked-by}
 use Rattle.agent_roles.proofs.Knowing.{IsAlone, alone-of, step-onward}
 use Rattle.agent_roles.proofs.Living.{no-way}
 use Rattle.agent_roles.proofs.Staying.{input-ends}

@@ -1,4 +1,4 @@
-use Rattle.agent_rules.proofs.Grounds.{input-has-grounds}
+use Rattle.agent_rules.proofs.InputGrounds.{input-has-grounds}
 use Rattle.agent_rules.proofs.laws.inputs_have_grounds.Goals as goal
 
 pub returns : goal.returns

@@ -1,4 +1,5 @@
-use Rattle.std.proofs.Common.{◌≡◌, [], rules, subst, sym}
+use Rattle.std.proofs.Common.{◌≡◌, ◌∙◌, List, [], ap, rules, subst, sym}
+use Rattle.agent_model.specs.declared.output.Output.{Output}
 use Rattle.agent_model.specs.Agents.{outcome_from}
 use Rattle.agent_turn.specs.Roles.{role_of}
 use Rattle.agent_succession.specs.FreeKey.{AsksWhereFree, AsksWhereWon, BeginsWhereGranted}
@@ -7,7 +8,12 @@ use Rattle.agent_cases.specs.Bounds.{IsSmall}
 use Rattle.agent_cases.proofs.Bounds.{step-small}
 use Rattle.agent_succession.proofs.Beginning.{step-asks, step-begins, step-wins}
 use Rattle.agent_commit_law.proofs.CommitInputs.{input-commits-as}
-use Rattle.agent_rules.proofs.Grounds.{input-has-grounds-as}
+use Rattle.agent_outputs.specs.Orders.{IsCarriedOut}
+use Rattle.agent_outputs.proofs.Orders.{step-carried-out}
+use Rattle.agent_model.specs.Reconciling.{reconciled}
+use Rattle.agent_rules.specs.Turns.{ReadsInTurn}
+use Rattle.agent_rules.proofs.InputGrounds.{input-has-grounds-as}
+use Rattle.agent_rules.proofs.Turning.{input-reads}
 use Rattle.agent_lease_law.proofs.LawfulSteps.{input-lawful-as}
 use Rattle.agent_answers.proofs.OperatorAnswers.{input-decides-as, input-right-as, right-causes}
 use Rattle.agent_roles.proofs.Staying.{input-ends-as, input-counts}
@@ -39,6 +45,27 @@ returns-clause-grounds c = input-has-grounds-as c.args.now c.args.history.now.po
     c.args.self.now.role c.args.self.now.knows c.args.machine.now c.args.out.now.outputs
     (outcome_from (role_of c.fill.new.place) c.hear-role.new.knows c.hear-role.new.machine c.hear-role.new.out.outputs)
     (search rules) (search rules)
+
+pub returns-clause-carried : goal.returns-clause-carried
+returns-clause-carried c none =
+    let made : outcome_from (role_of c.fill.new.place) c.hear-role.new.knows c.hear-role.new.machine
+    c.hear-role.new.out.outputs
+    ≡ step c.args.now c.args.history.now.points c.args.heard
+    (outcome_from c.args.self.now.role c.args.self.now.knows c.args.machine.now c.args.out.now.outputs) =
+    search rules in
+    subst (IsCarriedOut c.args.now c.args.machine.now)
+    (sym (made ∙ ap (λ (outs : List Output). step c.args.now c.args.history.now.points c.args.heard
+    (outcome_from c.args.self.now.role c.args.self.now.knows c.args.machine.now outs)) none))
+    (step-carried-out c.args.now c.args.history.now.points c.args.heard c.args.self.now.role
+    c.args.self.now.knows c.args.machine.now)
+
+pub returns-clause-reads : goal.returns-clause-reads
+returns-clause-reads c =
+    let o = outcome_from c.args.self.now.role c.args.self.now.knows c.args.machine.now c.args.out.now.outputs in
+    subst (ReadsInTurn c.args.now c.args.heard (reconciled c.args.now o))
+    (sym (let told : outcome_from (role_of c.fill.new.place) c.hear-role.new.knows c.hear-role.new.machine
+    c.hear-role.new.out.outputs ≡ step c.args.now c.args.history.now.points c.args.heard o = search rules in told))
+    (input-reads c.args.now c.args.history.now.points c.args.heard o)
 
 pub returns-clause-commits : goal.returns-clause-commits
 returns-clause-commits c = input-commits-as c.args.now c.args.history.now.points c.args.heard
