@@ -153,7 +153,11 @@ fn turn_keys(knows: &Knowledge) -> RaceKeys
 fn active_sync(mode: bool, read: Option<SyncRead>) -> Option<SyncKey>
     ensures { result ≡ active_sync_where mode (option_map (λ (read : SyncRead). read.key) read) }
 {
-    if mode { read.map(|read| read.key) } else { None }
+    if mode {
+        read.map(|read| read.key)
+    } else {
+        None
+    }
 }
 
 /// A member that is barred tells by what, and tells of itself.
