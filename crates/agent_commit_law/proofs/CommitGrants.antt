@@ -37,7 +37,7 @@ use Rattle.agent_commit_law.proofs.CommitLeaders.{WatchdogAfter, led_by}
 use Rattle.agent_commit_law.proofs.CommitLawful.{was_of, lawful-as, keeps-turn, keeps-live, keeps-server, keeps-ready, keeps-noted, sends-nothing, sends-one, idle-lawful}
 use Rattle.agent_commit_law.proofs.CommitQuiet.{Stands, IsUnasking, asks-none, asks-unbegun, last-request, last-unbegun, unasking}
 use Rattle.agent_commit_law.proofs.CommitTools.{IsWithin, HasReached, covers-required}
-use Rattle.agent_roles.proofs.Knowing.{Onward}
+use Rattle.agent_roles.proofs.GoingOn.{Onward}
 use Rattle.agent_roles.proofs.Living.{no-way}
 
 -- what a granted request is heard on, with what stands after what comes before it

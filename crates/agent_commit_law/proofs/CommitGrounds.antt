@@ -49,7 +49,8 @@ use Rattle.agent_commit_law.proofs.CommitSteps.{IsForeign}
 use Rattle.agent_commit_law.proofs.CommitTools.{IsWithin, HasReached, required-covers}
 use Rattle.agent_roles.proofs.Fitting.{before-fits}
 use Rattle.agent_roles.proofs.Leaving.{before-leaves}
-use Rattle.agent_roles.proofs.Knowing.{Onward, before-onward}
+use Rattle.agent_roles.proofs.GoingOn.{Onward}
+use Rattle.agent_roles.proofs.Knowing.{before-onward}
 use Rattle.agent_roles.proofs.Staying.{before-waits}
 use Rattle.agent_roles.proofs.Living.{no-way}
 use Rattle.agent_cases.proofs.Rows.{before-by, if-cases}

@@ -76,7 +76,8 @@ use Rattle.agent_commit_law.proofs.CommitTools.{both-first, confirmed-reached, n
 use Rattle.agent_commit_law.proofs.CommitSteps.{confirmed_at, wanted_at, required_at, PlanSteps, LedSteps, LeaseSteps, WriteSteps, granted-steps}
 use Rattle.agent_roles.proofs.Granting.{Told}
 use Rattle.agent_roles.proofs.Living.{no-way}
-use Rattle.agent_roles.proofs.Knowing.{Onward, before-onward, wake-onward, looked-onward, got-onward, any-granted-onward, any-refused-onward, operated-onward, answered-onward, asked-onward, holding-onward, staying-onward, onward-then}
+use Rattle.agent_roles.proofs.GoingOn.{Onward, onward-then}
+use Rattle.agent_roles.proofs.Knowing.{before-onward, wake-onward, looked-onward, got-onward, any-granted-onward, any-refused-onward, operated-onward, answered-onward, asked-onward, holding-onward, staying-onward}
 use Rattle.agent_cases.proofs.Rows.{dropping, before-by, got-by, if-cases, looked-by}
 use Rattle.agent_cases.proofs.Grants.{FailoverRows, passing-by}
 use Rattle.agent_model.specs.Pausing.{is_paused}

@@ -22,7 +22,7 @@ use Rattle.agent_model.specs.Outputs.{has_one}
 use Rattle.agent_model.specs.Synchronous.{sync_read_in}
 use Rattle.agent_commit_law.proofs.CommitIdling.{WaitsOn, Idle}
 use Rattle.agent_commit_law.proofs.CommitQuiet.{Stands, quiet-none, quiet-unbegun}
-use Rattle.agent_roles.proofs.Knowing.{Onward}
+use Rattle.agent_roles.proofs.GoingOn.{Onward}
 use Rattle.agent_roles.proofs.Living.{no-way}
 
 -- what the law sees of an agent

@@ -66,7 +66,8 @@ use Rattle.agent_commit_law.proofs.CommitSteps.{IsForeign, wanted_at, confirmed_
 use Rattle.agent_commit_law.proofs.CommitTools.{IsWithin, HasReached, within-set, both-first, either-first, either-one, either-within, unnamed-confirmers, waiting-covers, waiting-narrows, confirmed-reached}
 use Rattle.agent_roles.proofs.Fitting.{ended-for}
 use Rattle.agent_roles.proofs.Granting.{Told, one-before, one-last}
-use Rattle.agent_roles.proofs.Knowing.{before-onward, granted-onward, onward-then}
+use Rattle.agent_roles.proofs.GoingOn.{onward-then}
+use Rattle.agent_roles.proofs.Knowing.{before-onward, granted-onward}
 use Rattle.agent_roles.proofs.Living.{no-way}
 use Rattle.agent_cases.proofs.Rows.{dropping}
 use Rattle.agent_cases.proofs.Grants.{FailoverRows}

@@ -27,7 +27,7 @@ use Rattle.agent_model.specs.Operators.{answering, learned}
 use Rattle.agent_model.specs.Table.{granted_any}
 use Rattle.agent_model.specs.Racing.{unheard}
 use Rattle.agent_roles.proofs.Granting.{take-free, Told, one-last, one-before}
-use Rattle.agent_roles.proofs.Knowing.{IsAlone}
+use Rattle.agent_roles.proofs.GoingOn.{IsAlone}
 use Rattle.agent_roles.proofs.Leaving.{ready-is}
 use Rattle.agent_roles.proofs.Living.{no-way}
 use Rattle.agent_cases.proofs.Rows.{HandoverRows, ReplyRows, dropping, if-cases}

@@ -37,7 +37,7 @@ use Rattle.agent_sending.specs.Modes.{KeepsMode}
 use Rattle.agent_roles.specs.Powers.{Acts, BringsNothing, DeadlineMay, LeavesMachine, leads, lease_of}
 use Rattle.agent_roles.specs.Powers.DeadlineMay.{Kept as DeadlineKept, Removed as DeadlineRemoved, Undone as DeadlineUndone}
 use Rattle.agent_roles.specs.Seen.{check_seen, lease_asked, leader_seen_if, failsafe_seen_if, agent_seen, moment_seen, hold_seen, machine_seen}
-use Rattle.agent_roles.proofs.Knowing.{Onward}
+use Rattle.agent_roles.proofs.GoingOn.{Onward}
 use Rattle.agent_roles.proofs.Fitting.{ready-ended}
 use Rattle.agent_roles.proofs.Leaving.{acts-before}
 use Rattle.agent_roles.proofs.Living.{no-way}

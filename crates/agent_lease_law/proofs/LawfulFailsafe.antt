@@ -35,8 +35,10 @@ use Rattle.agent_model.specs.Peers.{asked}
 use Rattle.agent_roles.proofs.Bringing.{holding-brings, staying-brings, brings-then, before-brings}
 use Rattle.agent_roles.proofs.Fitting.{before-fits}
 use Rattle.agent_roles.proofs.Granting.{both-true}
-use Rattle.agent_roles.proofs.Knowing.{step-onward, IsAlone}
-use Rattle.agent_sending.proofs.Checking.{Counts, Goes, failsafe-answered-goes, failsafe-asked-step-goes}
+use Rattle.agent_roles.proofs.GoingOn.{IsAlone}
+use Rattle.agent_roles.proofs.Knowing.{step-onward}
+use Rattle.agent_sending.proofs.CheckingWakes.{Goes}
+use Rattle.agent_sending.proofs.Checking.{Counts, failsafe-answered-goes, failsafe-asked-step-goes}
 use Rattle.agent_lease_law.proofs.Lawful.{AreLawfulGrounds, ready-left, takes-nothing, watchdog-left, was_of, acts-seen, seen-acts, watchdog-leaves, parted-by}
 use Rattle.agent_lease_law.proofs.LawfulGrants.{deadline-of}
 use Rattle.agent_roles.proofs.Leaving.{Stays, acts-before, behind, stays, before-leaves}

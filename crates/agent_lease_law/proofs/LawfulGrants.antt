@@ -23,7 +23,7 @@ use Rattle.agent_roles.specs.Powers.{LeavesMachine, IsAwaitedLease}
 use Rattle.agent_roles.specs.Powers.DeadlineMay.{Kept as DeadlineKept, Removed as DeadlineRemoved, Undone as DeadlineUndone}
 use Rattle.agent_roles.specs.Seen.{lease_asked, leader_seen_if, failsafe_listed, failsafe_entry_seen, failsafe_seen_if, moment_seen, hold_seen}
 use Rattle.agent_model.specs.Snapshots.{known_with}
-use Rattle.agent_roles.proofs.Knowing.{known-listed}
+use Rattle.agent_roles.proofs.GoingOn.{known-listed}
 use Rattle.agent_lease_law.proofs.Lawful.{was_of, stands-agent}
 use Rattle.agent_roles.proofs.Living.{no-way}
 

@@ -58,8 +58,10 @@ use Rattle.agent_model.specs.Wake.{overdue, turned, woken}
 use Rattle.agent_roles.proofs.Bringing.{acting-brings, any-refused-brings, operated-brings, ready-leads, brings-then, before-brings, overdue-brings, turn-brings, wake-brings, got-brings, answer-brings, read-brings, refusal-brings, asked-brings, answered-brings}
 use Rattle.agent_roles.proofs.Fitting.{before-fits, ready-same}
 use Rattle.agent_roles.proofs.Granting.{both-true, awaited-lease, any-granted-may as grant-may}
-use Rattle.agent_roles.proofs.Knowing.{told-pause, any-granted-onward, any-refused-onward, looked-onward, operated-onward, IsAlone, alone-of, Onward, before-onward, wake-onward, got-onward, answered-onward, asked-onward, onward-then}
-use Rattle.agent_sending.proofs.Checking.{Begins as BeginsToStay, Goes, answered-step-goes, asked-step-goes, free-takes, got-step-goes, granted-step-goes, operated-step-goes, refused-step-goes, wake-goes}
+use Rattle.agent_roles.proofs.GoingOn.{told-pause, IsAlone, alone-of, Onward, onward-then}
+use Rattle.agent_roles.proofs.Knowing.{any-granted-onward, any-refused-onward, looked-onward, operated-onward, before-onward, wake-onward, got-onward, answered-onward, asked-onward}
+use Rattle.agent_sending.proofs.CheckingWakes.{Begins as BeginsToStay, Goes, free-takes, wake-goes}
+use Rattle.agent_sending.proofs.Checking.{answered-step-goes, asked-step-goes, got-step-goes, granted-step-goes, operated-step-goes, refused-step-goes}
 use Rattle.agent_lease_law.proofs.Lawful.{AreLawfulGrounds, lease-only, ready-left, takes-nothing, watchdog-by, watchdog-left, was_of, acts-seen, seen-acts, watchdog-kept, watchdog-leaves, parted-by, lawful-of}
 use Rattle.agent_lease_law.proofs.LawfulGrants.{heard-leader, heard-failsafe, hears-grant, fed-of, entry-known, armable-before, late-before, new-deadline, free-of}
 use Rattle.agent_roles.proofs.Leaving.{given-up-fits, acts-before, stays, told-fits, leaves-then, before-leaves, read-leaves, refusal-leaves, asked-leaves, answered-leaves}

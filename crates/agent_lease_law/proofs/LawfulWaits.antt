@@ -22,8 +22,8 @@ use Rattle.agent_sending.specs.Modes.{KeepsMode}
 use Rattle.agent_lease_law.specs.Lawful.{CanFeed, StandsIn, IsInputOf, MayPromote, IsLawfulAnd}
 use Rattle.agent_roles.specs.Powers.{BringsNothing, LeavesMachine, IsFedByFailsafe, leads}
 use Rattle.agent_roles.specs.Seen.{check_seen, leader_seen_if, moment_seen, failsafe_seen_if}
-use Rattle.agent_roles.proofs.Knowing.{Onward}
-use Rattle.agent_sending.proofs.Checking.{Goes}
+use Rattle.agent_roles.proofs.GoingOn.{Onward}
+use Rattle.agent_sending.proofs.CheckingWakes.{Goes}
 use Rattle.agent_lease_law.proofs.Lawful.{AreLawfulGrounds, ready-left, takes-nothing, was_of, seen-acts, watchdog-leaves, lawful-of}
 use Rattle.agent_lease_law.proofs.LawfulGrants.{fed-deadline}
 use Rattle.agent_roles.proofs.Living.{no-way}

@@ -4,6 +4,7 @@ pub mod Bringing
 pub mod Leaving
 pub mod Granting
 pub mod Acknowledging
+pub mod GoingOn
 pub mod Knowing
 pub mod Staying
 pub mod Unfed

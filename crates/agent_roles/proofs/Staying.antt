@@ -12,7 +12,8 @@ use Rattle.agent_model.specs.Agents.{EndsAlone, HasCounted, Outcome}
 use Rattle.agent_model.specs.Reconciling.{has_ended, reconciled}
 use Rattle.agent_model.specs.Snapshots.{informed}
 use Rattle.agent_model.specs.Table.{step}
-use Rattle.agent_roles.proofs.Knowing.{alone-of, ends-of, step-onward, told-pause, before-read}
+use Rattle.agent_roles.proofs.GoingOn.{alone-of, ends-of, told-pause}
+use Rattle.agent_roles.proofs.Knowing.{step-onward, before-read}
 use Rattle.agent_roles.proofs.Living.{no-way}
 use Rattle.agent_cases.proofs.Rows.{before-by}
 use Rattle.agent_model.specs.Pausing.{is_paused}

@@ -41,7 +41,8 @@ use Rattle.agent_model.specs.Table.{step}
 use Rattle.agent_model.specs.Wake.{reading, turn_noted, leader_out_of_reach, unleased_out_of_reach, overdue, turned, woken}
 use Rattle.agent_model.specs.declared.why.Why.TheVariants.{HandOver}
 use Rattle.agent_roles.proofs.Granting.{Told}
-use Rattle.agent_roles.proofs.Knowing.{IsAlone, alone-of, before-onward, given-up-onward}
+use Rattle.agent_roles.proofs.GoingOn.{IsAlone, alone-of}
+use Rattle.agent_roles.proofs.Knowing.{before-onward, given-up-onward}
 use Rattle.agent_roles.proofs.Staying.{before-waits}
 use Rattle.agent_roles.proofs.Living.{no-way}
 use Rattle.agent_cases.proofs.Rows.{if-cases, overdue-by, turn-by, wake-by, got-by, refused-by, follow-by, repaired-by, free-by, judged-by, answered-by, HandoverRows, ReplyRows, dropping, refused-any-by, given-up-by, looked-by, operated-by}

@@ -39,7 +39,7 @@ use Rattle.pat_base.specs.declared.member_id.TheConstants.{MOST_MEMBERS}
 use Rattle.agent_model.specs.Peers.{awaits_others}
 use Rattle.agent_model.specs.Wake.{reading, turn_noted, overdue}
 use Rattle.agent_roles.proofs.Granting.{Told}
-use Rattle.agent_roles.proofs.Knowing.{IsAlone}
+use Rattle.agent_roles.proofs.GoingOn.{IsAlone}
 use Rattle.agent_roles.proofs.Leaving.{rests-by}
 use Rattle.agent_roles.proofs.Living.{no-way}
 use Rattle.agent_cases.proofs.Rows.{HandoverRows, ReplyRows, if-cases, before-by, judged-by}

@@ -63,7 +63,8 @@ use Rattle.agent_model.specs.Answers.{all_answered}
 use Rattle.agent_model.specs.Peers.{asked, awaits_others, keeping, answered}
 use Rattle.agent_roles.proofs.Granting.{Told, both-true}
 use Rattle.lease_model.proofs.Tools.{none-some, some-is}
-use Rattle.agent_roles.proofs.Knowing.{IsAlone, before-onward, known-listed}
+use Rattle.agent_roles.proofs.GoingOn.{IsAlone, known-listed}
+use Rattle.agent_roles.proofs.Knowing.{before-onward}
 use Rattle.agent_roles.proofs.Staying.{before-leaves, before-waits}
 use Rattle.agent_roles.proofs.Fitting.{ended-for}
 use Rattle.agent_roles.proofs.Leaving.{rests-by, told-fits}

@@ -33,7 +33,8 @@ use Rattle.agent_model.specs.Racing.{judged}
 use Rattle.pat_base.specs.declared.member_id.TheConstants.{MOST_MEMBERS}
 use Rattle.agent_model.specs.Peers.{awaits_others}
 use Rattle.agent_model.specs.Wake.{leader_out_of_reach, reading, turn_noted, unleased_out_of_reach, overdue, overdue_for, turned, unanswered, woken}
-use Rattle.agent_roles.proofs.Knowing.{IsAlone, given-up-onward}
+use Rattle.agent_roles.proofs.GoingOn.{IsAlone}
+use Rattle.agent_roles.proofs.Knowing.{given-up-onward}
 use Rattle.agent_roles.proofs.Staying.{before-leaves, before-waits}
 use Rattle.agent_roles.proofs.Living.{no-way}
 use Rattle.agent_cases.proofs.Rows.{HandoverRows, dropping, given-up-by, if-cases, overdue-when, turn-by, wake-by, judged-by}

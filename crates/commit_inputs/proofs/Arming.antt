@@ -22,7 +22,8 @@ use Rattle.commit_showing.proofs.FromLease.{grant-alone, grant-present}
 use Rattle.lease_parts.specs.Declaring.{declared_of, works_of}
 use Rattle.lease_parts.specs.Kept.{MeetsPremises}
 use Rattle.lease_parts.specs.Volatile as run_volatile
-use Rattle.lease_inputs.proofs.InputKept.{ArmsInTime, arms-in-time}
+use Rattle.lease_inputs.proofs.InputBegun.{ArmsInTime}
+use Rattle.lease_inputs.proofs.InputKept.{arms-in-time}
 use Rattle.lease_inputs.proofs.InputSeen.{found-of}
 use Rattle.commit_parts.specs.Bridged.{CommitsBridged}
 use Rattle.commit_parts.specs.Reading.{state_of_run}

@@ -27,7 +27,7 @@ use Rattle.commit_servers.specs.Acting.{Fits}
 use Rattle.commit_servers.specs.Matching.{live_in}
 use Rattle.commit_servers.specs.Sound.{WaitsForMembers}
 use Rattle.run_promise.specs.Members.{member_count}
-use Rattle.lease_inputs.proofs.InputMachines.{Seen as MachineSeen}
+use Rattle.lease_inputs.proofs.InputServers.{Seen as MachineSeen}
 use Rattle.lease_inputs.proofs.InputSeen.{found-of}
 use Rattle.run_promise.proofs.Upholding.{over-append}
 use Rattle.commit_showing.proofs.Asides.{once-behind, once-none}

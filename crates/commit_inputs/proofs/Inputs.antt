@@ -22,7 +22,8 @@ use Rattle.agent_model.specs.Agents.{AgentFacts, Outcome, outcome_from}
 use Rattle.agent_commit_law.specs.Committing.{AsksInSynchronousMode, CommitsFrom, DoesAs, GrowsByConnected, HolderAsks, HearsBelow, is_carrying, HearsSynchronousMode, HearsToCommit, IsLawfulAs, IsSent, ListsMember, StandsToCommit, StaysInSynchronousMode, committer_seen, is_begin, is_claim_outside_sync, live_shown, requests_of}
 use Rattle.agent_lease_law.specs.Lawful.{Hears}
 use Rattle.agent_model.specs.Pausing.{is_paused}
-use Rattle.agent_roles.proofs.Knowing.{tells_pause, told_by}
+use Rattle.agent_roles.proofs.GoingOn.{tells_pause}
+use Rattle.agent_roles.proofs.Knowing.{told_by}
 use Rattle.agent_outputs.specs.Orders.{IsCarriedOut, IsOfTable}
 use Rattle.agent_model.specs.Outputs.{has_one}
 use Rattle.agent_model.specs.Table.{step}

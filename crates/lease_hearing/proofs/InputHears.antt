@@ -33,7 +33,8 @@ use Rattle.agent_lease_law.specs.Lawful.{CanFeed, HearsAnswer, HearsGrant, Hears
 use Rattle.agent_sending.specs.Modes.{HearsMode, TellsMode}
 use Rattle.lease_model.specs.Modes.{IsModeHeld, IsModeIn, IsModeTold, IsModeValue, TellMode}
 use Rattle.agent_roles.specs.Seen.{leader_entry_seen, failsafe_entry_seen}
-use Rattle.agent_roles.proofs.Knowing.{tells_pause, told_by}
+use Rattle.agent_roles.proofs.GoingOn.{tells_pause}
+use Rattle.agent_roles.proofs.Knowing.{told_by}
 use Rattle.pat_base.specs.declared.member_id.MemberId.{MemberId}
 use Rattle.cluster_model.specs.Deliveries.{is_answer}
 use Rattle.cluster_model.specs.Hearing.{member_at_end, heard_from, heard_in, snapshot_in}

@@ -57,13 +57,15 @@ use Rattle.lease_parts.specs.Kept.{IsKept, one_writer}
 use Rattle.lease_parts.specs.Volatile.{agent_now, volatile_of}
 use Rattle.lease_parts.specs.Waiting.{IsAddressed, IsAnswer, IsPeerBody}
 use Rattle.lease_parts.proofs.Actions.{action-kept, machines-kept}
-use Rattle.agent_roles.proofs.Knowing.{tells_pause, told_by}
+use Rattle.agent_roles.proofs.GoingOn.{tells_pause}
+use Rattle.agent_roles.proofs.Knowing.{told_by}
 use Rattle.lease_hearing.specs.Hearing.{IsHeardWell}
 use Rattle.lease_hearing.proofs.InputHears.{calm-from, unpaused-told, heard-well, hears-by, peers-hear}
 use Rattle.lease_hearing.proofs.ModeRequests.{asked-mode}
 use Rattle.agent_sending.specs.Asking.{HearsFailsafe}
 use Rattle.agent_sending.specs.Modes.{IsModeRequested}
-use Rattle.lease_inputs.proofs.InputKept.{IsBegun, begun-by, input-kept, opening-addressed, opening-mode}
+use Rattle.lease_inputs.proofs.InputBegun.{IsBegun, begun-by, opening-addressed, opening-mode}
+use Rattle.lease_inputs.proofs.InputKept.{input-kept}
 use Rattle.lease_inputs.proofs.InputKinds.{IsOpening, opening-hands_off, opening-members}
 use Rattle.lease_inputs.proofs.InputSeen.{can-feed, found-of}
 use Rattle.lease_parts.proofs.SameMachine.{machine-same}

@@ -26,7 +26,7 @@ use Rattle.agent_model.specs.Reconciling.{reconciled}
 use Rattle.agent_model.specs.StayingPrimary.{failsafe_asked, span_after}
 use Rattle.agent_model.specs.Table.{step}
 use Rattle.agent_cases.proofs.FailsafeRows.{failsafe-asked-by}
-use Rattle.agent_roles.proofs.Knowing.{alone-of}
+use Rattle.agent_roles.proofs.GoingOn.{alone-of}
 use Rattle.agent_outputs.specs.Orders.{IsOfTable}
 use Rattle.agent_sending.specs.Asking.{HearsFailsafe, StandsOn}
 use Rattle.agent_lease_law.specs.Lawful.{is_yes, request_heard, request_taken}

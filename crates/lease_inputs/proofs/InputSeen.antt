@@ -25,7 +25,8 @@ use Rattle.lease_parts.specs.Bridged.{IsMatched}
 use Rattle.lease_parts.specs.Declaring.{declared_of, margin_said, works_of, works_said}
 use Rattle.lease_parts.specs.Machines.{deadline_now, hold_now, run_in}
 use Rattle.lease_parts.specs.Volatile.{agent_now, machine_in}
-use Rattle.lease_inputs.proofs.InputMachines.{Mirrors, Resembles}
+use Rattle.lease_inputs.proofs.InputServers.{Mirrors}
+use Rattle.lease_inputs.proofs.InputMachines.{Resembles}
 use Rattle.lease_parts.proofs.SameMachine.{machine-same}
 
 -- ---- the machine that an agent finds

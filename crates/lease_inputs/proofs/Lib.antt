@@ -1,10 +1,13 @@
 pub mod InputEvents
 pub mod InputKinds
+pub mod InputServers
 pub mod InputMachines
+pub mod InputNumbers
 pub mod InputOutputs
 pub mod InputStays
 pub mod InputWaiting
 pub mod InputSeen
 pub mod InputHolds
+pub mod InputBegun
 pub mod InputKept
 pub mod EveryInput

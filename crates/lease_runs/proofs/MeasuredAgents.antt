@@ -40,7 +40,8 @@ use Rattle.agent_model.specs.Views.{shown}
 use Rattle.failsafe.specs.Holding.{may_hold}
 use Rattle.agent_model.specs.Table.{step}
 use Rattle.agent_cases.proofs.FailsafeRows.{failsafe-asked-by}
-use Rattle.agent_roles.proofs.Knowing.{IsAlone, alone-of, step-onward}
+use Rattle.agent_roles.proofs.GoingOn.{IsAlone, alone-of}
+use Rattle.agent_roles.proofs.Knowing.{step-onward}
 use Rattle.agent_roles.proofs.Living.{no-way}
 use Rattle.agent_roles.proofs.Staying.{input-ends}
 use Rattle.agent_roles.proofs.Unfed.{FeedsAlone, actions-feed-none, wakes-feed-none}

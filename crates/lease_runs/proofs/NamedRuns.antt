@@ -47,7 +47,7 @@ use Rattle.run_promise.proofs.Upholding.{upheld-then, upholds-all}
 use Rattle.run_promise.proofs.Walking.{upholds-run}
 use Rattle.lease_inputs.specs.InputEvents.{IsOfInput}
 use Rattle.lease_inputs.proofs.InputEvents.{output-mine}
-use Rattle.lease_inputs.proofs.InputOutputs.{no-sent, no_message as sends_none}
+use Rattle.lease_inputs.proofs.InputNumbers.{no-sent, no_message as sends_none}
 use Rattle.summary_model.specs.Listed.{NamesServer}
 use Rattle.lease_runs.proofs.NamedParts.{found-own, sends-own, upheld-arrival, upholds-acknowledge, upholds-command, upholds-promote, upholds-receive, upholds-restart, upholds-tick}
 use Rattle.lease_runs.proofs.Naming.{IsDeclaredEnd, IsOwn, NamesSoFar, composable, names_told, upheld-own}

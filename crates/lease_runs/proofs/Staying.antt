@@ -49,7 +49,8 @@ use Rattle.agent_cases.proofs.Rows.{HandoverRows, ReplyRows, before-by, dropping
 use Rattle.agent_cases.proofs.Grants.{DutyRows, begins-or-claims-by, duties-of, granted-any-by, granted-by, judges-start-by, kept_on, leading_in_pause, led_on, renewed-by, takes-in-pause-by}
 use Rattle.agent_roles.proofs.Fitting.{before-fits}
 use Rattle.agent_roles.proofs.Granting.{Told, both-true}
-use Rattle.agent_roles.proofs.Knowing.{IsAlone, before-onward}
+use Rattle.agent_roles.proofs.GoingOn.{IsAlone}
+use Rattle.agent_roles.proofs.Knowing.{before-onward}
 use Rattle.agent_roles.proofs.Living.{no-way}
 use Rattle.agent_roles.proofs.Staying.{before-leaves, before-waits}
 use Rattle.agent_sending.specs.Asking.{awaits_stay}

@@ -90,7 +90,8 @@ base_line-again cluster n config members least most =
     addition-again (start cluster config None members) words.Base (decimal n) (additions.Base n)
     (ap (λ r. on_ok r (λ n. Ok (additions.Base n))) (next_base-again n least most))
 
-pub config_line-again : (cluster : Name) (bytes : List ℕ) (config : Settings) (base : Option ℕ) (members : List MemberText)
+pub config_line-again : (cluster : Name) (bytes : List ℕ) (config : Settings) (base : Option ℕ)
+    (members : List MemberText)
     → config_read bytes ≡ Ok config
     → with_line (start cluster None base members) (config_text bytes) ≡ Ok (start cluster (Some config) base members)
 unfolding start
