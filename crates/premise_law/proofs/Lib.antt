@@ -1,2 +1,4 @@
 mod Leading
+mod Readings
 pub mod TakeOvers
+mod Telling
