@@ -1,4 +1,6 @@
 mod Leading
+mod ReadKeys
 mod Readings
 pub mod TakeOvers
 mod Telling
+mod Untold

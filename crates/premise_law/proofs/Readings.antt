@@ -46,7 +46,7 @@ pub record Flown (start : Facts) (book : List Event) (flight : Flight) : Type 0 
   pub sent : (i : ℕ) (carried : InFlightFacts) → in_flight flight i ≡ Some carried → WasSent start book i carried
 
 -- one more event stands behind the others
-behind : (earlier later : List Event) (first event : Event) (book : List Event) → book ≡ earlier ++ first ∷ later
+pub behind : (earlier later : List Event) (first event : Event) (book : List Event) → book ≡ earlier ++ first ∷ later
     → book ++ event ∷ [] ≡ earlier ++ first ∷ (later ++ event ∷ [])
 behind earlier later first event book is =
     ap (λ (l : List Event). l ++ event ∷ []) is ∙ append_assoc earlier (first ∷ later) (event ∷ [])

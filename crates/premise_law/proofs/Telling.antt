@@ -1,7 +1,7 @@
 -- What an input tells: only a grant of the leader key that is waited for arms or feeds a watchdog by a grant,
 -- and lets a member tell that the sync key doesn't name it; and only a read changes what its turn read of that.
 use Rattle.std.proofs.Common.{◌≡◌, ◌⊎◌, ◌+◌, ◌&&◌, ℕ, Bool, true, false, zero, suc, List, [], ◌∷◌, Option, None, Some, All, refl, sym, ap, ◌∙◌, inl, inr}
-use Rattle.std.proofs.lemmas.List.Elements.{All-cons, All-head, All-nil, All-push, All-tail, All-weaker}
+use Rattle.std.proofs.lemmas.List.Elements.{All-nil, All-push, All-weaker}
 use Rattle.pat_base.specs.MemberId.{member_of}
 use Rattle.pat_base.specs.declared.ineligibility.Ineligibility.{Ineligibility}
 use Rattle.pat_base.specs.declared.member_id.MemberId.{MemberId}
@@ -12,8 +12,13 @@ use Rattle.lease_store.specs.declared.granted.Granted.{Granted}
 use Rattle.wal_model.specs.declared.entry.HistoryPoint.{HistoryPoint}
 use Rattle.cluster_view.specs.Snapshots.{SnapshotFacts}
 use Rattle.event_book.specs.declared.agent_note.AgentNote.TheVariants as agent_notes
+use Rattle.event_book.specs.declared.message.Body.{Body}
 use Rattle.event_book.specs.declared.message.Body.TheVariants as bodies
-use Rattle.event_book.specs.declared.reason.Reason.TheVariants.{FailsafeNotAcknowledged, LeaderKeyLost, StartTooLong, WatchdogNotArmed}
+use Rattle.failsafe.specs.Asks.{has}
+use Rattle.pat_base.specs.declared.member_set.MemberSet.{MemberSet}
+use Rattle.store_keys.specs.declared.action.OperatorRequest.{OperatorRequest}
+use Rattle.pg_model.specs.Running.{is_primary}
+use Rattle.event_book.specs.declared.reason.Reason.TheVariants.{FailsafeNotAcknowledged, LeaderKeyLost, StartTooLong, StoreOutOfReach, WatchdogNotArmed}
 use Rattle.agent_model.specs.declared.heard.Heard.{Heard}
 use Rattle.agent_model.specs.declared.heard.Heard.TheVariants as heards
 use Rattle.agent_model.specs.declared.knowledge.PendingQuestion.{PendingQuestion}
@@ -24,13 +29,14 @@ use Rattle.agent_model.specs.declared.output.Output.TheVariants as outputs
 use Rattle.agent_model.specs.declared.output.Target.TheVariants as targets
 use Rattle.agent_model.specs.declared.who.Who.{Who}
 use Rattle.agent_model.specs.declared.why.Why.{Why}
-use Rattle.agent_model.specs.Acting.{armed, arming, deadline_after, disarmed, fed_until, is_refusing, requiring, starting_replica, touching, waiting_no_more}
+use Rattle.agent_model.specs.Acting.{armed, arming, deadline_after, disarmed, fed_until, is_refusing, lease_span, requiring, starting_replica, touching, waiting_no_more}
 use Rattle.agent_model.specs.Agents.{AgentFacts, Ending, Follower, Outcome, outcome_from}
 use Rattle.agent_model.specs.Answers.{asking_first, asking_one, is_other}
 use Rattle.agent_model.specs.Claiming.{begins, begins_or_claims, passing, postpones, told_passing}
 use Rattle.agent_model.specs.Decisions.{arms, cannot_arm, confirming, gives_back, granted, is_decision, is_lease_of, may_take, refused, takes_over, unleased_unarmed}
 use Rattle.agent_model.specs.HandingOver.{asking_whom}
-use Rattle.agent_model.specs.Operators.{learned, looked}
+use Rattle.agent_model.specs.Operators.{given_up, learned, looked, operated, restarting, unnumbered, wiping}
+use Rattle.agent_model.specs.Wake.{overdue, turned, woken}
 use Rattle.agent_model.specs.Outputs.{with_output}
 use Rattle.agent_model.specs.Pausing.{disabling_told, disabling_watchdog, is_wanted, may_start_behind}
 use Rattle.agent_model.specs.Peers.{answered, asked, keeping}
@@ -38,24 +44,28 @@ use Rattle.agent_model.specs.Racing.{finds_free, judged, unheard}
 use Rattle.agent_model.specs.Reconciling.{has_ended, reconciled}
 use Rattle.agent_model.specs.Repairs.{repair_of}
 use Rattle.agent_model.specs.Snapshots.{follow_row, follows, informed, led_by_another, read_answered, read_noted}
-use Rattle.agent_model.specs.StayingPrimary.{counting, failsafe_answered, failsafe_asked, fed_by_failsafe}
+use Rattle.agent_model.specs.StayingPrimary.{counting, failsafe_answered, failsafe_asked, fed_by_failsafe, others_known, requesting_first, requesting_one, span_after}
 use Rattle.agent_model.specs.Synchronous.{is_named_if, unnamed}
 use Rattle.agent_model.specs.Table.{granted_any, refused_any, step}
-use Rattle.agent_cases.proofs.Rows.{HandoverRows, ReplyRows, answered-by, before-by, failsafe-answered-by, failsafe-asked-by, follow-by, free-by, got-by, if-cases, judged-by, looked-by, refused-any-by, refused-by, repaired-by}
+use Rattle.agent_cases.proofs.Rows.{HandoverRows, ReplyRows, answered-by, before-by, failsafe-answered-by, failsafe-asked-by, follow-by, free-by, given-up-by, got-by, if-cases, judged-by, looked-by, operated-by, overdue-by, refused-any-by, refused-by, repaired-by, turn-by, wake-by}
 use Rattle.agent_cases.proofs.Grants.{DutyRows, GrantRows, begins-or-claims-by, duties-of, granted-any-by, granted-by, judges-start-by, kept_on, leading_in_pause, led_on, renewed-by, takes-in-pause-by}
 use Rattle.agent_commit_law.proofs.CommitIdling.{Idle, TurnsOn, answered-idle, any-refused-idle, asked-idle, before-idle, got-idle, looked-idle, operated-idle, stay-answered-idle, stay-asked-idle, wake-idle}
-use Rattle.agent_commit_law.proofs.CommitQuiet.{Stands}
 use Rattle.agent_roles.proofs.Granting.{both-true}
 use Rattle.agent_roles.proofs.Knowing.{before-onward}
 use Rattle.lease_model.proofs.Tools.{none-some}
 use Rattle.agent_model.specs.declared.machine.Machine.{Machine}
-use Rattle.agent_roles.proofs.Unfed.{FeedsAlone, actions-feed-none, wakes-feed-none}
+
+-- what no member tells another: that a request was granted
+abbrev pub IsInquiry : Body → Type 0
+IsInquiry (bodies.Granted request leased) = ⊥
+IsInquiry _ = Unit {0}
 
 -- U holds where the member tells that the sync key doesn't name it, and F where its watchdog is armed or fed by a grant
 abbrev pub TellsOnly : Type 0 → Type 0 → Output → Type 0
 TellsOnly U F outputs.ClaimsOutsideSync = U
 TellsOnly U F (outputs.Armed until) = F
 TellsOnly U F (outputs.Fed until) = F
+TellsOnly U F (outputs.Send to sequence body) = IsInquiry body
 TellsOnly U F _ = Unit {0}
 
 module _ (U F : Type 0) where
@@ -221,6 +231,64 @@ module _ (U F : Type 0) where
       (λ _. more _ (outputs.FailsafeAnswer from incarnation sequence true)
       (more o.outputs (outputs.HoldTaken _ from sequence) all tt) tt)
       (more o.outputs (outputs.FailsafeAnswer from incarnation sequence false) all tt)
+
+-- ---- a wake, and what an operator asks
+  fine-request : (members : MemberSet) (sequence : ℕ) (ttl : Ticks) (member : Option MemberId) (outs : List Output)
+      → All Only outs → All Only (requesting_one members sequence ttl member outs)
+  fine-request members sequence ttl None outs all = all
+  fine-request members sequence ttl (Some member) outs all = if-cases (All Only) (has members member.number)
+      (with_output (outputs.Send (targets.Member member) sequence (bodies.FailsafeRequest ttl)) outs) outs
+      (λ _. more outs (outputs.Send (targets.Member member) sequence (bodies.FailsafeRequest ttl)) all tt) (λ _. all)
+
+  fine-requests : (members : MemberSet) (sequence : ℕ) (ttl : Ticks) (count : ℕ) (outs : List Output) → All Only outs
+      → All Only (requesting_first members sequence ttl count outs)
+  fine-requests members sequence ttl zero outs all = all
+  fine-requests members sequence ttl (suc count) outs all =
+      fine-request members sequence ttl (member_of count) (requesting_first members sequence ttl count outs)
+      (fine-requests members sequence ttl count outs all)
+
+  fine-overdue : (now : Ticks) (o : Outcome) → Fine o → Fine (overdue now o)
+  fine-overdue now o all = overdue-by Fine now o (record {
+    kept = all;
+    quiet = all;
+    leader = λ held _. more o.outputs (outputs.Stop StoreOutOfReach) all tt;
+    seeks = λ held _. fine-requests (others_known o.knows) (o.knows.sequence + 1)
+        (lease_span o.knows.settings) MOST_MEMBERS o.outputs all;
+    alone = λ held _. more _ outputs.StaysByFailsafe
+        (fine-failsafe (deadline_after now (lease_span o.knows.settings) o.machine.watchdog)
+        (others_known o.knows) o.knows.sequence now o.outputs all) tt;
+    silent = λ held _. more o.outputs (outputs.Stop FailsafeNotAcknowledged) all tt;
+    unleased = λ _. more o.outputs (outputs.Stop StoreOutOfReach) all tt;
+    judges = λ _. fine-judged now o all;
+    ready = λ held _. fine-postpones o.machine.watchdog.deadline o.outputs all;
+    checks = λ held _. fine-handover now held o all;
+  })
+
+  fine-turned : (now : Ticks) (o : Outcome) → Fine o → Fine (turned now o)
+  fine-turned now o all = turn-by Fine now o (record {
+    kept = all;
+    quiet = all;
+    reads = λ _. more o.outputs (outputs.Send targets.Store (o.knows.sequence + 1) bodies.Read) all tt;
+  })
+
+  fine-woken : (now : Ticks) (o : Outcome) → Fine (reconciled now o) → Fine (woken now o)
+  fine-woken now o all = let b : Outcome = reconciled now o in
+      let given : Fine (given_up now b) = given-up-by Fine now b (fine-replies b all) in
+      wake-by Fine now o all
+      (fine-turned now (overdue now (given_up now b)) (fine-overdue now (given_up now b) given))
+
+  fine-operated : (now : Ticks) (request : ℕ) (asked : OperatorRequest) (o : Outcome) → Fine o
+      → Fine (operated now request asked o)
+  fine-operated now request asked o all = operated-by Fine now request asked o (record {
+    asks = λ operation txn is.
+        more o.outputs (outputs.Send targets.Store (o.knows.sequence + 1) (bodies.Request txn)) all tt;
+    restarts = λ told. more (restarting now o).outputs (outputs.Told request told)
+        (more o.outputs (outputs.Restart (is_primary o.machine.server.state)) all tt) tt;
+    wipes = λ told. more (wiping o).outputs (outputs.Told request told) (more o.outputs outputs.Wipe all tt) tt;
+    holds = λ ttl told _. more _ (outputs.Told request told)
+        (more o.outputs (outputs.HoldTaken (span_after now ttl) o.knows.who.me unnumbered) all tt) tt;
+    refuses = λ told. more o.outputs (outputs.Told request told) all tt;
+  })
 
 -- ---- a grant
 -- what its turn read of the sync key stays, and so does who it is
@@ -414,23 +482,9 @@ pub record IsTold (heard : Heard) (o x : Outcome) : Type 0 where
   pub outs : All (TellsOnly (IsOutside x) (HearsLease o.knows.who.me heard)) x.outputs
   pub turn : TurnsOn (told_by heard) o x
 
--- outputs that feed by no grant, and tell of no sync key
-feeds-alone : (now : Ticks) (U F : Type 0) (outs : List Output) → All (FeedsAlone now) outs → All (Stands true) outs
-    → All (TellsOnly U F) outs
-feeds-alone now U F [] fed stands = All-nil (TellsOnly U F)
-feeds-alone now U F (output ∷ outs) fed stands = All-cons (TellsOnly U F) output outs
-    (alone output (All-head (FeedsAlone now) output outs fed) (All-head (Stands true) output outs stands))
-    (feeds-alone now U F outs (All-tail (FeedsAlone now) output outs fed) (All-tail (Stands true) output outs stands))
-  where
-    alone : (output : Output) → FeedsAlone now output → Stands true output → TellsOnly U F output
-    alone outputs.ClaimsOutsideSync one other = absurd other
-    alone (outputs.Armed until) one other = absurd one
-    alone (outputs.Fed until) one other = absurd one
-    alone _ one other = tt
-
-turned : (told : Option SnapshotFacts) (o b x : Outcome) → Idle None o b → TurnsOn told b x → TurnsOn told o x
-turned told o b x idle (inr read) = inr read
-turned told o b x idle (inl same) = elim idle.turn [
+turned-on : (told : Option SnapshotFacts) (o b x : Outcome) → Idle None o b → TurnsOn told b x → TurnsOn told o x
+turned-on told o b x idle (inr read) = inr read
+turned-on told o b x idle (inl same) = elim idle.turn [
   | inl before ↦ inl (same ∙ before)
   | inr read ↦ absurd (none-some read.0 read.1)
 ]
@@ -445,9 +499,6 @@ module _ (now : Ticks) (points : List HistoryPoint) (agent : AgentFacts) (machin
   abbrev After : Heard → Outcome
   After heard = step now points heard Standing
 
-  stands : All (Stands true) Behind.outputs
-  stands = (before-idle None now Standing).quiet true (λ _ _. refl) (All-nil (Stands true))
-
   fine : (U F : Type 0) → All (TellsOnly U F) Behind.outputs
   fine U F = fine-before U F now Standing (All-nil (TellsOnly U F))
 
@@ -456,7 +507,7 @@ module _ (now : Ticks) (points : List HistoryPoint) (agent : AgentFacts) (machin
       → Idle (told_by heard) Behind (After heard) → IsTold heard Standing (After heard)
   idle-told heard outs idle = record {
     outs = outs;
-    turn = turned (told_by heard) Standing Behind (After heard) (before-idle None now Standing) idle.turn;
+    turn = turned-on (told_by heard) Standing Behind (After heard) (before-idle None now Standing) idle.turn;
   }
 
   before-who : Behind.knows.who ≡ agent.knows.who
@@ -488,14 +539,14 @@ module _ (now : Ticks) (points : List HistoryPoint) (agent : AgentFacts) (machin
       weaker U V F G first second outputs.ClaimsOutsideSync is = first is
       weaker U V F G first second (outputs.Armed until) is = second is
       weaker U V F G first second (outputs.Fed until) is = second is
-      weaker U V F G first second _ is = tt
+      weaker U V F G first second _ is = is
 
   -- what an input tells
   pub step-told : (heard : Heard) → IsTold heard Standing (After heard)
   step-told heards.Wake =
       let idle : Idle None Behind (After heards.Wake) = wake-idle None now Standing in
-      idle-told heards.Wake (feeds-alone now (IsOutside (After heards.Wake)) ⊥ (After heards.Wake).outputs
-      (wakes-feed-none now points agent.role agent.knows machine) (idle.quiet true (λ _ _. refl) stands)) idle
+      let U : Type 0 = IsOutside (After heards.Wake) in
+      idle-told heards.Wake (fine-woken U ⊥ now Standing (fine U ⊥)) idle
   step-told (heards.ReadAnswered sequence snapshot) =
       let heard : Heard = heards.ReadAnswered sequence snapshot in
       let looks : Outcome = looked sequence snapshot Behind in
@@ -504,7 +555,7 @@ module _ (now : Ticks) (points : List HistoryPoint) (agent : AgentFacts) (machin
       looked-by (λ (y : Outcome). All (TellsOnly U ⊥) y.outputs) sequence snapshot Behind (fine-replies U ⊥ Behind (fine U ⊥)) in
       record {
         outs = fine-got U ⊥ now points sequence snapshot looks looks-fine;
-        turn = turned (Some snapshot) Standing Behind (After heard) (before-idle None now Standing)
+        turn = turned-on (Some snapshot) Standing Behind (After heard) (before-idle None now Standing)
             (turns-both (Some snapshot) Behind looks (After heard) (looked-idle (Some snapshot) sequence snapshot Behind).turn
             (got-idle now points sequence snapshot looks).turn);
       }
@@ -539,5 +590,5 @@ module _ (now : Ticks) (points : List HistoryPoint) (agent : AgentFacts) (machin
   step-told (heards.Operated action) =
       let heard : Heard = heards.Operated action in
       let idle : Idle None Behind (After heard) = operated-idle None now action.request action.asked Behind in
-      idle-told heard (feeds-alone now (IsOutside (After heard)) ⊥ (After heard).outputs
-      (actions-feed-none now points action agent.role agent.knows machine) (idle.quiet true (λ _ _. refl) stands)) idle
+      let U : Type 0 = IsOutside (After heard) in
+      idle-told heard (fine-operated U ⊥ now action.request action.asked Behind (fine U ⊥)) idle

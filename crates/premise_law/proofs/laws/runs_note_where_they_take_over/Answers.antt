@@ -1,3 +1,5 @@
+use Rattle.premise_law.proofs.Untold.{IsUntold}
+use Rattle.premise_law.proofs.ReadKeys.{KnowRead}
 use Rattle.premise_law.proofs.Readings.{WasSent}
 use Rattle.premise_law.specs.Feeding.{FeedOnTheirGrants}
 use Rattle.premise_law.specs.Passing.{PassOutside}
