@@ -1,6 +1,7 @@
 mod Leading
 mod ReadKeys
 mod Readings
+mod Runs
 pub mod TakeOvers
 mod Telling
 mod Untold

@@ -1,3 +1,4 @@
+use Rattle.premise_law.proofs.Runs.{SaidSoFar}
 use Rattle.premise_law.proofs.Untold.{IsUntold}
 use Rattle.premise_law.proofs.ReadKeys.{KnowRead}
 use Rattle.premise_law.proofs.Readings.{WasSent}
