@@ -1,3 +1,5 @@
+pub mod EveryRun
+mod Inputs
 mod Leading
 mod ReadKeys
 mod Readings

@@ -120,7 +120,7 @@ tail-is x y xs ys e = cc
 no-cons : (x : Event) (xs : List Event) → x ∷ xs ≡ [] → ⊥
 no-cons x xs e = cc
 
-no-more : (xs : List Event) (x : Event) (ys : List Event) → xs ++ x ∷ ys ≡ [] → ⊥
+pub no-more : (xs : List Event) (x : Event) (ys : List Event) → xs ++ x ∷ ys ≡ [] → ⊥
 no-more [] x ys e = no-cons x ys e
 no-more (y ∷ xs) x ys e = no-cons y (xs ++ x ∷ ys) e
 
@@ -154,7 +154,7 @@ all-more-said start book (event ∷ events) all said =
     subst (AllSaid start) (append_assoc book (event ∷ []) events)
     (all-more-said start (book ++ event ∷ []) events (all-one start book event all said.0) said.1)
 
-said-both : (start : Facts) (front xs ys : List Event) → AreSaid start front xs → AreSaid start (front ++ xs) ys
+pub said-both : (start : Facts) (front xs ys : List Event) → AreSaid start front xs → AreSaid start (front ++ xs) ys
     → AreSaid start front (xs ++ ys)
 said-both start front [] ys first second = subst (λ (l : List Event). AreSaid start l ys) (append-nil front) second
 said-both start front (x ∷ xs) ys first second = (
@@ -212,7 +212,7 @@ decision-said start front cluster number message txn (Refusal key found) (ends.M
   sends-said start _ _ (answer_message message (decision_body number txn (Refusal key found))) tt,
 )
 
-answer-said : (start : Facts) (front : List Event) (cluster : Cluster) (number : ℕ) (message : Message) (body : Body)
+pub answer-said : (start : Facts) (front : List Event) (cluster : Cluster) (number : ℕ) (message : Message) (body : Body)
     → AreSaid start front (answer_events_by cluster number message body)
 answer-said start front cluster number message bodies.Read =
     sends-said start front cluster (answer_message message bodies.Snapshot) tt
@@ -229,10 +229,10 @@ pub record SaidSoFar (head : HeadText) (book : List Event) (cluster : Cluster) :
 abbrev pub said : HeadText → Promise
 said head = record { premises = λ book. Unit {0}; moment = λ book. Unit {0}; between = SaidSoFar head }
 
-composable : (head : HeadText) → IsComposable (said head)
+pub composable : (head : HeadText) → IsComposable (said head)
 composable head = record { front = λ front rest meets. tt; now = λ book cluster good. tt }
 
-upheld-said : (head : HeadText) (book : List Event) (cluster : Cluster) (events : List Event)
+pub upheld-said : (head : HeadText) (book : List Event) (cluster : Cluster) (events : List Event)
     → SaidSoFar head book cluster → AreSaid (start_in head) book events → Upholds (said head) book cluster events
 upheld-said head book cluster events good are = record {
   inside = λ front rest e meets. tt;
@@ -242,7 +242,7 @@ upheld-said head book cluster events good are = record {
   };
 }
 
-upheld-untold : (head : HeadText) (book : List Event) (cluster : Cluster) (events : List Event)
+pub upheld-untold : (head : HeadText) (book : List Event) (cluster : Cluster) (events : List Event)
     → SaidSoFar head book cluster → AreUntold events → Upholds (said head) book cluster events
 upheld-untold head book cluster events good untold =
     upheld-said head book cluster events good (untold-said (start_in head) book events untold)
