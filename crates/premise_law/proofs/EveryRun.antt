@@ -1,8 +1,9 @@
 -- Each run keeps what is owed of each of its events.
-use Rattle.std.proofs.Common.{ℕ, ◌≡◌, ◌≤◌, ◌&&◌, ◌++◌, Bool, true, false, List, [], ◌∷◌, length, slice_get, Option, Some, None, All, option_map, refl, ◌∙◌, ap, sym, subst, append_assoc}
+use Rattle.std.proofs.Common.{ℕ, ◌≡◌, ◌≤◌, ◌==◌, ◌&&◌, ◌++◌, Bool, true, false, List, [], ◌∷◌, length, slice_get, Option, Some, None, All, option_map, refl, ◌∙◌, ap, sym, subst, append_assoc}
 use Rattle.std.proofs.lemmas.Option.{slice_get-map}
 use Rattle.pat_base.specs.declared.member_id.MemberId.{MemberId}
 use Rattle.pat_base.specs.declared.member_id.TheConstants.{MOST_MEMBERS}
+use Rattle.pat_base.specs.declared.ticks.Ticks.{Ticks}
 use Rattle.store_keys.specs.declared.txn.Txn.{Txn}
 use Rattle.lease_store.specs.declared.granted.Granted.{Granted}
 use Rattle.cluster_view.specs.Snapshots.{SnapshotFacts}
@@ -20,7 +21,7 @@ use Rattle.event_book.specs.declared.member.Member.{Member}
 use Rattle.event_book.specs.declared.message.Body.{Body}
 use Rattle.event_book.specs.declared.message.Body.TheVariants as bodies
 use Rattle.event_book.specs.declared.message.Message.{Message}
-use Rattle.event_book.specs.Facts.{Facts}
+use Rattle.event_book.specs.Facts.{Facts, facts_over}
 use Rattle.event_book.specs.Flight.{InFlightFacts, grant_for, in_flight}
 use Rattle.event_book.specs.Kinds.{AllAre}
 use Rattle.agent_model.specs.declared.heard.Heard.{Heard}
@@ -143,6 +144,24 @@ message-is m from to body one two three =
       body = b;
     }) three
 
+-- the answer to a member tells what it was given
+tells-lease : (start : Facts) (book : List Event) (number : ℕ) (carried : InFlightFacts)
+    (was : WasSent start book number carried) (member : Member) → carried.message.to ≡ ends.Member member
+    → (request : ℕ) (leased : Bool) → carried.message.body ≡ bodies.Granted request leased → (grant : Granted)
+    → carried.grant ≡ Some grant → grant.leased ≡ true → leased ≡ true
+tells-lease start book number carried was member to request leased body grant is mine =
+    let revision : ℕ = (facts_over start was.earlier).keys.revision in
+    let given : Granted = record { revision = revision; by = member.id; leased = leased } in
+    let one : grant_for (bodies.Granted request leased) (ends.Member member) revision
+    ≡ grant_for (bodies.Granted request leased) carried.message.to revision =
+    ap (λ (end : LinkEnd). grant_for (bodies.Granted request leased) end revision) (sym to) in
+    let two : grant_for (bodies.Granted request leased) carried.message.to revision
+    ≡ grant_for carried.message.body carried.message.to revision =
+    ap (λ (b : Body). grant_for b carried.message.to revision) (sym body) in
+    let three : grant_for carried.message.body carried.message.to revision ≡ carried.grant =
+    sym (ap (λ (c : InFlightFacts). c.grant) was.carries) in
+    ap (λ (g : Granted). g.leased) (some-same given grant (one ∙ two ∙ three ∙ is)) ∙ mine
+
 -- the events that tell of a grant stand behind one another
 tells-behind : (earlier front later book done : List Event) (grant sent came : Event)
     → front ≡ earlier ++ grant ∷ [] → book ≡ front ++ sent ∷ later
@@ -152,6 +171,40 @@ tells-behind earlier front later book done grant sent came is parts =
     ∙ ap (λ (l : List Event). l ++ came ∷ done)
     (parts ∙ ap (λ (l : List Event). l ++ sent ∷ later) is ∙ append_assoc earlier (grant ∷ []) (sent ∷ later))
     ∙ append_assoc earlier (grant ∷ sent ∷ later) (came ∷ done)
+
+acts-on : (front later book done : List Event) (member : Member) (number : ℕ) (message : Message) (request : ℕ)
+    {leased : Bool} (of_grant : IsOfGrant front message request leased) → leased ≡ true → of_grant.by ≡ member
+    → message ≡ lease_answer member message.incarnation message.sequence request → (sent came : Ticks)
+    → book ≡ front ++ record { tick = sent; kind = kinds.Message (messages.Sent number message) } ∷ later
+    → AllAre BeginsNoInput done
+    → ActsOnItsGrant ((book ++ record { tick = came; kind = kinds.Message (messages.Delivered number) } ∷ []) ++ done)
+    member number
+acts-on front later book done member number message request of_grant leased its answers sent came parts within =
+    let end : List Event = later ++ record { tick = came; kind = kinds.Message (messages.Delivered number) } ∷ done in
+    let grant_by : Member → Event = λ by. record {
+      tick = of_grant.tick;
+      kind = kinds.Store (stores.Granted request by of_grant.txn of_grant.standbys);
+    } in
+    let sent_as : Message → Event = λ m. record { tick = sent; kind = kinds.Message (messages.Sent number m) } in
+    record {
+      earlier = of_grant.earlier;
+      between = later;
+      within = done;
+      granted = of_grant.tick;
+      sent = sent;
+      came = came;
+      request = request;
+      txn = of_grant.txn;
+      standbys = of_grant.standbys;
+      incarnation = message.incarnation;
+      sequence = message.sequence;
+      is = tells-behind of_grant.earlier front later book done (grant_by of_grant.by) (sent_as message)
+          (record { tick = came; kind = kinds.Message (messages.Delivered number) }) of_grant.is parts
+          ∙ ap (λ (by : Member). of_grant.earlier ++ grant_by by ∷ sent_as message ∷ end) its
+          ∙ ap (λ (m : Message). of_grant.earlier ++ grant_by member ∷ sent_as m ∷ end) answers;
+      leases = of_grant.leases ∙ leased;
+      input = within;
+    }
 
 the-outcome : (cluster : Cluster) (member : Member) (heard : Heard) (agent : Option AgentFacts)
     (machine : Option Machine) → agent_at cluster.agents member.id.number ≡ agent → machine_of cluster member ≡ machine
@@ -280,12 +333,8 @@ module _ (head : HeadText) (few : length (names_of head) ≤ MOST_MEMBERS) where
           granted-in cluster carried grant carried.message.body refl (ap granted_if says) in
           let was : WasSent Start book number carried = knowing.flown.sent number carried found in
           let leased : it.leased ≡ true =
-          ap (λ (g : Granted). g.leased)
-          (some-same _ grant
-          (ap (λ (end : LinkEnd). grant_for (bodies.Granted it.request it.leased) end _) (sym to)
-          ∙ ap (λ (b : Body). grant_for b carried.message.to _) (sym it.body)
-          ∙ sym (ap (λ (c : InFlightFacts). c.grant) was.carries) ∙ it.is))
-          ∙ and-first grant.leased _ mine in
+          tells-lease Start book number carried was member to it.request it.leased it.body grant it.is
+          (and-first grant.leased (grant.by.number == me.number) mine) in
           let sent : Event = record { tick = was.tick; kind = kinds.Message (messages.Sent number carried.message) } in
           let of_grant : IsOfGrant was.earlier carried.message it.request it.leased =
           subst (TellsGrant was.earlier carried.message) it.body
@@ -295,44 +344,8 @@ module _ (head : HeadText) (few : length (names_of head) ≤ MOST_MEMBERS) where
           ≡ lease_answer member carried.message.incarnation carried.message.sequence it.request =
           message-is carried.message ends.Store (ends.Member member) (bodies.Granted it.request true)
           of_grant.from to (it.body ∙ ap (bodies.Granted it.request) leased) in
-          let came : Event = record { tick = record { 0 = (cluster_after cluster Arrived).facts.clock }; kind = Arrived } in
-          let parts : (book ++ event_of cluster Arrived) ++ done
-          ≡ of_grant.earlier
-          ++ record {
-            tick = of_grant.tick;
-            kind = kinds.Store (stores.Granted it.request of_grant.by of_grant.txn of_grant.standbys);
-          }
-          ∷ sent ∷ (was.later ++ came ∷ done) =
-          tells-behind of_grant.earlier was.earlier was.later book done _ sent came of_grant.is was.is in
-          record {
-            earlier = of_grant.earlier;
-            between = was.later;
-            within = done;
-            granted = of_grant.tick;
-            sent = was.tick;
-            came = came.tick;
-            request = it.request;
-            txn = of_grant.txn;
-            standbys = of_grant.standbys;
-            incarnation = carried.message.incarnation;
-            sequence = carried.message.sequence;
-            is = parts
-                ∙ ap (λ (by : Member). of_grant.earlier
-                ++ record {
-                  tick = of_grant.tick;
-                  kind = kinds.Store (stores.Granted it.request by of_grant.txn of_grant.standbys);
-                }
-                ∷ sent ∷ (was.later ++ came ∷ done)) its
-                ∙ ap (λ (message : Message). of_grant.earlier
-                ++ record {
-                  tick = of_grant.tick;
-                  kind = kinds.Store (stores.Granted it.request member of_grant.txn of_grant.standbys);
-                }
-                ∷ record { tick = was.tick; kind = kinds.Message (messages.Sent number message) }
-                ∷ (was.later ++ came ∷ done)) answers;
-            leases = of_grant.leases ∙ leased;
-            input = within;
-          }
+          acts-on was.earlier was.later book done member number carried.message it.request of_grant leased its answers
+          was.tick (record { 0 = (cluster_after cluster Arrived).facts.clock }) was.is within
 
       lease-by : (heard : Heard) → heard_from cluster carried ≡ Some heard → (me : MemberId) → HearsLease me heard
           → (done : List Event) → AllAre BeginsNoInput done
