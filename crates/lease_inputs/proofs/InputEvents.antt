@@ -261,7 +261,7 @@ module _ (member : Member) (incarnation heard : ℕ) (Q : Output → Type 0) whe
   output-mine cluster message at runs outputs.StaysByFailsafe table is = (tt, tt)
   output-mine cluster message at runs outputs.Disarmed table is = (refl, tt)
   output-mine cluster message at runs (outputs.Note note) table is = (tt, tt)
-  output-mine cluster message at runs outputs.ClaimsOutsideSync table is = (refl, tt)
+  output-mine cluster message at runs outputs.ClaimsOutsideSync table is = ((refl, is), tt)
   output-mine cluster message at runs (outputs.Told request told) table is =
       let agent = agent_at cluster.agents member.id.number in
       kinds-mine cluster (told_kind member agent told) (told-holds Mine member agent told (λ reply. tt))

@@ -101,6 +101,6 @@ IsOfInput member incarnation heard Q (kinds.Watchdog (watchdogs.Measured by from
 IsOfInput member incarnation heard Q (kinds.Replication (replications.RequiredSet server required names)) =
     server ≡ server_of member
 IsOfInput member incarnation heard Q (kinds.Replication (replications.Lacks server)) = server ≡ server_of member
-IsOfInput member incarnation heard Q (kinds.Agent (agents.Passed by)) = by ≡ member
+IsOfInput member incarnation heard Q (kinds.Agent (agents.Passed by)) = (by ≡ member) × Q outputs.ClaimsOutsideSync
 IsOfInput member incarnation heard Q (kinds.Note note) = Unit {0}
 IsOfInput member incarnation heard Q _ = ⊥

@@ -48,14 +48,21 @@ use Rattle.agent_roles.proofs.Living.{no-way}
 use Rattle.premise_law.specs.TakingOver.{NotesTakeOvers, TakesOver, is_led_by}
 use Rattle.premise_law.proofs.Leading.{taking-notes}
 
-some-same : {A : Type 0} (x y : A) → ◌≡◌ {A = Option A} (Some x) (Some y) → x ≡ y
+pub some-same : {A : Type 0} (x y : A) → ◌≡◌ {A = Option A} (Some x) (Some y) → x ≡ y
 some-same x y e = cc
 
-none-some : {A : Type 0} (x : A) → ◌≡◌ {A = Option A} None (Some x) → ⊥
+pub none-some : {A : Type 0} (x : A) → ◌≡◌ {A = Option A} None (Some x) → ⊥
 none-some x e = cc
 
-abbrev agent_in : Option (Option AgentFacts) → Option AgentFacts
+abbrev pub agent_in : Option (Option AgentFacts) → Option AgentFacts
 agent_in found = option_and_then (λ agent. agent) found
+
+-- the agent at a place
+pub at-place : (found : Option (Option AgentFacts)) (agent : AgentFacts)
+    → agent_in found ≡ Some agent → found ≡ Some (Some agent)
+at-place None agent e = absurd (none-some agent e)
+at-place (Some None) agent e = absurd (none-some agent e)
+at-place (Some (Some one)) agent e = ap (λ (a : AgentFacts). Some (Some a)) (some-same one agent e)
 
 -- ---- what an agent finds of its server
 record Finds (machine : Machine) (s : ServerFacts) : Type 0 where
@@ -137,12 +144,6 @@ module _ (cluster : Cluster) (m : ℕ) (s : ServerFacts) (here : slice_get clust
   ]
 
   -- an agent hears something
-  at-place : (found : Option (Option AgentFacts)) (agent : AgentFacts)
-      → agent_in found ≡ Some agent → found ≡ Some (Some agent)
-  at-place None agent e = absurd (none-some agent e)
-  at-place (Some None) agent e = absurd (none-some agent e)
-  at-place (Some (Some one)) agent e = ap (λ (a : AgentFacts). Some (Some a)) (some-same one agent e)
-
   finds-it : (member : Member) (machine : Machine) → m ≡ member.id.number → machine_of cluster member ≡ Some machine
       → Finds machine s
   finds-it member machine is found = finds
@@ -225,12 +226,12 @@ found-log : (found : Option ServerFacts) (s : ServerFacts) → found ≡ Some s
 found-log None s e = absurd (none-some s e)
 found-log (Some one) s e = ap (λ (x : ServerFacts). entries_of x.log) (some-same one s e)
 
-over-one : (cluster : Cluster) (front : List Event) (event : Event)
+pub over-one : (cluster : Cluster) (front : List Event) (event : Event)
     → cluster_over cluster (front ++ event ∷ []) ≡ cluster_after (cluster_over cluster front) event.kind
 over-one cluster [] event = refl
 over-one cluster (first ∷ more) event = over-one (cluster_after cluster first.kind) more event
 
-facts-of : (cluster : Cluster) (front : List Event)
+pub facts-of : (cluster : Cluster) (front : List Event)
     → (cluster_over cluster front).facts ≡ facts_over cluster.facts front
 facts-of cluster [] = refl
 facts-of cluster (first ∷ more) = facts-of (cluster_after cluster first.kind) more
