@@ -141,7 +141,7 @@ settings-value settings (values.Failsafe members) kind = absurd kind
 settings-found : (settings : Config) (found : Option KeyEntry) → IsSome found
     → ((stored : KeyEntry) → found ≡ Some stored → IsOfKind keys.Config stored.value)
     → settings_of_entry settings found ≡ settings_of_entry default_config found
-settings-found settings None there kind = absurd (no-way (sym there))
+settings-found settings None there kind = absurd (no-way there)
 settings-found settings (Some found) there kind = settings-value settings found.value (kind found refl)
 
 settings-read : (settings : Config) (snapshot : SnapshotFacts) → IsRead snapshot.entries

@@ -13,7 +13,8 @@ use Rattle.agent_model.specs.declared.why.Why.{Why}
 use Rattle.agent_model.specs.declared.why.Why.TheVariants.{HandOver, Lost}
 use Rattle.agent_model.specs.Acting.{arming, is_refusing}
 use Rattle.agent_model.specs.Agents.{Outcome}
-use Rattle.agent_model.specs.Decisions.{arms, begins_or_claims, cannot_arm, gives_back, may_take, takes_key, takes_over, unleased_renewed, unleased_unarmed}
+use Rattle.agent_model.specs.Claiming.{begins_or_claims}
+use Rattle.agent_model.specs.Decisions.{arms, cannot_arm, gives_back, may_take, takes_key, takes_over, unleased_renewed, unleased_unarmed}
 use Rattle.agent_model.specs.Operators.{given_up, learned, looked, operated}
 use Rattle.agent_model.specs.Peers.{answered, keeping}
 use Rattle.agent_model.specs.Racing.{judged, turn_keys}
@@ -24,7 +25,8 @@ use Rattle.agent_model.specs.Table.{granted_any, refused_any, step}
 use Rattle.agent_model.specs.Wake.{overdue, turned, woken}
 use Rattle.agent_model.proofs.Judging.{if-false}
 use Rattle.agent_roles.proofs.Staying.{before-waits}
-use Rattle.agent_cases.proofs.Rows.{if-cases, before-by, HandoverRows, given-up-by, looked-by, judged-by, overdue-by, turn-by, wake-by, refused-by, refused-any-by, answered-by, failsafe-answered-by, failsafe-asked-by, operated-by}
+use Rattle.agent_cases.proofs.Rows.{if-cases, before-by, HandoverRows, given-up-by, looked-by, judged-by, overdue-by, turn-by, wake-by, refused-by, refused-any-by, answered-by, operated-by}
+use Rattle.agent_cases.proofs.FailsafeRows.{failsafe-answered-by, failsafe-asked-by}
 use Rattle.agent_cases.proofs.Grants.{kept_on, led_on, leading_in_pause, DutyRows, GrantRows, duties-of, judges-start-by, renewed-by, begins-or-claims-by, takes-in-pause-by, granted-by, granted-any-by}
 use Rattle.agent_succession.specs.TurnReads.{KeepsTurnKeys}
 
