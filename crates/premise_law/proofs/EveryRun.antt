@@ -220,7 +220,8 @@ module _ (head : HeadText) (few : length (names_of head) ≤ MOST_MEMBERS) where
 
   -- ---- before the first event
   first-by : (m : ℕ) (agent : AgentFacts) (found : Option Member) → slice_get (declared_members head) m ≡ found
-      → option_map (first_agent head.cluster (cluster_of head).options (declared_members head)) found ≡ Some (Some agent)
+      → option_map (first_agent head.cluster (cluster_of head).options (declared_members head)) found
+      ≡ Some (Some agent)
       → KnowsRead Start [] m agent
   first-by m agent None is e = absurd (none-some (Some agent) e)
   first-by m agent (Some one) is e =
@@ -319,7 +320,8 @@ module _ (head : HeadText) (few : length (names_of head) ≤ MOST_MEMBERS) where
 
     -- ---- a message that comes
     module _ (number : ℕ) (carried : InFlightFacts) (member : Member)
-        (found : in_flight cluster.facts.flight number ≡ Some carried) (to : carried.message.to ≡ ends.Member member) where
+        (found : in_flight cluster.facts.flight number ≡ Some carried)
+        (to : carried.message.to ≡ ends.Member member) where
       abbrev Arrived : EventKind
       Arrived = kinds.Message (messages.Delivered number)
 

@@ -90,7 +90,8 @@ module _ (member : Member) (incarnation heard : ℕ) (U F : Type 0) where
   -- behind the event with which the input begins
   module _ (start : Facts) (front : List Event) (cluster : Cluster) (knows : Knowing start front cluster)
       (lease : (done : List Event) → AllAre BeginsNoInput done → F → ActsOnItsGrant (front ++ done) member heard)
-      (outside : (done : List Event) → AllAre Mine done → U → HasReadOthers start (front ++ done) member.id.number) where
+      (outside : (done : List Event) → AllAre Mine done → U →
+      HasReadOthers start (front ++ done) member.id.number) where
     fed-says : (done : List Event) → AllAre Mine done → (by : Member) (until : Ticks) (basis : Basis) → by ≡ member
         → IsFeedOf heard Q until basis → IsFedOnItsGrant (front ++ done) (watchdogs.Fed by until basis)
     fed-says done all by until basis is (ByGrant same from) =

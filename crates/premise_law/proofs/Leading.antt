@@ -85,7 +85,10 @@ module _ (now : Ticks) (sequence : ℕ) (grant : Granted) (snapshot : SnapshotFa
 
   grant-notes : NotesEnd b (granted_any now sequence grant snapshot b)
   grant-notes = granted-any-by (NotesEnd b) now sequence grant snapshot b (unled b b not)
-      (record { kept = unled b (learned snapshot b) not; answers = λ request answer leads. absurd (no-way (sym not ∙ leads)) })
+      (record {
+        kept = unled b (learned snapshot b) not;
+        answers = λ request answer leads. absurd (no-way (sym not ∙ leads));
+      })
       own-notes
 
 -- ---- behind what precedes the input's own rows

@@ -121,25 +121,26 @@ module _ (start : Facts) (book : List Event) (cluster : Cluster) (left : cluster
   read-later : (m : ℕ) (key : SyncKey) (revision : ℕ) → StartsNone m kind → HasRead start book m key revision
       → HasRead start Later m key revision
   read-later m key revision none was = let came : Event = record {
-      tick = was.came;
-      kind = kinds.Message (messages.Delivered was.number);
-    } in
-    let sent : Event = record { tick = was.sent; kind = kinds.Message (messages.Sent was.number was.message) } in
-    record {
-      earlier = was.earlier;
-      between = was.between;
-      later = was.later ++ Happening ∷ [];
-      sent = was.sent;
-      came = was.came;
-      number = was.number;
-      message = was.message;
-      is = behind was.earlier (was.between ++ came ∷ was.later) sent Happening book was.is
-          ∙ ap (λ (l : List Event). was.earlier ++ sent ∷ l) (append_assoc was.between (came ∷ was.later) (Happening ∷ []));
-      answers = was.answers;
-      to = was.to;
-      tells = was.tells;
-      since = all-both (StartsNone m) was.later (Happening ∷ []) was.since (none, tt);
-    }
+    tick = was.came;
+    kind = kinds.Message (messages.Delivered was.number);
+  } in
+      let sent : Event = record { tick = was.sent; kind = kinds.Message (messages.Sent was.number was.message) } in
+      record {
+        earlier = was.earlier;
+        between = was.between;
+        later = was.later ++ Happening ∷ [];
+        sent = was.sent;
+        came = was.came;
+        number = was.number;
+        message = was.message;
+        is = behind was.earlier (was.between ++ came ∷ was.later) sent Happening book was.is
+            ∙ ap (λ (l : List Event). was.earlier ++ sent ∷ l)
+            (append_assoc was.between (came ∷ was.later) (Happening ∷ []));
+        answers = was.answers;
+        to = was.to;
+        tells = was.tells;
+        since = all-both (StartsNone m) was.later (Happening ∷ []) was.since (none, tt);
+      }
 
   knows-later : (m : ℕ) (agent : AgentFacts) → StartsNone m kind → KnowsRead start book m agent
       → KnowsRead start Later m agent
@@ -182,7 +183,8 @@ module _ (start : Facts) (book : List Event) (cluster : Cluster) (left : cluster
         → ((snapshot : SnapshotFacts) (read : SyncRead) → told_by heard ≡ Some snapshot
         → sync_read_in snapshot ≡ Some read → HasRead start Later member.id.number read.key read.revision)
         → KnowRead start Later (agent_facts_with cluster.agents member
-        (Some (step (moment_of cluster) (points_of cluster member) heard (outcome_from agent.role agent.knows machine []))))
+        (Some (step (moment_of cluster) (points_of cluster member) heard
+        (outcome_from agent.role agent.knows machine []))))
     acts member heard agent machine a reads m after is = elim (cases_eq m member.id.number) [
       | inl here ↦
           let x : Outcome = step (moment_of cluster) (points_of cluster member) heard
@@ -197,11 +199,12 @@ module _ (start : Facts) (book : List Event) (cluster : Cluster) (left : cluster
           (outcome_from agent.role agent.knows machine [])).who in
           subst (KnowsRead start Later m) same (record {
             me = ap (λ (w : Who). w.me.number) who ∙ was.me;
-            read = λ read turn. elim (step-told (moment_of cluster) (points_of cluster member) agent machine heard).turn [
-              | inl kept ↦ read-later m read.key read.revision (starts m) (was.read read (sym kept ∙ turn))
-              | inr new ↦ subst (λ n. HasRead start Later n read.key read.revision) (sym here)
-                  (reads new.0 read new.1 (sym new.2 ∙ turn))
-            ];
+            read =
+                λ read turn. elim (step-told (moment_of cluster) (points_of cluster member) agent machine heard).turn [
+                  | inl kept ↦ read-later m read.key read.revision (starts m) (was.read read (sym kept ∙ turn))
+                  | inr new ↦ subst (λ n. HasRead start Later n read.key read.revision) (sym here)
+                      (reads new.0 read new.1 (sym new.2 ∙ turn))
+                ];
           })
       | inr other ↦ still m after (sym (get-elsewhere cluster.agents member.id.number m _ other) ∙ is)
     ]
@@ -329,7 +332,8 @@ module _ (start : Facts) (book : List Event) (cluster : Cluster) (left : cluster
   one-known (kinds.Message happening) =
       still start book cluster left flown known tick (kinds.Message happening) (λ m. tt)
   one-known (kinds.Watchdog (watchdogs.Reset member)) =
-      ended start book cluster left flown known tick (kinds.Watchdog (watchdogs.Reset member)) (λ m. tt) member.id.number
+      ended start book cluster left flown known tick (kinds.Watchdog (watchdogs.Reset member))
+      (λ m. tt) member.id.number
   one-known (kinds.Watchdog happening) =
       still start book cluster left flown known tick (kinds.Watchdog happening) (λ m. tt)
   one-known (kinds.Agent (agents.Woken member)) =
@@ -364,7 +368,8 @@ knowing-on : (start : Facts) (book : List Event) (cluster : Cluster) (event : Ev
     → Knowing start (book ++ event ∷ []) (cluster_after cluster event.kind)
 knowing-on start book cluster event old = record {
   left = ap (λ (facts : Facts). facts_after facts event.kind) old.left ∙ sym (facts-on start book event);
-  flown = subst (λ (facts : Facts). Flown start (book ++ event ∷ []) (facts_after facts event.kind).flight) (sym old.left)
+  flown =
+      subst (λ (facts : Facts). Flown start (book ++ event ∷ []) (facts_after facts event.kind).flight) (sym old.left)
       (flown-on start book event.tick event.kind
       (subst (λ (facts : Facts). Flown start book facts.flight) old.left old.flown));
   known = one-known start book cluster old.left old.flown old.known event.tick event.kind;

@@ -100,7 +100,8 @@ flown-without : (start : Facts) (book : List Event) (event : Event) (number : �
 flown-without start book event number flight old = record {
   order = rises-without 0 flight number old.order;
   sent = λ i carried e. sent-on start book event i carried
-      (old.sent i carried (dropped (in_flight flight) number i carried (sym (in-without 0 flight number i old.order) ∙ e)));
+      (old.sent i carried
+      (dropped (in_flight flight) number i carried (sym (in-without 0 flight number i old.order) ∙ e)));
 }
 
 flown-same : (start : Facts) (book : List Event) (event : Event) (flight : Flight) → Flown start book flight

@@ -1,4 +1,5 @@
--- In each run whoever is fed by a grant acts on its own, and whoever leads outside the sync key has read that this doesn't name it.
+-- In each run whoever is fed by a grant acts on its own, and whoever
+-- leads outside the sync key has read that this doesn't name it.
 use Rattle.std.proofs.Common.{ℕ, ◌≡◌, ◌⊎◌, ◌≤◌, ◌++◌, Bool, true, false, List, [], ◌∷◌, length, slice_get, Option, Some, None, All, option_map, refl, ◌∙◌, ap, sym, subst, append_assoc, append-nil, inl, inr}
 use Rattle.std.proofs.lemmas.Option.{slice_get-map}
 use Rattle.pat_base.specs.declared.member_id.MemberId.{MemberId}
@@ -128,13 +129,18 @@ no-more (y ∷ xs) x ys e = no-cons y (xs ++ x ∷ ys) e
 last-or : (front rest book : List Event) (event last : Event) → front ++ event ∷ rest ≡ book ++ last ∷ []
     → ((before : List Event) × (front ++ event ∷ before ≡ book)) ⊎ ((front ≡ book) × (event ≡ last))
 last-or [] rest [] event last e = inr (refl, head-is event last rest [] e)
-last-or [] rest (b ∷ book) event last e = inl (book, ap (λ (x : Event). x ∷ book) (head-is event b rest (book ++ last ∷ []) e))
-last-or (f ∷ front) rest [] event last e = absurd (no-more front event rest (tail-is f last (front ++ event ∷ rest) [] e))
+last-or [] rest (b ∷ book) event last e =
+    inl (book, ap (λ (x : Event). x ∷ book) (head-is event b rest (book ++ last ∷ []) e))
+last-or (f ∷ front) rest [] event last e =
+    absurd (no-more front event rest (tail-is f last (front ++ event ∷ rest) [] e))
 last-or (f ∷ front) rest (b ∷ book) event last e =
     let heads : f ≡ b = head-is f b (front ++ event ∷ rest) (book ++ last ∷ []) e in
     elim (last-or front rest book event last (tail-is f b (front ++ event ∷ rest) (book ++ last ∷ []) e)) [
-      | inl found ↦ inl (found.0, ap (λ (x : Event). x ∷ (front ++ event ∷ found.0)) heads
-          ∙ ap (λ (l : List Event). b ∷ l) found.1)
+      | inl found ↦ inl (
+        found.0,
+        ap (λ (x : Event). x ∷ (front ++ event ∷ found.0)) heads
+            ∙ ap (λ (l : List Event). b ∷ l) found.1,
+      )
       | inr here ↦ inr (ap (λ (x : Event). x ∷ front) heads ∙ ap (λ (l : List Event). b ∷ l) here.0, here.1)
     ]
 
@@ -212,7 +218,8 @@ decision-said start front cluster number message txn (Refusal key found) (ends.M
   sends-said start _ _ (answer_message message (decision_body number txn (Refusal key found))) tt,
 )
 
-pub answer-said : (start : Facts) (front : List Event) (cluster : Cluster) (number : ℕ) (message : Message) (body : Body)
+pub answer-said : (start : Facts) (front : List Event) (cluster : Cluster) (number : ℕ) (message : Message)
+    (body : Body)
     → AreSaid start front (answer_events_by cluster number message body)
 answer-said start front cluster number message bodies.Read =
     sends-said start front cluster (answer_message message bodies.Snapshot) tt

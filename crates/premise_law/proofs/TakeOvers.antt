@@ -78,7 +78,8 @@ finds receives by_failsafe (Some replication) (Some options) (Some deadline) (So
 finds receives by_failsafe None options deadline hold s machine e = absurd (none-some machine e)
 finds receives by_failsafe (Some replication) None deadline hold s machine e = absurd (none-some machine e)
 finds receives by_failsafe (Some replication) (Some options) None hold s machine e = absurd (none-some machine e)
-finds receives by_failsafe (Some replication) (Some options) (Some deadline) None s machine e = absurd (none-some machine e)
+finds receives by_failsafe (Some replication) (Some options) (Some deadline) None s machine e =
+    absurd (none-some machine e)
 
 noted-end : (log : Option (List Entry)) → noted_position (end_in log) ≡ (lsn_at (end_of (entries_of log))).position
 unfolding lsn_at
@@ -97,7 +98,8 @@ module _ (cluster : Cluster) (m : ℕ) (s : ServerFacts) (here : slice_get clust
   same after is leads = absurd (no-way (sym not ∙ ap is_led_by (sym is) ∙ leads))
 
   -- another member's agent changed
-  other : (k : ℕ) (change : Option AgentFacts → Option AgentFacts) → m ≢ k → Notes (with_changed cluster.agents k change)
+  other : (k : ℕ) (change : Option AgentFacts → Option AgentFacts) → m ≢ k
+      → Notes (with_changed cluster.agents k change)
   other k change differs = same (with_changed cluster.agents k change) (get-elsewhere cluster.agents k m change differs)
 
   -- it ended
@@ -162,7 +164,8 @@ module _ (cluster : Cluster) (m : ℕ) (s : ServerFacts) (here : slice_get clust
   acts : (member : Member) (heard : Heard) (agent : AgentFacts) (machine : Machine)
       → agent_at cluster.agents member.id.number ≡ Some agent → machine_of cluster member ≡ Some machine
       → Notes (agent_facts_with cluster.agents member
-      (Some (step (moment_of cluster) (points_of cluster member) heard (outcome_from agent.role agent.knows machine []))))
+      (Some (step (moment_of cluster) (points_of cluster member) heard
+      (outcome_from agent.role agent.knows machine []))))
   acts member heard agent machine a found = elim (cases_eq m member.id.number) [
     | inl is ↦ λ leads.
         let x : Outcome = step (moment_of cluster) (points_of cluster member) heard
@@ -242,5 +245,6 @@ take-overs head book front rest event m parts takes =
     ap (λ (c : Cluster). noted_by (slice_get c.agents m)) (over-one start front event)
     ∙ one-notes cluster m takes.server takes.is takes.live takes.before event.kind takes.after
     ∙ sym (ap (λ (l : Logs). (lsn_at (end_of (entries_at l m))).position) (sym logs)
-    ∙ ap (λ (l : List Entry). (lsn_at (end_of l)).position) (ap entries_found (slice_get-map (λ (x : ServerFacts). x.log) cluster.facts.servers m)
+    ∙ ap (λ (l : List Entry). (lsn_at (end_of l)).position)
+    (ap entries_found (slice_get-map (λ (x : ServerFacts). x.log) cluster.facts.servers m)
     ∙ found-log (slice_get cluster.facts.servers m) takes.server takes.is))

@@ -232,7 +232,7 @@ module _ (U F : Type 0) where
       (more o.outputs (outputs.HoldTaken _ from sequence) all tt) tt)
       (more o.outputs (outputs.FailsafeAnswer from incarnation sequence false) all tt)
 
--- ---- a wake, and what an operator asks
+  -- ---- a wake, and what an operator asks
   fine-request : (members : MemberSet) (sequence : ℕ) (ttl : Ticks) (member : Option MemberId) (outs : List Output)
       → All Only outs → All Only (requesting_one members sequence ttl member outs)
   fine-request members sequence ttl None outs all = all
@@ -417,7 +417,8 @@ module _ (U F : Type 0) (now : Ticks) (sequence : ℕ) (grant : Granted) (snapsh
           (goes led (rested-row renews).outs refl refl));
       unleased_in_pause = λ renews _ _. goes _ (rested-row renews).outs refl refl;
       takes_in_pause = λ renews _ _. let rest : Outcome = disabling_watchdog renews Told in
-          if-cases Row (is_wanted b.knows.who.me b.knows.turn_failover b.machine.server.state && may_take now Told.knows b.machine)
+          if-cases Row
+          (is_wanted b.knows.who.me b.knows.turn_failover b.machine.server.state && may_take now Told.knows b.machine)
           (begins_or_claims now grant.revision rest) (gives_back grant.revision Told)
           (λ _. begins-row grant.revision rest (rested-row renews)) (λ _. back-row grant.revision Told told-row);
     }
@@ -503,7 +504,8 @@ module _ (now : Ticks) (points : List HistoryPoint) (agent : AgentFacts) (machin
   fine U F = fine-before U F now Standing (All-nil (TellsOnly U F))
 
   -- an input without a grant
-  idle-told : (heard : Heard) → All (TellsOnly (IsOutside (After heard)) (HearsLease agent.knows.who.me heard)) (After heard).outputs
+  idle-told : (heard : Heard)
+      → All (TellsOnly (IsOutside (After heard)) (HearsLease agent.knows.who.me heard)) (After heard).outputs
       → Idle (told_by heard) Behind (After heard) → IsTold heard Standing (After heard)
   idle-told heard outs idle = record {
     outs = outs;
@@ -514,7 +516,8 @@ module _ (now : Ticks) (points : List HistoryPoint) (agent : AgentFacts) (machin
   before-who = (before-onward None now Standing).who
 
   before-turn : Behind.knows.turn_sync ≡ agent.knows.turn_sync
-  before-turn = elim (before-idle None now Standing).turn [ inl same ↦ same | inr read ↦ absurd (none-some read.0 read.1) ]
+  before-turn =
+      elim (before-idle None now Standing).turn [ inl same ↦ same | inr read ↦ absurd (none-some read.0 read.1) ]
 
   granted-told : (sequence : ℕ) (grant : Granted) (snapshot : SnapshotFacts)
       → IsTold (heards.Granted sequence grant snapshot) Standing (After (heards.Granted sequence grant snapshot))
@@ -552,15 +555,18 @@ module _ (now : Ticks) (points : List HistoryPoint) (agent : AgentFacts) (machin
       let looks : Outcome = looked sequence snapshot Behind in
       let U : Type 0 = IsOutside (After heard) in
       let looks-fine : All (TellsOnly U ⊥) looks.outputs =
-      looked-by (λ (y : Outcome). All (TellsOnly U ⊥) y.outputs) sequence snapshot Behind (fine-replies U ⊥ Behind (fine U ⊥)) in
+      looked-by (λ (y : Outcome). All (TellsOnly U ⊥) y.outputs) sequence snapshot Behind
+      (fine-replies U ⊥ Behind (fine U ⊥)) in
       record {
         outs = fine-got U ⊥ now points sequence snapshot looks looks-fine;
         turn = turned-on (Some snapshot) Standing Behind (After heard) (before-idle None now Standing)
-            (turns-both (Some snapshot) Behind looks (After heard) (looked-idle (Some snapshot) sequence snapshot Behind).turn
+            (turns-both (Some snapshot) Behind looks (After heard)
+            (looked-idle (Some snapshot) sequence snapshot Behind).turn
             (got-idle now points sequence snapshot looks).turn);
       }
     where
-      turns-both : (told : Option SnapshotFacts) (a b c : Outcome) → TurnsOn told a b → TurnsOn told b c → TurnsOn told a c
+      turns-both : (told : Option SnapshotFacts) (a b c : Outcome) → TurnsOn told a b → TurnsOn told b c
+          → TurnsOn told a c
       turns-both told a b c first (inr read) = inr read
       turns-both told a b c (inl before) (inl same) = inl (same ∙ before)
       turns-both told a b c (inr read) (inl same) = inr (read.0, read.1, same ∙ read.2)
@@ -576,7 +582,8 @@ module _ (now : Ticks) (points : List HistoryPoint) (agent : AgentFacts) (machin
   step-told (heards.Answered sequence answer) =
       let heard : Heard = heards.Answered sequence answer in
       let U : Type 0 = IsOutside (After heard) in
-      idle-told heard (fine-answered U ⊥ now sequence answer Behind (fine U ⊥)) (answered-idle None now sequence answer Behind)
+      idle-told heard (fine-answered U ⊥ now sequence answer Behind (fine U ⊥))
+      (answered-idle None now sequence answer Behind)
   step-told (heards.FailsafeAsked from incarnation sequence ttl) =
       let heard : Heard = heards.FailsafeAsked from incarnation sequence ttl in
       let U : Type 0 = IsOutside (After heard) in

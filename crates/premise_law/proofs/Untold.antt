@@ -1,4 +1,5 @@
--- The parts of a step but inputs of agents and arrivals at the key store arm and feed no watchdog, send nothing, and have no member pass.
+-- The parts of a step but inputs of agents and arrivals at the key store
+-- arm and feed no watchdog, send nothing, and have no member pass.
 use Rattle.std.proofs.Common.{ℕ, Bool, true, false, cond, List, [], ◌∷◌, ◌++◌, Option, Some, None, option_and_then, slice_get, ◌+◌}
 use Rattle.pat_base.specs.declared.lsn.Lsn.{Lsn}
 use Rattle.pat_base.specs.declared.server_state.State.{State}
@@ -67,7 +68,8 @@ some-untold : {X : Type 0} (found : Option X) (part : X → List Event) → ((x 
 some-untold None part all = tt
 some-untold (Some x) part all = all x
 
-each-untold : {X : Type 0} (part : Cluster → X → List Event) → ((cluster : Cluster) (x : X) → AreUntold (part cluster x))
+each-untold : {X : Type 0} (part : Cluster → X → List Event)
+    → ((cluster : Cluster) (x : X) → AreUntold (part cluster x))
     → (cluster : Cluster) (xs : List X) → AreUntold (each part cluster xs)
 each-untold part all cluster [] = tt
 each-untold part all cluster (x ∷ xs) =
@@ -121,13 +123,13 @@ tick-untold cluster =
     let resets : List Event = each reset_events ticked ticked.facts.members in
     let reset : Cluster = cluster_over ticked resets in
     let expiries : List Event = events_of reset (next_expiries cluster) in
-    let expired : Cluster = cluster_over reset expiries in
-    (
+    let expired : Cluster = cluster_over reset expiries in (
       tt,
       all-both IsUntold resets _ (each-untold reset_events reset-untold ticked ticked.facts.members)
           (all-both IsUntold expiries _
           (all-kinds IsUntold reset (next_expiries cluster)
-          (expiries-untold (declared_member cluster.facts.members (expired_holder cluster.facts.keys (cluster.facts.clock + 1)))
+          (expiries-untold (declared_member cluster.facts.members
+          (expired_holder cluster.facts.keys (cluster.facts.clock + 1)))
           (expired_keys cluster.facts.keys (cluster.facts.clock + 1))))
           (each-untold completion_events completion-untold expired expired.facts.members)),
     )
@@ -214,7 +216,8 @@ command-untold cluster command = found-untold cluster (command_kind cluster comm
 promoted-untold : (member : Member) (acknowledged : List ℕ) (s : ServerFacts) (replica : Bool)
     → AllKinds IsUntold
     (cond replica
-    (kinds.Server (servers.Promoted (server_of member)) ∷ beginning_kinds member (s.timeline + 1) acknowledged s.log) [])
+    (kinds.Server (servers.Promoted (server_of member))
+    ∷ beginning_kinds member (s.timeline + 1) acknowledged s.log) [])
 promoted-untold member acknowledged s true = (tt, begun-untold member (s.timeline + 1) acknowledged s.log)
 promoted-untold member acknowledged s false = tt
 
@@ -240,11 +243,12 @@ started-untold member incarnation false = tt
 starts-untold : (cluster : Cluster) (member : Member) → AreUntold (agent_start_events cluster member)
 starts-untold cluster member = some-untold (slice_get cluster.facts.processes member.id.number) _
     (λ process. all-kinds IsUntold cluster
-    (agent_started member process ∷ kinds_of (disarm_at_start member process (machine_of cluster member)))
-    (started-untold member (process.incarnation + 1) process.running,
-    one-kind IsUntold (disarm_at_start member process (machine_of cluster member))
-    (holds-unless IsUntold process.running (disarm_of member (machine_of cluster member))
-    (disarms-untold member (machine_of cluster member)))))
+    (agent_started member process ∷ kinds_of (disarm_at_start member process (machine_of cluster member))) (
+      started-untold member (process.incarnation + 1) process.running,
+      one-kind IsUntold (disarm_at_start member process (machine_of cluster member))
+          (holds-unless IsUntold process.running (disarm_of member (machine_of cluster member))
+          (disarms-untold member (machine_of cluster member))),
+    ))
 
 pub restart-untold : (cluster : Cluster) (found : Option Member)
     → AreUntold (for_some found (agent_start_events cluster))

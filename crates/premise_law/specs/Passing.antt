@@ -38,8 +38,8 @@ abbrev pub StartsNone : ℕ → EventKind → Type 0
 StartsNone m (kinds.Agent (agents.Started member incarnation)) = member.id.number ≢ m
 StartsNone m _ = Unit {0}
 
--- behind these events, which began with these facts, the agent of the member of this number has read this sync key: since it last
--- started an answer to a read came to it, which was sent while the key store had that key
+-- behind these events, which began with these facts, the agent of the member of this number has read this sync
+-- key: since it last started an answer to a read came to it, which was sent while the key store had that key
 pub record HasRead (start : Facts) (book : List Event) (m : ℕ) (key : SyncKey) (revision : ℕ) : Type 0 where
   pub earlier : List Event
   pub between : List Event

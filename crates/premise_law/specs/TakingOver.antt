@@ -36,4 +36,5 @@ pub record TakesOver (cluster : Cluster) (kind : EventKind) (m : ℕ) : Type 0 w
 abbrev pub NotesTakeOvers : HeadText → List Event → Type 0
 NotesTakeOvers head book = (front rest : List Event) (event : Event) (m : ℕ) → front ++ event ∷ rest ≡ book
     → TakesOver (cluster_over (cluster_of head) front) event.kind m
-    → noted_in head (front ++ event ∷ []) m ≡ (lsn_at (end_of (entries_at (logs_over (first_logs head) front) m))).position
+    → noted_in head (front ++ event ∷ []) m
+    ≡ (lsn_at (end_of (entries_at (logs_over (first_logs head) front) m))).position

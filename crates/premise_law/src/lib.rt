@@ -4,4 +4,6 @@
 
 mod laws;
 
-pub use laws::{runs_feed_on_their_grants, runs_note_where_they_take_over, runs_pass_outside_the_sync_key};
+pub use laws::{
+    runs_feed_on_their_grants, runs_note_where_they_take_over, runs_pass_outside_the_sync_key,
+};
