@@ -6,7 +6,7 @@ use Rattle.summary_model.specs.Claims.{AreCommitsGuarded, IsGuarded, IsSummaryOf
 use Rattle.summary_model.specs.Listed.{AreNamed}
 use Rattle.rest_law.specs.Finding.{FindsOne}
 use Rattle.lease_parts.specs.Kept.{WhereMet}
-use Rattle.commit_runs.specs.Runs.{KeepsCommitsIn, KeepsOrderIn, first_logs, start_in}
+use Rattle.commit_runs.specs.Runs.{KeepsCommitsIn, KeepsOrderIn, first_logs}
 use Rattle.premise_law.specs.Feeding.{FeedOnTheirGrants}
 use Rattle.premise_law.specs.Passing.{PassOutside}
 use Rattle.premise_law.specs.TakingOver.{NotesTakeOvers}
@@ -32,9 +32,9 @@ pub record KeepsPromises (played : Played) : Type 0 where
   -- of the leader key: the answer that is named tells that this member's own create or renewal was granted.
   -- So a feed is late only by its member's own delay.
   pub own_grants : FeedOnTheirGrants (run_of played)
-  -- Whoever leads outside the sync key has read that this doesn't name it,
-  -- by an answer that came to its agent since that started.
-  pub outside_sync : PassOutside (start_in played.head) (run_of played)
+  -- Whoever leads outside the sync key has read that this doesn't name it: the key that its last turn read
+  -- has it neither as the leader nor as a standby, and an answer told it that since its agent started.
+  pub outside_sync : PassOutside played.head (run_of played)
   -- Whoever takes over its running server notes where the log of that ends then: whoever
   -- becomes a standby must have confirmed that position (Patroni, "Replication modes").
   pub take_overs : NotesTakeOvers played.head (run_of played)
