@@ -48,10 +48,12 @@ after_write bytes facts = record facts { answered = grow_last bytes facts.answer
 abbrev pub after_hang_up : DoorFacts → DoorFacts
 after_hang_up facts = record facts { here = None }
 
--- a call of a door that was answered: it was opened at this address, or the next connection was accepted
+-- what a door was called for: it was opened at this address, the next connection
+-- was accepted, or a read or a write of the present connection failed
 pub data DoorCall : Type 0 where
   Opened : List ℕ → DoorCall
   Accepted : DoorCall
+  Failed : DoorCall
 
 -- how many bytes were read of a connection, and how many of them before the last read of it
 pub record ReadCounts : Type 0 where

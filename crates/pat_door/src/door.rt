@@ -2,7 +2,7 @@
 //! connections to come and what was answered.
 ghost use Rattle.std.specs.Prelude.{ℕ, ◌≡◌, ◌<◌, ◌≤◌, ◌-◌, ◌++◌, ◌∷◌, [], List, length, take, Option, Some, IfOk, IsOk, IsSome, IsOkAnd, OnOk, OnErr, MatchResult};
 ghost use Rattle.pat_outside.specs.Outside.{Known, Rose};
-ghost use Rattle.pat_door.specs.Doors.{Accepted, DoorCall, DoorFacts, Opened, ReadCounts, Tells, bytes_here, none_read, read_more, after_accept, after_read, after_write, after_hang_up};
+ghost use Rattle.pat_door.specs.Doors.{Accepted, DoorCall, DoorFacts, Failed as LineFailed, Opened, ReadCounts, Tells, bytes_here, none_read, read_more, after_accept, after_read, after_write, after_hang_up};
 
 use pat_outside::Failed;
 
@@ -27,7 +27,7 @@ pub trait Door {
     // Whatever connections are accepted, the next so many bytes written on them are taken without a fault, and no read of them fails.
     ghost has_room: { Self → ℕ → Type 0 };
 
-    // These calls of `open` and `accept` were answered, in this order.
+    // Of the calls so far these are all of `open` and `accept` that didn't fail, and all of `read` and `write` that did, in this order.
     ghost heard: { Self → List DoorCall → Type 0 };
 
     // So much was read of the present connection, or of the one that ended last.
@@ -76,7 +76,7 @@ pub trait Door {
         ensures served { (n : ℕ) → serves self.old n → serves self.new n }
         ensures reliable { (n : ℕ) → takes self.old n → IsOk result × takes self.new n }
         ensures spare { (n : ℕ) → has_room self.old n → has_room self.new n }
-        ensures heard { (calls : List DoorCall) → heard self.old calls → heard self.new calls }
+        ensures heard { (calls : List DoorCall) → heard self.old calls → MatchResult result (λ _. heard self.new calls) (λ _. heard self.new (calls ++ LineFailed ∷ [])) }
         ensures counts { (counts : ReadCounts) → has_read self.old counts → MatchResult result (λ count. has_read self.new (read_more count counts)) (λ _. has_read self.new counts) };
 
     /// Writes some of the piece from its front on the present connection, and answers how many bytes: at least one of a piece
@@ -93,7 +93,7 @@ pub trait Door {
         ensures served { (n : ℕ) → serves self.old n → serves self.new n }
         ensures room { (n : ℕ) → takes self.old n → length piece.now ≤ n → IsOkAnd result (λ count. takes self.new (n - count)) }
         ensures spare { (n : ℕ) → has_room self.old n → MatchResult result (λ count. has_room self.new (n - count)) (λ _. has_room self.new n) }
-        ensures heard { (calls : List DoorCall) → heard self.old calls → heard self.new calls }
+        ensures heard { (calls : List DoorCall) → heard self.old calls → MatchResult result (λ _. heard self.new calls) (λ _. heard self.new (calls ++ LineFailed ∷ [])) }
         ensures counts { (counts : ReadCounts) → has_read self.old counts → has_read self.new counts };
 
     /// Ends the present connection, where there is one. It is no call that can fail.

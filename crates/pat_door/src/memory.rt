@@ -211,7 +211,7 @@ impl Door for MemoryDoor {
         ensures reliable { (n : ℕ) → (self.old.fails ≡ []) × IsSome self.old.facts.here × (n ≤ self.old.room)
             → IsOk result × ((self.new.fails ≡ []) × IsSome self.new.facts.here × (n ≤ self.new.room)) }
         ensures spare { (n : ℕ) → (self.old.fails ≡ []) × (n ≤ self.old.room) → (self.new.fails ≡ []) × (n ≤ self.new.room) }
-        ensures heard { (calls : List DoorCall) → Unit {0} → Unit {0} }
+        ensures heard { (calls : List DoorCall) → Unit {0} → MatchResult result (λ _. Unit {0}) (λ _. Unit {0}) }
         ensures counts { (counts : ReadCounts) → ReadSo self.old counts
             → MatchResult result (λ count. ReadSo self.new (read_more count counts)) (λ _. ReadSo self.new counts) }
 
@@ -250,7 +250,7 @@ impl Door for MemoryDoor {
             → IsOkAnd result (λ count. (self.new.fails ≡ []) × IsSome self.new.facts.here × (n - count ≤ self.new.room)) }
         ensures spare { (n : ℕ) → (self.old.fails ≡ []) × (n ≤ self.old.room)
             → MatchResult result (λ count. (self.new.fails ≡ []) × (n - count ≤ self.new.room)) (λ _. (self.new.fails ≡ []) × (n ≤ self.new.room)) }
-        ensures heard { (calls : List DoorCall) → Unit {0} → Unit {0} }
+        ensures heard { (calls : List DoorCall) → Unit {0} → MatchResult result (λ _. Unit {0}) (λ _. Unit {0}) }
         ensures counts { (counts : ReadCounts) → ReadSo self.old counts → ReadSo self.new counts }
 
         // Beyond a door's promise: which calls fail, and all that each call leaves.

@@ -1,5 +1,5 @@
 -- What a connection asks, read piece by piece.
-use Rattle.std.proofs.Common.{ℕ, zero, suc, ◌≡◌, ◌≢◌, ◌⊎◌, inl, inr, ◌<◌, ◌≤◌, ◌+◌, ◌-◌, nat_lt, Bool, true, false, List, [], ◌∷◌, ◌++◌, length, map, take, drop, Option, Some, None, option_map, Result, Ok, Err, IsErrAnd, IsSome, IfSome, IsTrue, arith, refl, ap, sym, ◌∙◌, subst, length-append, length-take, length-drop, take-append-drop, take_all}
+use Rattle.std.proofs.Common.{ℕ, zero, suc, ◌≡◌, ◌≢◌, ◌⊎◌, inl, inr, ◌<◌, ◌≤◌, ◌+◌, ◌-◌, nat_lt, Bool, true, false, List, [], ◌∷◌, ◌++◌, length, map, take, drop, Option, Some, None, option_map, Result, Ok, Err, IsErrAnd, IsSome, IfSome, IsTrue, MatchResult, arith, refl, ap, sym, ◌∙◌, subst, length-append, length-take, length-drop, take-append-drop, take_all}
 use Rattle.std.specs.Str.Parse.{digits_value}
 use Rattle.std.proofs.lemmas.Bool.{ltb-true, ltb-false}
 use Rattle.std.specs.Prelude.{codes}
@@ -26,7 +26,7 @@ use Rattle.rest_request.proofs.Readings.{one-thing, stays}
 use Rattle.rest_connection.specs.declared.asking.TheConstants.{PIECE}
 use Rattle.rest_connection.specs.declared.asking.AskError.{AskError}
 use Rattle.rest_connection.specs.declared.asking.AskError.TheVariants.{Bytes, Connection}
-use Rattle.rest_connection.specs.Connections.{IsRequested, IsUnanswered, LeavesRest, ReadsToAnswer, at_end, fault_read, fault_seen, read_failed, seen}
+use Rattle.rest_connection.specs.Connections.{IsRequested, IsUnanswered, LeavesRest, ReadsToAnswer, at_end, fault_read, fault_seen, read_failed, seen, with_failed_read}
 
 -- the most bytes that are read of a connection
 abbrev pub most-read : ℕ
@@ -515,3 +515,12 @@ to-failure door before mid after bytes error (Err given) had reads (inr line) fa
                 reads,
           );
     })
+
+-- what a call ends with says whether a read failed
+pub heard-by : {D : Type 0} (door : Ghosts D) (after : D) (result : Result Request AskError) (error : AskError)
+    (calls : List DoorCall) → IsErrAnd result (λ given. given ≡ error) → door.heard after (with_failed_read error calls)
+    → MatchResult result (λ request. door.heard after calls) (λ e. door.heard after (with_failed_read e calls))
+heard-by door after (Ok request) error calls fails heard = absurd fails
+heard-by door after (Err given) error calls fails heard =
+    let same : given ≡ error = fails in
+    rw same heard

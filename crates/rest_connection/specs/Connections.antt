@@ -1,8 +1,8 @@
 -- What a connection asks, and what a call tells of it.
-use Rattle.std.specs.Prelude.{ℕ, ◌≡◌, ◌≤◌, ◌-◌, Bool, true, false, List, take, Option, Some, None, Result, Ok, Err}
+use Rattle.std.specs.Prelude.{ℕ, ◌≡◌, ◌≤◌, ◌-◌, Bool, true, false, List, [], ◌∷◌, ◌++◌, take, Option, Some, None, Result, Ok, Err}
 use Rattle.pat_outside.specs.Outside.{Known}
 use Rattle.pat_door.specs.declared.door.Door.{Ghosts}
-use Rattle.pat_door.specs.Doors.{DoorFacts, ReadCounts, after_read, bytes_here}
+use Rattle.pat_door.specs.Doors.{DoorCall, DoorFacts, Failed, ReadCounts, after_read, bytes_here}
 use Rattle.rest_message.specs.declared.request.Request.{Request}
 use Rattle.rest_request.specs.declared.fault.RequestFault.{RequestFault}
 use Rattle.rest_request.specs.declared.fault.RequestFault.TheVariants.{BadHead, TooLong, BadLength, Memory}
@@ -65,3 +65,8 @@ pub record ReadsToAnswer {D : Type 0} (door : Ghosts D) (before after : D) (fail
   pub unanswered : (counts : ReadCounts) → door.has_read before counts
       → (then : ReadCounts) × door.has_read after then
       × Known (bytes_here (door.told before)) (λ all. IsUnanswered (take (before_last failed then - counts.all) all))
+
+-- what a door was called for, where a call ended with this error: a read of it failed besides, or none did
+abbrev pub with_failed_read : AskError → List DoorCall → List DoorCall
+with_failed_read (Bytes fault) calls = calls
+with_failed_read Connection calls = calls ++ Failed ∷ []

@@ -1,5 +1,5 @@
 //! What a connection asks.
-ghost use Rattle.std.specs.Prelude.{ℕ, ◌≡◌, ◌≢◌, ◌≤◌, ◌+◌, ◌++◌, ◌⊎◌, ⊤, List, length, take, Some, Result, Err, IfOk, IfSome, OnOk, OnErr, IsErrOf, MatchResult, IsSome};
+ghost use Rattle.std.specs.Prelude.{ℕ, ◌≡◌, ◌≢◌, ◌≤◌, ◌+◌, ◌++◌, ◌⊎◌, ⊤, List, length, take, Some, Result, Err, IfOk, IfSome, OnOk, IsErrOf, MatchResult, IsSome};
 ghost use Rattle.pat_outside.specs.Outside.{Known, Rose};
 ghost use Rattle.pat_door.specs.Doors.{DoorCall, ReadCounts, Tells, bytes_here, after_read, read_more};
 ghost use Rattle.rest_request.specs.declared.fault.RequestFault.{RequestFault};
@@ -8,7 +8,7 @@ ghost use Rattle.rest_request.specs.declared.limits.TheConstants.{HEAD_LIMIT, BO
 ghost use Rattle.rest_message.specs.Requests.{RequestText};
 ghost use Rattle.rest_connection.specs.declared.asking.AskError.TheVariants.{Bytes, Connection};
 ghost use Rattle.rest_connection.specs.declared.asking.TheConstants.{PIECE};
-ghost use Rattle.rest_connection.specs.Connections.{IsRequested, LeavesRest, ReadsToAnswer, read_failed, seen};
+ghost use Rattle.rest_connection.specs.Connections.{IsRequested, LeavesRest, ReadsToAnswer, read_failed, seen, with_failed_read};
 
 use pat_door::Door;
 use pat_outside::Failed;
@@ -70,7 +70,7 @@ pub fn read_request_from<D: Door>(alloc: Global, door: &mut D) -> Result<Request
     ensures reliable { (n : ℕ) → D.takes door.old n → D.takes door.new n × (result ≢ Err Connection) }
     ensures early { IfSome (read_failed result) (λ failed. ReadsToAnswer D.Door door.old door.new failed) }
     ensures spare { (n : ℕ) → D.has_room door.old n → D.has_room door.new n }
-    ensures heard { (calls : List DoorCall) → D.heard door.old calls → D.heard door.new calls }
+    ensures heard { (calls : List DoorCall) → D.heard door.old calls → MatchResult result (λ _. D.heard door.new calls) (λ error. D.heard door.new (with_failed_read error calls)) }
 {
     let mut bytes = Vec::new(alloc);
     loop {
@@ -101,7 +101,7 @@ fn read_more<D: Door>(door: &mut D, bytes: &mut Vec<u8>) -> Result<usize, AskErr
     ensures counts { (counts : ReadCounts) → D.has_read door.old counts
         → MatchResult result (λ count. D.has_read door.new (read_more count counts)) (λ error. error ≡ Connection → D.has_read door.new counts) }
     ensures spare { (n : ℕ) → D.has_room door.old n → D.has_room door.new n }
-    ensures heard { (calls : List DoorCall) → D.heard door.old calls → D.heard door.new calls }
+    ensures heard { (calls : List DoorCall) → D.heard door.old calls → MatchResult result (λ _. D.heard door.new calls) (λ error. D.heard door.new (with_failed_read error calls)) }
 {
     let mut buf = [0u8; PIECE];
     let count = door.read(&mut buf)?;

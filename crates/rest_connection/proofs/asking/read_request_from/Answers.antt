@@ -1,5 +1,5 @@
 use Rattle.std.proofs.Common.{length, arith, refl, Ok, Some}
-use Rattle.rest_connection.proofs.Pieces.{asked-early, asked-by-fault, asked-at-end, unseen, answered-some, fault-answered-some, left-at-end, left-fault, left-request, left-untold, present-before, reading-more, reading-starts, still-wanted, to-answer, to-end, to-failure, to-fault}
+use Rattle.rest_connection.proofs.Pieces.{asked-early, asked-by-fault, asked-at-end, unseen, answered-some, fault-answered-some, heard-by, left-at-end, left-fault, left-request, left-untold, present-before, reading-more, reading-starts, still-wanted, to-answer, to-end, to-failure, to-fault}
 use Rattle.rest_connection.proofs.asking.read_request_from.Goals as goal
 
 pub returns-in_err-request-clause-asked : goal.returns-in_err-request-clause-asked
@@ -97,7 +97,7 @@ loop-bytes-preserved g c =
       served = c.read_more.ensures.served;
       reliable = λ n takes. (c.read_more.ensures.reliable n takes).0;
       spare = c.read_more.ensures.spare;
-      heard = c.read_more.ensures.heard;
+      heard = c.in_ok-read_more.ensures.heard;
       counts = c.in_ok-read_more.ensures.counts;
     })
 
@@ -126,3 +126,13 @@ pub returns-then-branch-eq0-clause-early : goal.returns-then-branch-eq0-clause-e
 returns-then-branch-eq0-clause-early g c =
     to-end g.D.Door _ _ _ c.loop-bytes.bytes.items c.in_ok-read_more.field-0 c.loop-bytes.invariant
     (rw (c.deref.ensures.value, c.in_default.is) at c.in_ok-request.ensures) c.in_ok-read_more.ensures.counts
+
+pub returns-in_err-request-clause-heard : goal.returns-in_err-request-clause-heard
+returns-in_err-request-clause-heard g c calls had =
+    heard-by g.D.Door _ c.from_residual.result _ calls c.from_residual.ensures.1
+    (c.loop-bytes.invariant.heard calls had)
+
+pub returns-in_err-read_more-clause-heard : goal.returns-in_err-read_more-clause-heard
+returns-in_err-read_more-clause-heard g c calls had =
+    heard-by g.D.Door _ c.from_residual-in_err-read_more.result _ calls c.from_residual-in_err-read_more.ensures.1
+    (c.in_err-read_more.ensures.heard calls (c.loop-bytes.invariant.heard calls had))

@@ -48,7 +48,7 @@ loop-at-preserved g c = record {
       let left = c.in_ok-at.ensures.spare (n - c.loop-at.at) (c.loop-at.invariant.spare n has) in
       let e : (n - c.loop-at.at) - c.in_ok-at.field-0 ≡ n - (c.loop-at.at + c.in_ok-at.field-0) = omega arith in
       rw (← e) left;
-  heard = λ calls had. c.write.ensures.heard calls (c.loop-at.invariant.heard calls had);
+  heard = λ calls had. c.in_ok-at.ensures.heard calls (c.loop-at.invariant.heard calls had);
   counts = λ counts had. c.write.ensures.counts counts (c.loop-at.invariant.counts counts had);
 }
 
