@@ -1,5 +1,5 @@
 -- How a command was carried out, for each way in which it may go.
-use Rattle.std.proofs.Common.{◌≡◌, ◌≢◌, ◌<◌, ◌*◌, ◌+◌, ℕ, Bool, false, true, List, [], Option, Some, None, Result, Ok, Err, append-nil, arith, nat_lt, refl, sym, subst, ap, ◌∙◌}
+use Rattle.std.proofs.Common.{◌≡◌, ◌≢◌, ◌<◌, ◌*◌, ◌+◌, ℕ, Bool, false, true, List, [], ◌∷◌, Option, Some, None, Result, Ok, Err, append-nil, arith, nat_lt, refl, sym, subst, ap, ◌∙◌}
 use Rattle.std.proofs.lemmas.Bool.Decides.{nat_tests}
 use Rattle.pat_base.specs.declared.member_id.MemberId.{MemberId}
 use Rattle.pat_outside.specs.declared.outside.Sink.{Ghosts as SinkGhosts}
@@ -23,7 +23,9 @@ use Rattle.run_printing.specs.declared.print_error.PrintError.{PrintError}
 use Rattle.run_printing.specs.declared.print_error.PrintError.TheVariants as prints
 use Rattle.run_player.specs.Left.{IsLeftBy}
 use Rattle.run_player.specs.Playing.{PrintsWholeSteps}
-use Rattle.run_serving.specs.Served.{Came, Serves as ServedSo}
+use Rattle.pat_door.specs.Doors.{Opened}
+use Rattle.run_serving.specs.Served.{Came, ComeApart, Serves as ServedSo}
+use Rattle.run_serving.proofs.Apart.{apart-all, apart-stop}
 use Rattle.run_serving.proofs.Closing.{memory-is, no-door}
 use Rattle.run_printing.specs.declared.serve_error.ServeError.{ServeError}
 use Rattle.run_printing.specs.declared.serve_error.ServeError.TheVariants as serves
@@ -40,9 +42,9 @@ use Rattle.command_line.specs.Members.{member_named}
 use Rattle.program_commands.specs.Verdicts.{Drills, EndsWhole, Formats, Makes, NoCommand, PastCount, Plan, Plays, Says, Serves, UnknownMember, Verdict, plan_run, plan_text, service_of, verdict_in, verdict_of_count, verdict_on}
 use Rattle.command_line.specs.Drawing.{CanBeDrawn, RefusesToDraw}
 use Rattle.program_commands.specs.Carried.{Carries, EndedFacts, IsCarriedOut, LeavesWorld, ended_by}
-use Rattle.program_commands.specs.Ends.{Ends, IsCut, IsVisited, serving_of}
+use Rattle.program_commands.specs.Ends.{Ends, IsApart, IsCut, IsVisited, address_in, serving_of}
 use Rattle.command_line.specs.Status.{IsRefusal, Refuses, ending_of_print, ending_of_serve, status_of}
-use Rattle.program_commands.proofs.Endings.{Ends-done, Ends-faulty, Ends-past, Ends-refused, Ends-stopped, Ends-wanting, IsQuiet, Reads, plays-only, prints-so, quiet, refusal-says, script-makes, steps-cut}
+use Rattle.program_commands.proofs.Endings.{Ends-done, Ends-faulty, Ends-past, Ends-refused, Ends-stopped, Ends-wanting, IsQuiet, Reads, plays-only, prints-so, quiet, refusal-says, refusal-unserved, script-makes, steps-cut, unapart}
 
 -- an ending in which the input gives no script
 refusal-is : (ending : Ending) → IsRefusal ending
@@ -158,7 +160,13 @@ module _ {S K D W : Type 0} (source : SourceGhosts S) (sink : SinkGhosts K) (doo
       (λ bytes. verdict_on command [] bytes ≡ Makes plan))
       (read : Reads source sink door input left out was (reads (Some command)) (verdict_on command []))
       (visited : (status : Status) → IsVisited source sink door input left out then was was
-      (reads (Some command)) (verdict_on command []) status (Makes plan)) where
+      (reads (Some command)) (verdict_on command []) status (Makes plan))
+      (apart : (status : Status) → IsApart door was was (address_in (Some command)) status (Makes plan)) where
+    apart-so-far : (status : Status) → Known (heeded (reads (Some command)) (source.rest input))
+        (λ bytes. IsApart door was was (address_in (Some command)) status (verdict_on command [] bytes))
+    apart-so-far status bytes told = subst (IsApart door was was (address_in (Some command)) status)
+        (sym (makes bytes told)) (apart status)
+
     -- all of it was printed
     pub planned-whole : {X E : Type 0} {x : X} {fault : E} (world : Option W)
         → (reads (Some command) ≡ true →
@@ -175,6 +183,7 @@ module _ {S K D W : Type 0} (source : SourceGhosts S) (sink : SinkGhosts K) (doo
           ends = Ends-done source sink door input left out then was was (reads (Some command))
               (verdict_on command []) plan makes read end printed (visited statuses.Done);
           world = leaves;
+          apart = apart-so-far statuses.Done;
         },
       );
       says = λ visitors bytes told. tt;
@@ -202,6 +211,7 @@ module _ {S K D W : Type 0} (source : SourceGhosts S) (sink : SinkGhosts K) (doo
                 });
             world = leaves-nothing (heeded (reads (Some command)) (source.rest input)) (plays (Some command))
                 (verdict_on command []) (ending_of_serve how) (stop-not-done how);
+            apart = apart-so-far (status_of (ending_of_serve how));
           },
         ))
 
@@ -262,6 +272,9 @@ module _ {S K D W : Type 0} (source : SourceGhosts S) (sink : SinkGhosts K) (doo
                   (λ bytes. subst IsQuiet (same [] bytes) (quiet waited (makes []) bytes quiets)) rose unfailing);
               world = leaves-nothing (heeded (reads (Some command)) (source.rest input))
                   (plays (Some command)) (verdict_on command []) ending (refusal-is ending refusal).1;
+              apart = λ bytes told. unapart door was (address_in (Some command)) (status_of ending)
+                  (verdict_on command [] bytes) (refusal-unserved ending refusal)
+                  (subst IsQuiet (same [] bytes) (quiet waited (makes []) bytes quiets));
             },
           );
           says = λ visitors bytes told. says visitors bytes (sym (heard (reads (Some command)) goes) ∙ told);
@@ -293,7 +306,7 @@ module _ {S K D W : Type 0} (source : SourceGhosts S) (sink : SinkGhosts K) (doo
         printed-whole world is printed stands =
             subst (IsCarriedOut source sink door facts input left out then was was Run) (sym is)
             (planned-whole input left out then was Run (Plays (played_of script)) plays-so
-            (reads-so out was (verdict_on Run [])) (λ status. refl) (Some world) (λ e. end) printed
+            (reads-so out was (verdict_on Run [])) (λ status. refl) (λ status. tt) (Some world) (λ e. end) printed
             (leaves-run (source.rest input) (verdict_on Run []) (Plays (played_of script))
             (played_of script) world plays-so refl stands))
 
@@ -305,7 +318,7 @@ module _ {S K D W : Type 0} (source : SourceGhosts S) (sink : SinkGhosts K) (doo
         printed-part error is printed whole =
             subst (IsCarriedOut source sink door facts input left out then was was Run) (sym is)
             (planned-part input left out then was Run (Plays (played_of script)) plays-so
-            (reads-so out was (verdict_on Run [])) (λ status. refl) error printed
+            (reads-so out was (verdict_on Run [])) (λ status. refl) (λ status. tt) error printed
             (λ memory. steps-cut source sink door script.head (steps_of script.body) (whole memory)))
 
         pub formatted-whole : result ≡ Ok None
@@ -314,7 +327,7 @@ module _ {S K D W : Type 0} (source : SourceGhosts S) (sink : SinkGhosts K) (doo
         formatted-whole is printed =
             subst (IsCarriedOut source sink door facts input left out then was was Print) (sym is)
             (planned-whole input left out then was Print (Formats script) formats-so
-            (reads-so out was (verdict_on Print [])) (λ status. refl) None (λ e. end) printed
+            (reads-so out was (verdict_on Print [])) (λ status. refl) (λ status. tt) None (λ e. end) printed
             (leaves-none (source.rest input) (verdict_on Print [])))
 
         pub formatted-part : (error : PrintError) → result ≡ Err (ending_of_print error)
@@ -324,7 +337,7 @@ module _ {S K D W : Type 0} (source : SourceGhosts S) (sink : SinkGhosts K) (doo
         formatted-part error is printed memory =
             subst (IsCarriedOut source sink door facts input left out then was was Print) (sym is)
             (planned-part input left out then was Print (Formats script) formats-so
-            (reads-so out was (verdict_on Print [])) (λ status. refl) error printed
+            (reads-so out was (verdict_on Print [])) (λ status. refl) (λ status. tt) error printed
             (λ wanting. untold (Formats script) refl (memory wanting)))
 
       module _ (member address : List ℕ) (count : ℕ) (read : IsRead (most_waiting * count)) where
@@ -358,6 +371,8 @@ module _ {S K D W : Type 0} (source : SourceGhosts S) (sink : SinkGhosts K) (doo
                       (reads-so out was (verdict_on service [])) UnknownMember tt tt (says []);
                   world =
                       leaves-nothing (source.rest input) true (verdict_on service []) endings.UnknownMember (λ e. cc);
+                  apart = λ bytes told. subst (IsApart door was was address statuses.NotScript)
+                      (sym (says [] bytes told)) tt;
                 },
               );
               says = says;
@@ -374,8 +389,10 @@ module _ {S K D W : Type 0} (source : SourceGhosts S) (sink : SinkGhosts K) (doo
           -- or connections came behind its run, and all was printed
           pub served-whole : (result : Result (Option W) Ending) (world : W) → result ≡ Ok (Some world)
               → ServedSo sink door facts out then was now (Ok world) script id count visitors
+              → ComeApart door was now (Ok world) (after_steps (cluster_of script.head) (steps_of script.body)) id
+              (Opened address ∷ []) visitors
               → IsCarriedOut source sink door facts input left out then was now service result
-          served-whole result world is s =
+          served-whole result world is s apart =
               subst (IsCarriedOut source sink door facts input left out then was now service) (sym is) (record {
                 usage = λ e. cc;
                 carries = (
@@ -387,6 +404,11 @@ module _ {S K D W : Type 0} (source : SourceGhosts S) (sink : SinkGhosts K) (doo
                         (after_steps (cluster_of script.head) (steps_of script.body)) id count visitors s.came);
                     world = leaves-run (source.rest input) (verdict_on service visitors) served
                         (served_of script id visitors) world serves-so refl s.world;
+                    apart = λ bytes told. subst (IsApart door was now address statuses.Done)
+                        (sym (serves-so bytes told))
+                        (apart-all door was now world tt
+                        (after_steps (cluster_of script.head) (steps_of script.body)) id (Opened address ∷ []) visitors
+                        apart);
                   },
                 );
                 says = λ others bytes told. tt;
@@ -396,8 +418,10 @@ module _ {S K D W : Type 0} (source : SourceGhosts S) (sink : SinkGhosts K) (doo
           pub served-part : (result : Result (Option W) Ending) (error : ServeError)
               → result ≡ Err (ending_of_serve error)
               → ServedSo sink door facts out then was now (Err error) script id count visitors
+              → ComeApart {X = W} door was now (Err error)
+              (after_steps (cluster_of script.head) (steps_of script.body)) id (Opened address ∷ []) visitors
               → IsCarriedOut source sink door facts input left out then was now service result
-          served-part result error is s =
+          served-part result error is s apart =
               let start : Cluster = after_steps (cluster_of script.head) (steps_of script.body) in
               subst (IsCarriedOut source sink door facts input left out then was now service) (sym is)
               (stopped input left out then was now service error (
@@ -418,6 +442,13 @@ module _ {S K D W : Type 0} (source : SourceGhosts S) (sink : SinkGhosts K) (doo
                       });
                   world = leaves-nothing (source.rest input) true (verdict_on service visitors)
                       (ending_of_serve error) (stop-not-done error);
+                  apart = λ bytes told.
+                      subst (IsApart door was now address (status_of (ending_of_serve error)))
+                      (sym (serves-so bytes told))
+                      (subst (λ (r : Result (Unit {0}) ServeError).
+                      ComeApart door was now r start id (Opened address ∷ []) visitors)
+                      (sym (serving-back error))
+                      (apart-stop door was now error (Err error) start id (Opened address ∷ []) visitors refl apart));
                 },
               ))
             where
@@ -454,6 +485,8 @@ module _ {S K D W : Type 0} (source : SourceGhosts S) (sink : SinkGhosts K) (doo
                     (unread out was (verdict_on command [])) PastCount tt tt (λ bytes told. says [] bytes));
                 world = leaves-nothing (heeded (reads (Some command)) (source.rest input))
                     (plays (Some command)) (verdict_on command []) endings.PastCount (λ e. cc);
+                apart = λ bytes told. subst (IsApart door was was (address_in (Some command)) statuses.Limit)
+                    (sym (says [] bytes)) tt;
               },
             );
             says = λ visitors bytes told. says visitors bytes;
@@ -473,6 +506,9 @@ module _ {S K D W : Type 0} (source : SourceGhosts S) (sink : SinkGhosts K) (doo
                     (λ bytes. subst IsQuiet (sym (drawn-so count plan few) ∙ same [] bytes) none));
                 world = leaves-nothing (heeded (reads (Some command)) (source.rest input))
                     (plays (Some command)) (verdict_on command []) endings.Memory (λ e. cc);
+                apart = λ bytes told. unapart door was (address_in (Some command)) statuses.Memory
+                    (verdict_on command [] bytes) refl
+                    (subst IsQuiet (sym (drawn-so count plan few) ∙ same [] bytes) none);
               },
             );
             says = λ visitors bytes told. tt;
@@ -508,7 +544,7 @@ module _ {S K D W : Type 0} (source : SourceGhosts S) (sink : SinkGhosts K) (doo
             subst (IsCarriedOut source sink door facts input input out then was was (Generate seed count)) (sym is)
             (planned-whole input input out then was (Generate seed count) (Formats script)
             (λ bytes told. drawn-so count (Formats script) few) (unread out was (verdict_on (Generate seed count) []))
-            (λ status. refl) None (λ e. absurd (no-world e)) printed
+            (λ status. refl) (λ status. tt) None (λ e. absurd (no-world e)) printed
             (leaves-none (Some []) (verdict_on (Generate seed count) [])))
 
         pub generated-part : (error : PrintError) → result ≡ Err (ending_of_print error)
@@ -519,7 +555,7 @@ module _ {S K D W : Type 0} (source : SourceGhosts S) (sink : SinkGhosts K) (doo
             subst (IsCarriedOut source sink door facts input input out then was was (Generate seed count)) (sym is)
             (planned-part input input out then was (Generate seed count) (Formats script)
             (λ bytes told. drawn-so count (Formats script) few) (unread out was (verdict_on (Generate seed count) []))
-            (λ status. refl) error printed (λ wanting. untold (Formats script) refl (memory wanting)))
+            (λ status. refl) (λ status. tt) error printed (λ wanting. untold (Formats script) refl (memory wanting)))
 
         pub drilled-whole : (world : W) → result ≡ Ok (Some world)
             → Prints sink out then prints.Write (Ok world) (summary_of_run (played_of script))
@@ -529,7 +565,7 @@ module _ {S K D W : Type 0} (source : SourceGhosts S) (sink : SinkGhosts K) (doo
             subst (IsCarriedOut source sink door facts input input out then was was (Drill seed count)) (sym is)
             (planned-whole input input out then was (Drill seed count) (Drills (played_of script))
             (λ bytes told. drawn-so count (Drills (played_of script)) few)
-            (unread out was (verdict_on (Drill seed count) [])) (λ status. refl) (Some world)
+            (unread out was (verdict_on (Drill seed count) [])) (λ status. refl) (λ status. tt) (Some world)
             (λ e. absurd (no-world e)) printed
             (leaves-run (Some []) (verdict_on (Drill seed count) []) (Drills (played_of script))
             (played_of script) world (λ bytes told. drawn-so count (Drills (played_of script)) few) refl stands))
@@ -542,7 +578,7 @@ module _ {S K D W : Type 0} (source : SourceGhosts S) (sink : SinkGhosts K) (doo
             subst (IsCarriedOut source sink door facts input input out then was was (Drill seed count)) (sym is)
             (planned-part input input out then was (Drill seed count) (Drills (played_of script))
             (λ bytes told. drawn-so count (Drills (played_of script)) few)
-            (unread out was (verdict_on (Drill seed count) [])) (λ status. refl) error printed
+            (unread out was (verdict_on (Drill seed count) [])) (λ status. refl) (λ status. tt) error printed
             (λ wanting. untold (Drills (played_of script)) refl (memory wanting)))
 
   -- words that are this command
@@ -573,6 +609,7 @@ module _ {S K D : Type 0} (source : SourceGhosts S) (sink : SinkGhosts K) (door 
             consumed = record { some = λ all told. (0, omega arith, told) };
           };
           world = record { done = ((λ some. absurd (no-world some)), λ done. absurd (not-so done.0)); stands = tt };
+          apart = λ bytes told. tt;
         },
       )
     where

@@ -1,5 +1,5 @@
 -- What is said of how a command ends, for each way in which it does.
-use Rattle.std.proofs.Common.{◌≡◌, ◌≢◌, ◌≤◌, ℕ, Bool, true, false, List, [], length, Option, Some, None, Result, Ok, Err, append-nil, refl, inl, inr, sym, subst, ◌∙◌}
+use Rattle.std.proofs.Common.{◌≡◌, ◌≢◌, ◌≤◌, ℕ, Bool, true, false, List, [], ◌∷◌, length, Option, Some, None, Result, Ok, Err, append-nil, refl, inl, inr, sym, subst, ◌∙◌}
 use Rattle.pat_base.specs.declared.member_id.MemberId.{MemberId}
 use Rattle.pat_outside.specs.declared.outside.Sink.{Ghosts as SinkGhosts}
 use Rattle.pat_outside.specs.declared.outside.Source.{Ghosts as SourceGhosts}
@@ -20,7 +20,9 @@ use Rattle.serve_model.specs.Connections.{Connection}
 use Rattle.run_printing.specs.declared.print_error.PrintError.{PrintError}
 use Rattle.run_printing.specs.declared.print_error.PrintError.TheVariants as prints
 use Rattle.run_player.specs.Playing.{PrintsWholeSteps}
-use Rattle.run_serving.specs.Served.{Came}
+use Rattle.pat_door.specs.Doors.{Opened}
+use Rattle.run_serving.specs.Served.{Came, ComeApart}
+use Rattle.run_serving.proofs.Apart.{apart-none}
 use Rattle.run_serving.proofs.Closing.{write-is}
 use Rattle.run_serving.proofs.Visiting.{Came-none}
 use Rattle.run_printing.specs.declared.serve_error.ServeError.{ServeError}
@@ -35,7 +37,7 @@ use Rattle.command_line.specs.declared.status.Status.{Status}
 use Rattle.command_line.specs.declared.status.Status.TheVariants as statuses
 use Rattle.command_line.specs.Commands.{heeded}
 use Rattle.program_commands.specs.Verdicts.{Drills, EndsWhole, Faulty, Formats, IfPlayed, Makes, NoCommand, PastCount, PastLimit, Plan, Plays, Says, Serves, UnknownMember, Verdict, plan_run, plan_text, service_of, verdict_by, verdict_in}
-use Rattle.program_commands.specs.Ends.{Ends, IsBroken, IsCut, IsDone, IsFaulty, IsHalted, IsPastLimit, IsServedBy, IsVisited, serving_of}
+use Rattle.program_commands.specs.Ends.{Ends, IsApart, IsBroken, IsCut, IsDone, IsFaulty, IsHalted, IsPastLimit, IsServedBy, IsVisited, serving_of}
 use Rattle.command_line.specs.Status.{status_of, ending_of_print, ending_of_serve, Refuses, IsRefusal}
 
 -- an ending that refuses bytes says what comes of them
@@ -90,6 +92,41 @@ none-played (Serves script id count visitors) =
     record { done = []; more = (served_of script id visitors).steps; parts = refl; lines = refl }
 none-played (Drills played) = refl
 none-played (Formats script) = refl
+
+-- and so nothing came apart
+pub unapart : {D : Type 0} (door : DoorGhosts D) (was : D) (address : List ℕ) (status : Status) (found : Verdict)
+    → serving_of status ≡ Err serves.Memory → IsQuiet found → IsApart door was was address status found
+unapart {D = D} door was address status (Makes (Serves script id count visitors)) stops none =
+    subst (λ (l : List Connection).
+    ComeApart door was was (serving_of status) (after_steps (cluster_of script.head) (steps_of script.body)) id
+    (Opened address ∷ []) l)
+    (sym none)
+    (subst (λ (r : Result (Unit {0}) ServeError).
+    ComeApart door was was r (after_steps (cluster_of script.head) (steps_of script.body)) id (Opened address ∷ []) [])
+    (sym stops)
+    (apart-none door was serves.Memory (after_steps (cluster_of script.head) (steps_of script.body)) id
+    (Opened address ∷ [])))
+unapart door was address status (Makes (Plays played)) stops none = tt
+unapart door was address status (Makes (Drills played)) stops none = tt
+unapart door was address status (Makes (Formats script)) stops none = tt
+unapart door was address status NoCommand stops none = tt
+unapart door was address status PastCount stops none = tt
+unapart door was address status (PastLimit limit) stops none = tt
+unapart door was address status (Faulty line fault) stops none = tt
+unapart door was address status UnknownMember stops none = tt
+
+-- where the input gives no script nothing is served
+pub refusal-unserved : (ending : Ending) → IsRefusal ending → serving_of (status_of ending) ≡ Err serves.Memory
+refusal-unserved (endings.NotScript line fault) is = refl
+refusal-unserved (endings.Limit limit) is = refl
+refusal-unserved endings.ReadFault is = refl
+refusal-unserved endings.Memory is = refl
+refusal-unserved endings.Done is = absurd is
+refusal-unserved endings.Usage is = absurd is
+refusal-unserved endings.UnknownMember is = absurd is
+refusal-unserved endings.WriteFault is = absurd is
+refusal-unserved endings.DoorFault is = absurd is
+refusal-unserved endings.PastCount is = absurd is
 
 module _ {S K D : Type 0} (source : SourceGhosts S) (sink : SinkGhosts K) (door : DoorGhosts D) where
   module _ (input left : S) (out : K) (was : D) (read : Bool) (verdict : List ℕ → Verdict) where

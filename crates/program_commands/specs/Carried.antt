@@ -13,7 +13,7 @@ use Rattle.command_line.specs.declared.status.Status.{Status}
 use Rattle.command_line.specs.declared.status.Status.TheVariants as statuses
 use Rattle.command_line.specs.Commands.{Command, heeded, plays, reads}
 use Rattle.program_commands.specs.Verdicts.{IfPlayed, Says, Verdict, verdict_of, verdict_on}
-use Rattle.program_commands.specs.Ends.{Ends}
+use Rattle.program_commands.specs.Ends.{Ends, IsApart, address_in}
 use Rattle.command_line.specs.Status.{status_of}
 
 -- how a run ended that leaves something where all is done
@@ -45,6 +45,8 @@ pub record Carries {S K D : Type 0} (source : Ghosts S) (sink : SinkGhosts K) (d
     0 where
   pub ends : Ends source sink door input left out then was now (reads words) (verdict_of words visitors) ended.status
   pub world : LeavesWorld (heeded (reads words) (source.rest input)) (plays words) (verdict_of words visitors) ended
+  pub apart : Known (heeded (reads words) (source.rest input))
+      (λ bytes. IsApart door was now (address_in words) ended.status (verdict_of words visitors bytes))
 
 -- what a call that carries out a command says of it: the words were
 -- one, these connections came, and what it names is the input's

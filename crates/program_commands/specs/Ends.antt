@@ -1,12 +1,13 @@
 -- How a command ends.
-use Rattle.std.specs.Prelude.{ℕ, ◌≡◌, ◌≤◌, ◌⊎◌, Bool, false, List, [], length, Option, Some, Result, Ok, Err, IsTrue}
+use Rattle.std.specs.Prelude.{ℕ, ◌≡◌, ◌≤◌, ◌⊎◌, Bool, false, List, [], ◌∷◌, length, Option, Some, Result, Ok, Err, IsTrue}
 use Rattle.pat_outside.specs.declared.outside.Sink.{Ghosts as SinkGhosts}
 use Rattle.pat_outside.specs.declared.outside.Source.{Ghosts as SourceGhosts}
 use Rattle.pat_outside.specs.Outside.{Known, Rose, Grew, GrewByPrefix, Consumed}
 use Rattle.pat_door.specs.declared.door.Door.{Ghosts as DoorGhosts}
 use Rattle.cluster_model.specs.Starting.{cluster_of}
 use Rattle.cluster_model.specs.Steps.{steps_of}
-use Rattle.run_serving.specs.Served.{Came}
+use Rattle.pat_door.specs.Doors.{Opened}
+use Rattle.run_serving.specs.Served.{Came, ComeApart}
 use Rattle.run_printing.specs.declared.serve_error.ServeError.{ServeError}
 use Rattle.run_printing.specs.declared.serve_error.ServeError.TheVariants as errors
 use Rattle.run_model.specs.Run.{lines_of_run}
@@ -14,7 +15,7 @@ use Rattle.run_model.specs.Visits.{after_steps, served_of}
 use Rattle.command_line.specs.declared.status.Status.{Status}
 use Rattle.command_line.specs.declared.status.Status.TheVariants as statuses
 use Rattle.command_line.specs.Limits.{most_read}
-use Rattle.command_line.specs.Commands.{heeded}
+use Rattle.command_line.specs.Commands.{Command, Serve, heeded}
 use Rattle.program_commands.specs.Verdicts.{EndsWhole, Faulty, Makes, PastCount, PastLimit, Plan, Serves, UnknownMember, Verdict, plan_text}
 
 -- the input is no script, or declares no such member
@@ -35,6 +36,18 @@ serving_of statuses.Done = Ok tt
 serving_of statuses.WriteFault = Err errors.Write
 serving_of statuses.DoorFault = Err errors.Door
 serving_of _ = Err errors.Memory
+
+-- the address at which words ask to serve, if they do
+abbrev pub address_in : Option Command → List ℕ
+address_in (Some (Serve member address count)) = address
+address_in _ = []
+
+-- the connections of a plan came to a door that was opened at this address, once and before them, and each failed for itself
+abbrev pub IsApart : {D : Type 0} → DoorGhosts D → D → D → List ℕ → Status → Verdict → Type 0
+IsApart door was now address status (Makes (Serves script id count visitors)) =
+    ComeApart door was now (serving_of status) (after_steps (cluster_of script.head) (steps_of script.body)) id
+    (Opened address ∷ []) visitors
+IsApart door was now address status _ = Unit {0}
 
 -- a source, a sink and a door before a command and after it, whether the
 -- command reads the source, and what comes of it by the bytes that it goes by

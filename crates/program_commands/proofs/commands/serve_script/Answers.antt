@@ -55,7 +55,7 @@ returns-in_err-world g c =
     c.in-Some.member (found-in c.in_ok-script.script.head _ c.args.name.now _ _ c.head.ensures.value
     c.member_named.ensures.value c.in-Some.is)
     c.args.out.now c.serve.new.out c.args.door.now c.serve.new.door served.0 _ c.in_err-world.field-0.0
-    (p.1 ∙ ap Err p.2) served.1
+    (p.1 ∙ ap Err p.2) served.1 served.2
 
 pub returns : goal.returns
 returns g c =
@@ -67,4 +67,4 @@ returns g c =
     c.in_ok-script.script bytes (read.script bytes told))
     c.in-Some.member (found-in c.in_ok-script.script.head _ c.args.name.now _ _ c.head.ensures.value
     c.member_named.ensures.value c.in-Some.is)
-    c.args.out.now c.serve.new.out c.args.door.now c.serve.new.door served.0 _ c.in_ok-world.world refl served.1
+    c.args.out.now c.serve.new.out c.args.door.now c.serve.new.door served.0 _ c.in_ok-world.world refl served.1 served.2
