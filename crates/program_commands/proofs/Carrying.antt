@@ -39,9 +39,9 @@ use Rattle.command_line.specs.declared.status.Status.{Status}
 use Rattle.command_line.specs.declared.status.Status.TheVariants as statuses
 use Rattle.command_line.specs.Commands.{Command, Drill, Generate, Print, Run, Serve, heeded, plays, reads}
 use Rattle.command_line.specs.Members.{member_named}
-use Rattle.program_commands.specs.Verdicts.{Drills, EndsWhole, Formats, Makes, NoCommand, PastCount, Plan, Plays, Says, Serves, UnknownMember, Verdict, plan_run, plan_text, service_of, verdict_in, verdict_of_count, verdict_on}
+use Rattle.program_commands.specs.Verdicts.{Drills, EndsWhole, Formats, Makes, NoCommand, PastCount, Plan, Plays, Says, Serves, UnknownMember, Verdict, plan_run, plan_text, service_of, verdict_in, verdict_of, verdict_of_count, verdict_on}
 use Rattle.command_line.specs.Drawing.{CanBeDrawn, RefusesToDraw}
-use Rattle.program_commands.specs.Carried.{Carries, EndedFacts, IsCarriedOut, LeavesWorld, ended_by}
+use Rattle.program_commands.specs.Carried.{Carries, EndedFacts, GoesBy, IsCarriedOut, LeavesWorld, ended_by}
 use Rattle.program_commands.specs.Ends.{Ends, IsApart, IsCut, IsVisited, address_in, serving_of}
 use Rattle.command_line.specs.Status.{IsRefusal, Refuses, ending_of_print, ending_of_serve, status_of}
 use Rattle.program_commands.proofs.Endings.{Ends-done, Ends-faulty, Ends-past, Ends-refused, Ends-stopped, Ends-wanting, IsQuiet, Reads, plays-only, prints-so, quiet, refusal-says, refusal-unserved, script-makes, steps-cut, unapart}
@@ -93,6 +93,13 @@ same-error is so = cc
 
 no-world : false ≡ true → ⊥
 no-world e = cc
+
+-- what reads nothing goes by no bytes
+pub no-bytes : Known (Some []) (λ all. [] ≡ all)
+no-bytes all is = cc
+
+pub goes-by-none : (words : Option Command) (rest : Option (List ℕ)) → words ≡ None → GoesBy words rest []
+goes-by-none words rest is = subst (λ (o : Option Command). GoesBy o rest []) (sym is) (λ all none. cc)
 
 -- what a call answers where all connections came tells nothing of them
 came-all : {D X : Type 0} (door : DoorGhosts D) (was now : D) (x : X) (cluster : Cluster) (id : MemberId)
@@ -568,6 +575,17 @@ module _ {S K D W : Type 0} (source : SourceGhosts S) (sink : SinkGhosts K) (doo
       → (visitors : List Connection) × Carries source sink door input left out then was now words bytes visitors ended
   asked input left out then was now command words bytes result ended is so carried =
       rw (sym is, sym so) carried.carries
+
+-- what is said of a command is said of the words that it stands for
+pub asked-by : (command : Command) (words : Option Command) (rest : Option (List ℕ)) (bytes : List ℕ)
+    → Some command ≡ words → GoesBy (Some command) rest bytes → GoesBy words rest bytes
+asked-by command words rest bytes is goes = subst (λ (o : Option Command). GoesBy o rest bytes) is goes
+
+pub asked-says : (command : Command) (words : Option Command) (bytes : List ℕ) (ending : Ending)
+    → Some command ≡ words → ((visitors : List Connection) → Says ending (verdict_on command visitors bytes))
+    → (visitors : List Connection) → Says ending (verdict_of words visitors bytes)
+asked-says command words bytes ending is says visitors =
+    subst (λ (o : Option Command). Says ending (verdict_of o visitors bytes)) is (says visitors)
 
 module _ {S K D : Type 0} (source : SourceGhosts S) (sink : SinkGhosts K) (door : DoorGhosts D) where
   -- words that are no command
