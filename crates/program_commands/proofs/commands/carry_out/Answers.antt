@@ -22,10 +22,10 @@ returns-in_err-script-in-Run g c =
       b.0,
       b.1,
       (refused g.S.Source g.K.Sink g.D.Door g.W.Simulation.facts _ _ b.0 c.script_from.ensures.consumed
-    c.args.out.now c.args.door.now Run 0 (λ visitors script. Makes (Plays (played_of script))) refl
-    (λ visitors bytes. refl) (λ script. tt)
-    c.from_residual.result c.in_err-script-in-Run.field-0.0 (p.1 ∙ ap Err p.2) fault.refused b.2
-    (λ e. fault.fault (ap Err e)) (λ reliable e. fault.reliable reliable (ap Err e))),
+          c.args.out.now c.args.door.now Run 0 (λ visitors script. Makes (Plays (played_of script))) refl
+          (λ visitors bytes. refl) (λ script. tt)
+          c.from_residual.result c.in_err-script-in-Run.field-0.0 (p.1 ∙ ap Err p.2) fault.refused b.2
+          (λ e. fault.fault (ap Err e)) (λ reliable e. fault.reliable reliable (ap Err e))),
     )
 
 pub play-requires : goal.play-requires
@@ -42,9 +42,9 @@ returns-in_err-world-in-Run g c =
       b.0,
       b.1,
       (printed-part g.S.Source g.K.Sink g.D.Door g.W.Simulation.facts _ _ b.0 c.script_from.ensures.consumed
-    c.in_ok-script-in-Run.script read.end c.args.out.now c.play.new.out c.args.door.now b.2 _
-    c.in_err-world-in-Run.field-0.0 (p.1 ∙ ap Err p.2) played.printed
-    (λ e. played.whole (ap Err e))),
+          c.in_ok-script-in-Run.script read.end c.args.out.now c.play.new.out c.args.door.now b.2 _
+          c.in_err-world-in-Run.field-0.0 (p.1 ∙ ap Err p.2) played.printed
+          (λ e. played.whole (ap Err e))),
     )
 
 pub returns-in_ok-world-in-Run : goal.returns-in_ok-world-in-Run
@@ -56,8 +56,8 @@ returns-in_ok-world-in-Run g c =
       b.0,
       b.1,
       (printed-whole g.S.Source g.K.Sink g.D.Door g.W.Simulation.facts _ _ b.0 c.script_from.ensures.consumed
-    c.in_ok-script-in-Run.script read.end c.args.out.now c.play.new.out c.args.door.now b.2 _
-    c.in_ok-world-in-Run.world refl played.printed played.world),
+          c.in_ok-script-in-Run.script read.end c.args.out.now c.play.new.out c.args.door.now b.2 _
+          c.in_ok-world-in-Run.world refl played.printed played.world),
     )
 
 pub returns-in_err-script-in-Print : goal.returns-in_err-script-in-Print
@@ -70,10 +70,10 @@ returns-in_err-script-in-Print g c =
       b.0,
       b.1,
       (refused g.S.Source g.K.Sink g.D.Door g.W.Simulation.facts _ _ b.0 c.script_from-in-Print.ensures.consumed
-    c.args.out.now c.args.door.now Print 0 (λ visitors script. Makes (Formats script)) refl
-    (λ visitors bytes. refl) (λ script. tt)
-    c.from_residual-in_err-script-in-Print.result c.in_err-script-in-Print.field-0.0 (p.1 ∙ ap Err p.2)
-    fault.refused b.2 (λ e. fault.fault (ap Err e)) (λ reliable e. fault.reliable reliable (ap Err e))),
+          c.args.out.now c.args.door.now Print 0 (λ visitors script. Makes (Formats script)) refl
+          (λ visitors bytes. refl) (λ script. tt)
+          c.from_residual-in_err-script-in-Print.result c.in_err-script-in-Print.field-0.0 (p.1 ∙ ap Err p.2)
+          fault.refused b.2 (λ e. fault.fault (ap Err e)) (λ reliable e. fault.reliable reliable (ap Err e))),
     )
 
 pub returns-in_err-print_script-in-Print : goal.returns-in_err-print_script-in-Print
@@ -87,9 +87,9 @@ returns-in_err-print_script-in-Print g c =
       b.0,
       b.1,
       (formatted-part g.S.Source g.K.Sink g.D.Door g.W.Simulation.facts _ _ b.0 c.script_from-in-Print.ensures.consumed
-    c.in_ok-script-in-Print.script read.end c.args.out.now c.print_script.new.out c.args.door.now b.2
-    _ c.in_err-print_script-in-Print.field-0.0 (p.1 ∙ ap Err p.2) printed.printed
-    (λ e. printed.memory (ap Err e))),
+          c.in_ok-script-in-Print.script read.end c.args.out.now c.print_script.new.out c.args.door.now b.2
+          _ c.in_err-print_script-in-Print.field-0.0 (p.1 ∙ ap Err p.2) printed.printed
+          (λ e. printed.memory (ap Err e))),
     )
 
 pub returns-in_ok-print_script-in-Print : goal.returns-in_ok-print_script-in-Print
@@ -100,8 +100,8 @@ returns-in_ok-print_script-in-Print g c =
       b.0,
       b.1,
       (formatted-whole g.S.Source g.K.Sink g.D.Door g.W.Simulation.facts _ _ b.0
-    c.script_from-in-Print.ensures.consumed c.in_ok-script-in-Print.script read.end c.args.out.now
-    c.print_script.new.out c.args.door.now b.2 _ refl c.in_ok-print_script-in-Print.ensures.printed),
+          c.script_from-in-Print.ensures.consumed c.in_ok-script-in-Print.script read.end c.args.out.now
+          c.print_script.new.out c.args.door.now b.2 _ refl c.in_ok-print_script-in-Print.ensures.printed),
     )
 
 pub returns-in_err-script-in-Generate : goal.returns-in_err-script-in-Generate
@@ -112,9 +112,9 @@ returns-in_err-script-in-Generate g c =
       [],
       no-bytes,
       (not-generated g.S.Source g.K.Sink g.D.Door g.W.Simulation.facts c.args.input.now [] c.in-Generate.seed
-    c.in-Generate.count c.args.out.now c.args.door.now c.from_residual-in_err-script-in-Generate.result
-    c.in_err-script-in-Generate.field-0.0 (p.1 ∙ ap Err p.2)
-    c.in_err-script-in-Generate.ensures.refused),
+          c.in-Generate.count c.args.out.now c.args.door.now c.from_residual-in_err-script-in-Generate.result
+          c.in_err-script-in-Generate.field-0.0 (p.1 ∙ ap Err p.2)
+          c.in_err-script-in-Generate.ensures.refused),
     )
 
 pub returns-in_err-print_script-in-Generate : goal.returns-in_err-print_script-in-Generate
@@ -128,12 +128,12 @@ returns-in_err-print_script-in-Generate g c =
       [],
       no-bytes,
       (generated-part g.S.Source g.K.Sink g.D.Door g.W.Simulation.facts c.args.input.now [] c.in-Generate.seed
-    c.in-Generate.count c.args.out.now c.args.door.now _ drawn.0 c.print_script-in-Generate.new.out error
-    (p.1 ∙ ap Err p.2)
-    (subst (λ (s : ScriptText).
-    Prints {X = Unit {0}} g.K.Sink c.args.out.now c.print_script-in-Generate.new.out Write (Err error) (spelling_of s))
-    drawn.1 printed.printed)
-    (λ e. printed.memory (ap Err e))),
+          c.in-Generate.count c.args.out.now c.args.door.now _ drawn.0 c.print_script-in-Generate.new.out error
+          (p.1 ∙ ap Err p.2)
+          (subst (λ (s : ScriptText).
+          Prints {X = Unit {0}} g.K.Sink c.args.out.now c.print_script-in-Generate.new.out Write (Err error) (spelling_of s))
+          drawn.1 printed.printed)
+          (λ e. printed.memory (ap Err e))),
     )
 
 pub returns-in_ok-print_script-in-Generate : goal.returns-in_ok-print_script-in-Generate
@@ -143,10 +143,10 @@ returns-in_ok-print_script-in-Generate g c =
       [],
       no-bytes,
       (generated-whole g.S.Source g.K.Sink g.D.Door g.W.Simulation.facts c.args.input.now [] c.in-Generate.seed
-    c.in-Generate.count c.args.out.now c.args.door.now _ drawn.0 c.print_script-in-Generate.new.out refl
-    (subst (λ (s : ScriptText).
-    Prints {X = Unit {0}} g.K.Sink c.args.out.now c.print_script-in-Generate.new.out Write (Ok tt) (spelling_of s))
-    drawn.1 c.in_ok-print_script-in-Generate.ensures.printed)),
+          c.in-Generate.count c.args.out.now c.args.door.now _ drawn.0 c.print_script-in-Generate.new.out refl
+          (subst (λ (s : ScriptText).
+          Prints {X = Unit {0}} g.K.Sink c.args.out.now c.print_script-in-Generate.new.out Write (Ok tt) (spelling_of s))
+          drawn.1 c.in_ok-print_script-in-Generate.ensures.printed)),
     )
 
 pub returns-in_err-script-in-Drill : goal.returns-in_err-script-in-Drill
@@ -157,9 +157,9 @@ returns-in_err-script-in-Drill g c =
       [],
       no-bytes,
       (not-drilled g.S.Source g.K.Sink g.D.Door g.W.Simulation.facts c.args.input.now [] c.in-Drill.seed c.in-Drill.count
-    c.args.out.now c.args.door.now c.from_residual-in_err-script-in-Drill.result c.in_err-script-in-Drill.field-0.0
-    (p.1 ∙ ap Err p.2)
-    c.in_err-script-in-Drill.ensures.refused),
+          c.args.out.now c.args.door.now c.from_residual-in_err-script-in-Drill.result c.in_err-script-in-Drill.field-0.0
+          (p.1 ∙ ap Err p.2)
+          c.in_err-script-in-Drill.ensures.refused),
     )
 
 pub drill-requires : goal.drill-requires
@@ -179,11 +179,11 @@ returns-in_err-world-in-Drill g c =
       [],
       no-bytes,
       (drilled-part g.S.Source g.K.Sink g.D.Door g.W.Simulation.facts c.args.input.now [] c.in-Drill.seed
-    c.in-Drill.count c.args.out.now c.args.door.now _ drawn.0 c.drill.new.out error (p.1 ∙ ap Err p.2)
-    (subst (λ (s : ScriptText).
-    Prints {X = _} g.K.Sink c.args.out.now c.drill.new.out Write (Err error) (summary_of_run (played_of s)))
-    drawn.1 played.printed)
-    (λ e. played.memory (ap Err e))),
+          c.in-Drill.count c.args.out.now c.args.door.now _ drawn.0 c.drill.new.out error (p.1 ∙ ap Err p.2)
+          (subst (λ (s : ScriptText).
+          Prints {X = _} g.K.Sink c.args.out.now c.drill.new.out Write (Err error) (summary_of_run (played_of s)))
+          drawn.1 played.printed)
+          (λ e. played.memory (ap Err e))),
     )
 
 pub returns-in_ok-world-in-Drill : goal.returns-in_ok-world-in-Drill
@@ -195,9 +195,9 @@ returns-in_ok-world-in-Drill g c =
       [],
       no-bytes,
       (drilled-whole g.S.Source g.K.Sink g.D.Door g.W.Simulation.facts c.args.input.now [] c.in-Drill.seed
-    c.in-Drill.count c.args.out.now c.args.door.now _ drawn.0 c.drill.new.out world refl
-    (subst (λ (s : ScriptText).
-    Prints g.K.Sink c.args.out.now c.drill.new.out Write (Ok world) (summary_of_run (played_of s)))
-    drawn.1 played.printed)
-    (subst (λ (s : ScriptText). IsLeftBy (played_of s) (g.W.Simulation.facts world)) drawn.1 played.world)),
+          c.in-Drill.count c.args.out.now c.args.door.now _ drawn.0 c.drill.new.out world refl
+          (subst (λ (s : ScriptText).
+          Prints g.K.Sink c.args.out.now c.drill.new.out Write (Ok world) (summary_of_run (played_of s)))
+          drawn.1 played.printed)
+          (subst (λ (s : ScriptText). IsLeftBy (played_of s) (g.W.Simulation.facts world)) drawn.1 played.world)),
     )

@@ -76,9 +76,8 @@ loop-preserved g c =
     )
 
 pub returns : goal.returns
-returns g c =
-    (
-      c.loop.invariant.0,
-      Receives-so (omega (arith, c.loop-test.false, c.loop.auto.counter-end)) c.loop.invariant.1,
-      c.loop.invariant.2,
-    )
+returns g c = (
+  c.loop.invariant.0,
+  Receives-so (omega (arith, c.loop-test.false, c.loop.auto.counter-end)) c.loop.invariant.1,
+  c.loop.invariant.2,
+)
