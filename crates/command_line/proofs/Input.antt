@@ -84,7 +84,8 @@ module _ (n waited : ℕ) (counted : waited ≡ min n (2 ^ 64 - 1)) where
   pub keeps-counted : (script : ScriptText) → KeepsLimits waited script → KeepsLimits n script
   keeps-counted script few = record { ticks = omega (arith, few.ticks, counted); lines = few.lines }
 
--- what holds of the bytes that a source tells, if it tells any, and of those that were read, holds of some, which it tells then
+-- what holds of the bytes that a source tells, if it tells any, and of
+-- those that were read, holds of some, which it tells then
 pub some-bytes : (rest : Option (List ℕ)) (read : List ℕ) (P : List ℕ → Type 0) → Known rest P → P read
     → (bytes : List ℕ) × Known rest (λ all. bytes ≡ all) × P bytes
 some-bytes None read P known own = (read, λ all is. absurd (nothing all is), own)

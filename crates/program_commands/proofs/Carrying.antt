@@ -391,7 +391,8 @@ module _ {S K D W : Type 0} (source : SourceGhosts S) (sink : SinkGhosts K) (doo
                 carries = (
                   visitors,
                   record {
-                    ends = Ends-done source sink door input left out then was now true (verdict_on service visitors) bytes
+                    ends =
+                        Ends-done source sink door input left out then was now true (verdict_on service visitors) bytes
                         served serves-so (reads-so out was (verdict_on service visitors)) (λ e. end) s.printed
                         (came-all door was now world
                         (after_steps (cluster_of script.head) (steps_of script.body)) id count visitors s.came);
@@ -419,7 +420,8 @@ module _ {S K D W : Type 0} (source : SourceGhosts S) (sink : SinkGhosts K) (doo
               (stopped input left out then was now service bytes error (
                 visitors,
                 record {
-                  ends = Ends-stopped source sink door input left out then was now true (verdict_on service visitors) bytes
+                  ends =
+                      Ends-stopped source sink door input left out then was now true (verdict_on service visitors) bytes
                       served serves-so (reads-so out was (verdict_on service visitors)) error (record {
                         printed = subst (λ (t : List ℕ). Prints {X = Unit {0}} sink out then serves.Write (Err error) t)
                             (append-nil (text_of_run (served_of script id visitors)))
@@ -432,7 +434,8 @@ module _ {S K D W : Type 0} (source : SourceGhosts S) (sink : SinkGhosts K) (doo
                             subst (λ (r : Result (Unit {0}) ServeError). Came door was now r start id count visitors)
                             (sym (serving-back error)) (came-part door was now error start id count visitors s.came);
                       });
-                  world = leaves-nothing true (verdict_on service visitors bytes) (ending_of_serve error) (stop-not-done error);
+                  world = leaves-nothing true (verdict_on service visitors bytes) (ending_of_serve error)
+                      (stop-not-done error);
                   apart = subst (IsApart door was now address (status_of (ending_of_serve error))) (sym serves-so)
                       (subst (λ (r : Result (Unit {0}) ServeError).
                       ComeApart door was now r start id (Opened address ∷ []) visitors)
@@ -528,7 +531,8 @@ module _ {S K D W : Type 0} (source : SourceGhosts S) (sink : SinkGhosts K) (doo
             → Prints {X = Unit {0}} sink out then prints.Write (Ok tt) (spelling_of script)
             → IsCarriedOut source sink door facts input input out then was was (Generate seed count) bytes result
         generated-whole is printed =
-            subst (IsCarriedOut source sink door facts input input out then was was (Generate seed count) bytes) (sym is)
+            subst (IsCarriedOut source sink door facts input input out then was was (Generate seed count) bytes)
+            (sym is)
             (planned-whole input input out then was (Generate seed count) bytes (Formats script)
             (drawn-so count (Formats script) few) (unread out was (verdict_on (Generate seed count) []))
             (λ status. refl) (λ status. tt) None (λ e. absurd (no-world e)) printed
@@ -539,7 +543,8 @@ module _ {S K D W : Type 0} (source : SourceGhosts S) (sink : SinkGhosts K) (doo
             → (error ≡ prints.Memory → then ≡ out)
             → IsCarriedOut source sink door facts input input out then was was (Generate seed count) bytes result
         generated-part error is printed memory =
-            subst (IsCarriedOut source sink door facts input input out then was was (Generate seed count) bytes) (sym is)
+            subst (IsCarriedOut source sink door facts input input out then was was (Generate seed count) bytes)
+            (sym is)
             (planned-part input input out then was (Generate seed count) bytes (Formats script)
             (drawn-so count (Formats script) few) (unread out was (verdict_on (Generate seed count) []))
             (λ status. refl) (λ status. tt) error printed (λ wanting. untold (Formats script) refl (memory wanting)))
@@ -570,7 +575,8 @@ module _ {S K D W : Type 0} (source : SourceGhosts S) (sink : SinkGhosts K) (doo
 
   -- words that are this command
   pub asked : (input left : S) (out then : K) (was now : D) (command : Command) (words : Option Command)
-      (bytes : List ℕ) (result : Result (Option W) Ending) (ended : EndedFacts) → Some command ≡ words → ended_by facts result ≡ ended
+      (bytes : List ℕ) (result : Result (Option W) Ending) (ended : EndedFacts) → Some command ≡ words
+      → ended_by facts result ≡ ended
       → IsCarriedOut source sink door facts input left out then was now command bytes result
       → (visitors : List Connection) × Carries source sink door input left out then was now words bytes visitors ended
   asked input left out then was now command words bytes result ended is so carried =

@@ -307,7 +307,8 @@ module _ {S K D : Type 0} (source : SourceGhosts S) (sink : SinkGhosts K) (door 
     -- what a stop leaves on the sink
     pub record Stops (error : ServeError) : Type 0 where
       pub printed : Prints {X = Unit {0}} sink out then serves.Write (Err error) (plan_text plan)
-      pub whole : error ≡ serves.Memory → IsCut source sink door input left out then was now read verdict bytes (Makes plan)
+      pub whole : error ≡ serves.Memory
+          → IsCut source sink door input left out then was now read verdict bytes (Makes plan)
       pub halted : error ≡ serves.Door
           → Rose (door.door_faults was) (door.door_faults now)
           × IsHalted source sink door input left out then was now read verdict bytes (Makes plan)

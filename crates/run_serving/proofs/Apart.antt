@@ -1,4 +1,5 @@
--- Connections that come to a door one after another: each fails for itself, and behind what the door was called for first.
+-- Connections that come to a door one after another: each fails for
+-- itself, and behind what the door was called for first.
 use Rattle.std.proofs.Common.{◌≡◌, ◌≢◌, ℕ, ◌+◌, ◌-◌, ◌≤◌, inl, inr, List, [], ◌∷◌, ◌++◌, length, Result, Ok, Err, arith, append-nil, refl, ◌∙◌, ap, sym, subst}
 use Rattle.std.specs.Prelude.{IsErr, OnOk, ◌⊎◌}
 use Rattle.std.proofs.lemmas.Bool.{false≢true}
@@ -11,7 +12,7 @@ use Rattle.pat_door.specs.declared.door.Door.{Ghosts}
 use Rattle.pat_door.specs.Doors.{Accepted, DoorCall}
 use Rattle.serve_model.specs.Connections.{Connection, Whole, bytes_due, steps_of_connection}
 use Rattle.pat_serve.specs.Serving.{Serves, calls_by}
-use Rattle.run_serving.specs.Served.{AreWhole, ComeApart, FailApart, IsCalled, calls_with, due_on}
+use Rattle.run_serving.specs.Served.{AreWhole, ComeApart, FailApart, IsCalledFor, calls_with, due_on}
 use Rattle.run_printing.specs.declared.serve_error.ServeError.{ServeError}
 use Rattle.run_printing.specs.declared.serve_error.ServeError.TheVariants.{Memory}
 use Rattle.run_model.specs.Visits.{after_steps, visits_steps}
@@ -160,7 +161,7 @@ apart-then {D = D} {X = X} {Y = Y} door was mid now x result cluster id opening 
       );
 }
   where
-    by-more : (calls : List DoorCall) → IsCalled door now result (calls_with (calls ++ opening) first) [] more
+    by-more : (calls : List DoorCall) → IsCalledFor door now result (calls_with (calls ++ opening) first) [] more
         → door.heard now (calls_with (calls ++ opening) (first ++ more))
     by-more calls (inl two) =
         subst (door.heard now) (sym (calls-append (calls ++ opening) first more))
@@ -171,7 +172,7 @@ apart-then {D = D} {X = X} {Y = Y} door was mid now x result cluster id opening 
         (sym (ap (λ l. first ++ l) two.1 ∙ append-nil first)) two.2
 
     by-first : result ≢ Err Memory → (calls : List DoorCall)
-        → IsCalled {X = X} door mid (Ok x) calls opening first
+        → IsCalledFor {X = X} door mid (Ok x) calls opening first
         → door.heard now (calls_with (calls ++ opening) (first ++ more))
     by-first not calls (inl one) = by-more calls (q.heard not (calls_with (calls ++ opening) first) one)
     by-first not calls (inr one) = absurd (ok-is-no-err x one.0)

@@ -76,9 +76,9 @@ due_on cluster id (visitor ∷ more) =
     length (bytes_due cluster id visitor) + due_on (after_steps cluster (steps_of_connection cluster id visitor)) id more
 
 -- a door was called for this first, and for these connections then; or an error came before that, and it wasn't called
-abbrev pub IsCalled : {D X : Type 0} → DoorGhosts D → D → Result X ServeError → List DoorCall → List DoorCall
+abbrev pub IsCalledFor : {D X : Type 0} → DoorGhosts D → D → Result X ServeError → List DoorCall → List DoorCall
     → List Connection → Type 0
-IsCalled door now result calls first visitors =
+IsCalledFor door now result calls first visitors =
     door.heard now (calls_with (calls ++ first) visitors) ⊎ (IsErr result × (visitors ≡ []) × door.heard now calls)
 
 -- Of connections to a door each is accepted behind what the door was called for first, and fails for
@@ -86,7 +86,7 @@ IsCalled door now result calls first visitors =
 pub record ComeApart {D X : Type 0} (door : DoorGhosts D) (was now : D) (result : Result X ServeError)
     (cluster : Cluster) (id : MemberId) (first : List DoorCall) (visitors : List Connection) : Type 0 where
   pub heard : result ≢ Err Memory → (calls : List DoorCall) → door.heard was calls
-      → IsCalled door now result calls first visitors
+      → IsCalledFor door now result calls first visitors
   pub apart : FailApart visitors (door.connection_faults was) (door.connection_faults now)
   pub whole : (n : ℕ) → door.has_room was n → due_on cluster id visitors ≤ n
       → AreWhole visitors × OnOk result (door.has_room now (n - due_on cluster id visitors))

@@ -34,7 +34,8 @@ returns-clause-refuses g c =
 pub returns-in_err-bytes-clause-bytes : goal.returns-in_err-bytes-clause-bytes
 returns-in_err-bytes-clause-bytes g c =
     some-bytes (g.S.Source.rest c.args.input.now) [] _
-    (λ all is. refuses-none c.args.waited c.in_err-bytes.field-0.0 c.from_residual.result _ all c.from_residual.ensures.1)
+    (λ all is.
+    refuses-none c.args.waited c.in_err-bytes.field-0.0 c.from_residual.result _ all c.from_residual.ensures.1)
     (refuses-none c.args.waited c.in_err-bytes.field-0.0 c.from_residual.result _ [] c.from_residual.ensures.1)
 
 pub returns-clause-bytes : goal.returns-clause-bytes

@@ -131,7 +131,8 @@ returns-in_err-print_script-in-Generate g c =
           c.in-Generate.count c.args.out.now c.args.door.now _ drawn.0 c.print_script-in-Generate.new.out error
           (p.1 ∙ ap Err p.2)
           (subst (λ (s : ScriptText).
-          Prints {X = Unit {0}} g.K.Sink c.args.out.now c.print_script-in-Generate.new.out Write (Err error) (spelling_of s))
+          Prints {X = Unit {0}} g.K.Sink c.args.out.now c.print_script-in-Generate.new.out Write (Err error)
+          (spelling_of s))
           drawn.1 printed.printed)
           (λ e. printed.memory (ap Err e))),
     )
@@ -145,7 +146,8 @@ returns-in_ok-print_script-in-Generate g c =
       (generated-whole g.S.Source g.K.Sink g.D.Door g.W.Simulation.facts c.args.input.now [] c.in-Generate.seed
           c.in-Generate.count c.args.out.now c.args.door.now _ drawn.0 c.print_script-in-Generate.new.out refl
           (subst (λ (s : ScriptText).
-          Prints {X = Unit {0}} g.K.Sink c.args.out.now c.print_script-in-Generate.new.out Write (Ok tt) (spelling_of s))
+          Prints {X = Unit {0}} g.K.Sink c.args.out.now c.print_script-in-Generate.new.out Write (Ok tt)
+          (spelling_of s))
           drawn.1 c.in_ok-print_script-in-Generate.ensures.printed)),
     )
 
@@ -156,8 +158,10 @@ returns-in_err-script-in-Drill g c =
     rw c.in-Drill.is (
       [],
       no-bytes,
-      (not-drilled g.S.Source g.K.Sink g.D.Door g.W.Simulation.facts c.args.input.now [] c.in-Drill.seed c.in-Drill.count
-          c.args.out.now c.args.door.now c.from_residual-in_err-script-in-Drill.result c.in_err-script-in-Drill.field-0.0
+      (not-drilled g.S.Source g.K.Sink g.D.Door g.W.Simulation.facts c.args.input.now [] c.in-Drill.seed
+          c.in-Drill.count
+          c.args.out.now c.args.door.now c.from_residual-in_err-script-in-Drill.result
+          c.in_err-script-in-Drill.field-0.0
           (p.1 ∙ ap Err p.2)
           c.in_err-script-in-Drill.ensures.refused),
     )

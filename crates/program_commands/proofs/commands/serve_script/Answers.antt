@@ -23,9 +23,11 @@ returns-in_err-script g c =
           c.args.out.now c.args.door.now (Serve c.args.name.now c.args.address.now c.args.count)
           (most_waiting * c.args.count)
           (λ visitors script. service_of script c.args.count visitors (member_named script.head c.args.name.now)) refl
-          (λ visitors bytes. refl) (λ script. quiet-service script c.args.count (member_named script.head c.args.name.now))
+          (λ visitors bytes. refl)
+          (λ script. quiet-service script c.args.count (member_named script.head c.args.name.now))
           c.from_residual.result ending (p.1 ∙ ap Err p.2) fault.refused
-          (refuses-counted (most_waiting * c.args.count) c.saturating_mul.result c.saturating_mul.ensures ending b.0 b.2)
+          (refuses-counted (most_waiting * c.args.count) c.saturating_mul.result c.saturating_mul.ensures
+          ending b.0 b.2)
           (λ e. fault.fault (ap Err e)) (λ reliable e. fault.reliable reliable (ap Err e)),
     )
 
@@ -81,5 +83,6 @@ returns g c =
           c.in_ok-script.script b.0 b.2)
           c.in-Some.member (found-in c.in_ok-script.script.head _ c.args.name.now _ _ c.head.ensures.value
           c.member_named.ensures.value c.in-Some.is)
-          c.args.out.now c.serve.new.out c.args.door.now c.serve.new.door served.0 _ c.in_ok-world.world refl served.1 served.2,
+          c.args.out.now c.serve.new.out c.args.door.now c.serve.new.door served.0 _ c.in_ok-world.world refl
+          served.1 served.2,
     )

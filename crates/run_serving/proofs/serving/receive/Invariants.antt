@@ -11,5 +11,6 @@ invariant-loop g l = (visitors : List Connection)
     × Receives {X = Unit {0}} g.K.Sink g.D.Door (player_of g.W.Simulation.facts l.fn.player)
     (player_of g.W.Simulation.facts l.player) l.fn.out l.out l.fn.door l.door
     (Ok tt) l.service.member l.counter visitors
-    × ComeApart {X = Unit {0}} g.D.Door l.fn.door l.door (Ok tt) (player_of g.W.Simulation.facts l.fn.player).world.cluster
+    × ComeApart {X = Unit {0}} g.D.Door l.fn.door l.door (Ok tt)
+    (player_of g.W.Simulation.facts l.fn.player).world.cluster
     l.service.member (Opened l.service.address.now ∷ []) visitors
