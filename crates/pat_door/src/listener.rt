@@ -86,6 +86,12 @@ impl<R: Net + Drop> Door for ListenerDoor<R> {
 
     ghost takes = { λ _ _. ⊥ };
 
+    ghost has_room = { λ _ _. ⊥ };
+
+    ghost heard = { λ _ _. ⊥ };
+
+    ghost has_read = { λ _ _. Unit {0} };
+
     fn open(&mut self, address: &[u8]) -> Result<(), Failed> {
         match listen(&self.net, address) {
             Some(listener) => {

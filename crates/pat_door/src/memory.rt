@@ -1,8 +1,9 @@
 //! A door in memory, with the calls that are to fail: for tests and for callers that embed the program.
-ghost use Rattle.std.specs.Prelude.{ℕ, ◌≡◌, ◌<◌, ◌≤◌, ◌-◌, ◌↔◌, ◌⊎◌, [], length, map, take, Some, None, Contains, min, IfOk, IsOk, IsSome, IsOkAnd, IsErr, IsTrue, OnOk, OnErr, option_copied, slice_get};
+ghost use Rattle.std.specs.Prelude.{ℕ, ◌≡◌, ◌<◌, ◌≤◌, ◌-◌, ◌++◌, ◌∷◌, ◌↔◌, ◌⊎◌, [], List, length, map, take, Some, None, Contains, min, IfOk, IsOk, IsSome, IsOkAnd, IsErr, IsTrue, OnOk, OnErr, MatchResult, option_copied, slice_get};
 ghost use Rattle.pat_outside.specs.Outside.{Known, Rose};
 ghost use Rattle.pat_outside.specs.Memory.{counted};
-ghost use Rattle.pat_door.specs.Doors.{Tells, bytes_here, after_accept, after_read, after_write, after_hang_up};
+ghost use Rattle.pat_door.specs.Memory.{DoorState, ReadSo, counted_read};
+ghost use Rattle.pat_door.specs.Doors.{Accepted, DoorCall, Opened, ReadCounts, Tells, bytes_here, none_read, read_more, after_accept, after_read, after_write, after_hang_up};
 
 use crate::Door;
 use crate::answers::Answers;
@@ -25,6 +26,9 @@ pub struct MemoryDoor {
     calls: u64,
     door_faults: u64,
     connection_faults: u64,
+    // How many bytes were read of the connection that was accepted last, and how many of them before the last read.
+    read: u64,
+    read_before: u64,
 }
 
 impl Model for MemoryDoor {
@@ -41,6 +45,8 @@ impl Model for MemoryDoor {
       calls = s.calls;
       door_faults = s.door_faults;
       connection_faults = s.connection_faults;
+      read = s.read;
+      read_before = s.read_before;
     } };
 
     ghost invariant = { λ s. deque_len s.coming ≤ s.answers.unbegun };
@@ -62,6 +68,8 @@ impl MemoryDoor {
           calls = 0;
           door_faults = 0;
           connection_faults = 0;
+          read = 0;
+          read_before = 0;
         }) }
     {
         let answers = Answers::new(alloc, room, connections.len())?;
@@ -73,6 +81,8 @@ impl MemoryDoor {
             calls: 0,
             door_faults: 0,
             connection_faults: 0,
+            read: 0,
+            read_before: 0,
         })
     }
 
@@ -122,6 +132,13 @@ impl Door for MemoryDoor {
 
     ghost takes = { λ s n. (s.fails ≡ []) × IsSome s.facts.here × (n ≤ s.room) };
 
+    ghost has_room = { λ s n. (s.fails ≡ []) × (n ≤ s.room) };
+
+    // It listens at any address, and keeps none.
+    ghost heard = { λ _ _. Unit {0} };
+
+    ghost has_read = { λ s counts. ReadSo s counts };
+
     fn open(&mut self, address: &[u8]) -> Result<(), Failed>
         ensures same { Some self.new.facts ≡ Some self.old.facts }
         ensures failed { OnErr result (Rose self.old.door_faults self.new.door_faults) }
@@ -129,6 +146,9 @@ impl Door for MemoryDoor {
         ensures line { self.new.connection_faults ≡ self.old.connection_faults }
         ensures served { (n : ℕ) → (self.old.fails ≡ []) × (n ≤ length self.old.facts.coming)
             → IsOk result × ((self.new.fails ≡ []) × (n ≤ length self.new.facts.coming)) }
+        ensures heard { (calls : List DoorCall) → Unit {0} → MatchResult result (λ _. Unit {0}) (λ _. Unit {0}) }
+        ensures spare { (n : ℕ) → (self.old.fails ≡ []) × (n ≤ self.old.room) → (self.new.fails ≡ []) × (n ≤ self.new.room) }
+        ensures counts { (counts : ReadCounts) → ReadSo self.old counts → ReadSo self.new counts }
 
         // Beyond a door's promise: which calls fail, and all that each call leaves.
         ensures fails { IsErr result ↔ Contains self.old.fails (counted self.old.calls) }
@@ -150,11 +170,16 @@ impl Door for MemoryDoor {
         ensures line { self.new.connection_faults ≡ self.old.connection_faults }
         ensures served { (n : ℕ) → (self.old.fails ≡ []) × (n ≤ length self.old.facts.coming) → 0 < n
             → IsOk result × ((self.new.fails ≡ []) × (n - 1 ≤ length self.new.facts.coming)) }
+        ensures heard { (calls : List DoorCall) → Unit {0} → MatchResult result (λ _. Unit {0}) (λ _. Unit {0}) }
+        ensures spare { (n : ℕ) → (self.old.fails ≡ []) × (n ≤ self.old.room)
+            → (((self.new.fails ≡ []) × (n ≤ self.new.room))) × OnOk result ((self.new.fails ≡ []) × IsSome self.new.facts.here × (n ≤ self.new.room)) }
+        ensures begun { OnOk result (ReadSo self.new none_read) }
+        ensures counts { OnErr result ((counts : ReadCounts) → ReadSo self.old counts → ReadSo self.new counts) }
 
         // Beyond a door's promise: which calls fail, and all that each call leaves.
         ensures fails { IsErr result ↔ ((Contains self.old.fails (counted self.old.calls)) ⊎ (self.old.facts.coming ≡ [])) }
         ensures err { OnErr result (self.new ≡ record self.old { calls = counted self.old.calls; door_faults = counted self.old.door_faults }) }
-        ensures ok { OnOk result (self.new ≡ record self.old { facts = after_accept self.old.facts; calls = counted self.old.calls }) }
+        ensures ok { OnOk result (self.new ≡ record self.old { facts = after_accept self.old.facts; calls = counted self.old.calls; read = 0; read_before = 0 }) }
     {
         if self.is_to_fail() {
             return Err(self.door_fault());
@@ -164,6 +189,8 @@ impl Door for MemoryDoor {
             Some(bytes) => {
                 self.here = Some(Unread::new(bytes));
                 self.answers.begin();
+                self.read = 0;
+                self.read_before = 0;
                 Ok(())
             }
         }
@@ -183,19 +210,28 @@ impl Door for MemoryDoor {
             → (self.new.fails ≡ []) × (n ≤ length self.new.facts.coming) }
         ensures reliable { (n : ℕ) → (self.old.fails ≡ []) × IsSome self.old.facts.here × (n ≤ self.old.room)
             → IsOk result × ((self.new.fails ≡ []) × IsSome self.new.facts.here × (n ≤ self.new.room)) }
+        ensures spare { (n : ℕ) → (self.old.fails ≡ []) × (n ≤ self.old.room) → (self.new.fails ≡ []) × (n ≤ self.new.room) }
+        ensures heard { (calls : List DoorCall) → Unit {0} → MatchResult result (λ _. Unit {0}) (λ _. Unit {0}) }
+        ensures counts { (counts : ReadCounts) → ReadSo self.old counts
+            → MatchResult result (λ count. ReadSo self.new (read_more count counts)) (λ _. ReadSo self.new counts) }
 
         // Beyond a door's promise: which calls fail, and all that each call leaves.
         ensures fails { IsErr result ↔ ((Contains self.old.fails (counted self.old.calls)) ⊎ (self.old.facts.here ≡ None)) }
         ensures err { OnErr result (self.new ≡ record self.old { calls = counted self.old.calls; connection_faults = counted self.old.connection_faults }) }
         ensures count { IfOk result (λ count. Known self.old.facts.here (λ all. count ≡ min (length all) (length buf.old))) }
-        ensures ok { IfOk result (λ count. self.new ≡ record self.old { facts = after_read count self.old.facts; calls = counted self.old.calls }) }
+        ensures ok { IfOk result (λ count. self.new ≡ counted_read count (record self.old { facts = after_read count self.old.facts; calls = counted self.old.calls })) }
     {
         if self.is_to_fail() {
             return Err(self.line_fault());
         }
         match &mut self.here {
             None => Err(self.line_fault()),
-            Some(unread) => Ok(unread.read(buf)),
+            Some(unread) => {
+                let count = unread.read(buf);
+                self.read_before = self.read;
+                self.read = self.read.saturating_add(count as u64);
+                Ok(count)
+            }
         }
     }
 
@@ -212,6 +248,10 @@ impl Door for MemoryDoor {
             → (self.new.fails ≡ []) × (n ≤ length self.new.facts.coming) }
         ensures room { (n : ℕ) → (self.old.fails ≡ []) × IsSome self.old.facts.here × (n ≤ self.old.room) → length piece.now ≤ n
             → IsOkAnd result (λ count. (self.new.fails ≡ []) × IsSome self.new.facts.here × (n - count ≤ self.new.room)) }
+        ensures spare { (n : ℕ) → (self.old.fails ≡ []) × (n ≤ self.old.room)
+            → MatchResult result (λ count. (self.new.fails ≡ []) × (n - count ≤ self.new.room)) (λ _. (self.new.fails ≡ []) × (n ≤ self.new.room)) }
+        ensures heard { (calls : List DoorCall) → Unit {0} → MatchResult result (λ _. Unit {0}) (λ _. Unit {0}) }
+        ensures counts { (counts : ReadCounts) → ReadSo self.old counts → ReadSo self.new counts }
 
         // Beyond a door's promise: which calls fail, and all that each call leaves.
         ensures fails { IsErr result ↔ ((Contains self.old.fails (counted self.old.calls)) ⊎ ((self.old.facts.here ≡ None) ⊎ (self.old.room < length piece.now))) }
@@ -232,6 +272,9 @@ impl Door for MemoryDoor {
         ensures line { self.new.connection_faults ≡ self.old.connection_faults }
         ensures served { (n : ℕ) → (self.old.fails ≡ []) × (n ≤ length self.old.facts.coming)
             → (self.new.fails ≡ []) × (n ≤ length self.new.facts.coming) }
+        ensures spare { (n : ℕ) → (self.old.fails ≡ []) × (n ≤ self.old.room) → (self.new.fails ≡ []) × (n ≤ self.new.room) }
+        ensures heard { (calls : List DoorCall) → Unit {0} → Unit {0} }
+        ensures counts { (counts : ReadCounts) → ReadSo self.old counts → ReadSo self.new counts }
 
         // Beyond a door's promise: all that it leaves, and that it is no call that counts.
         ensures all { self.new ≡ record self.old { facts = after_hang_up self.old.facts } }

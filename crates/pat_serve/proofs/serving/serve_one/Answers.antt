@@ -10,6 +10,6 @@ returns-clause-serves g c =
       s.1,
       serves-ended g.D.Door c.args.door.now c.serve_present-served.new.door c.hang_up.new.self
           (g.W.Simulation.facts c.args.world.now).cluster c.args.member s.0 s.2 c.hang_up.ensures.after
-          c.hang_up.ensures.line,
+          c.hang_up.ensures.line c.hang_up.ensures.spare c.hang_up.ensures.heard c.hang_up.ensures.counts,
     ))
     c.serve_present-served.ensures.serves
