@@ -6,10 +6,12 @@ use Rattle.event_list.specs.Listed.{Listed, traced_list}
 use Rattle.cluster_model.specs.declared.step.Step.{Step}
 use Rattle.cluster_model.specs.Cluster.{cluster_over}
 use Rattle.cluster_model.specs.Next.{run_events}
+use Rattle.cluster_model.specs.Starting.{cluster_of}
 use Rattle.cluster_model.specs.State.{Cluster}
 use Rattle.pat_door.specs.declared.door.Door.{Ghosts}
 use Rattle.pat_door.specs.Doors.{DoorCall, DoorFacts, Failed, ReadCounts, Tells, after_hang_up, after_write, bytes_here}
-use Rattle.run_model.specs.Run.{events_by_step}
+use Rattle.run_model.specs.Run.{Played, events_by_step, run_of}
+use Rattle.simulation.specs.Book.{StandsFor}
 use Rattle.simulation.specs.Steps.{TookSteps, WorldFacts}
 use Rattle.rest_answer.specs.declared.refusal.Refusal.{Refusal}
 use Rattle.rest_answer.specs.declared.refusal.Refusal.TheVariants as refusals
@@ -37,6 +39,14 @@ pub record Brings (before after : WorldFacts) (had has : List Listed) (steps : L
   pub cluster : after.cluster ≡ cluster_over before.cluster (run_events before.cluster steps)
   pub taken : TookSteps before after (length steps)
   pub events : has ≡ had ++ map traced_list (events_by_step before.cluster steps)
+
+-- a run of a head that brought a world here goes on by more steps, and brings it there, while their
+-- events, step by step, are added to a list: what is promised of every run of that head is so of it
+pub record GoesOn (played : Played) (before after : Cluster) (had has : List Listed) : Type 0 where
+  pub more : List Step
+  pub events : has ≡ had ++ map traced_list (events_by_step before more)
+  pub stands : StandsFor (cluster_of played.head)
+      (run_of (record { head = played.head; steps = played.steps ++ more })) after
 
 -- how a connection goes whose reply was written whole, or else in part
 abbrev pub course_of : Bool → Course
