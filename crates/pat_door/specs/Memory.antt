@@ -1,6 +1,6 @@
 -- What a door in memory holds.
 use Rattle.std.specs.Prelude.{ℕ, ◌≡◌, ◌+◌, ◌-◌, ◌^◌, ◌<◌, ◌≤◌, List, [], ◌∷◌, take, drop, min}
-use Rattle.pat_door.specs.Doors.{DoorFacts, ReadCounts}
+use Rattle.pat_door.specs.Doors.{DoorCall, DoorFacts, ReadCounts}
 
 -- the connections and the answers, the room left for answers, the numbers
 -- of the calls that are to fail, and how many calls and faults there were
@@ -14,6 +14,8 @@ pub record DoorState : Type 0 where
   -- how many bytes were read of the connection that was accepted last, and how many of them before the last read
   pub read : ℕ
   pub read_before : ℕ
+  -- what it was called for
+  pub heard : List DoorCall
 
 -- the answers so far, the room left for their bytes, and how many more may begin
 pub record AnswerState : Type 0 where

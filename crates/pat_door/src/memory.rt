@@ -3,11 +3,13 @@ ghost use Rattle.std.specs.Prelude.{ℕ, ◌≡◌, ◌<◌, ◌≤◌, ◌-◌,
 ghost use Rattle.pat_outside.specs.Outside.{Known, Rose};
 ghost use Rattle.pat_outside.specs.Memory.{counted};
 ghost use Rattle.pat_door.specs.Memory.{DoorState, ReadSo, counted_read};
-ghost use Rattle.pat_door.specs.Doors.{Accepted, DoorCall, Opened, ReadCounts, Tells, bytes_here, none_read, read_more, after_accept, after_read, after_write, after_hang_up};
+ghost use Rattle.pat_door.specs.Doors.{Accepted, DoorCall, Failed as LineFailed, Opened, ReadCounts, Tells, bytes_here, none_read, read_more, after_accept, after_read, after_write, after_hang_up};
 
 use crate::Door;
 use crate::answers::Answers;
+use crate::call::Call;
 use crate::unread::Unread;
+use ghost_list::GhostList;
 use pat_outside::Failed;
 use std::alloc::{AllocError, Global};
 use std::collections::VecDeque;
@@ -29,6 +31,8 @@ pub struct MemoryDoor {
     // How many bytes were read of the connection that was accepted last, and how many of them before the last read.
     read: u64,
     read_before: u64,
+    // What it was called for.
+    heard: GhostList<Call>,
 }
 
 impl Model for MemoryDoor {
@@ -47,6 +51,7 @@ impl Model for MemoryDoor {
       connection_faults = s.connection_faults;
       read = s.read;
       read_before = s.read_before;
+      heard = s.heard.items;
     } };
 
     ghost invariant = { λ s. deque_len s.coming ≤ s.answers.unbegun };
@@ -70,6 +75,7 @@ impl MemoryDoor {
           connection_faults = 0;
           read = 0;
           read_before = 0;
+          heard = [];
         }) }
     {
         let answers = Answers::new(alloc, room, connections.len())?;
@@ -83,6 +89,7 @@ impl MemoryDoor {
             connection_faults: 0,
             read: 0,
             read_before: 0,
+            heard: GhostList::new(),
         })
     }
 
@@ -113,10 +120,11 @@ impl MemoryDoor {
 
     /// Counts a fault of `read` or `write`.
     fn line_fault(&mut self) -> Failed
-        ensures after { self.new ≡ record self.old { connection_faults = counted self.old.connection_faults } }
+        ensures after { self.new ≡ record self.old { connection_faults = counted self.old.connection_faults; heard = self.old.heard ++ LineFailed ∷ [] } }
         ensures grows { self.old.connection_faults ≤ self.new.connection_faults }
     {
         self.connection_faults = self.connection_faults.saturating_add(1);
+        self.heard = self.heard.and(&Call::failed());
         Failed
     }
 }
@@ -134,8 +142,7 @@ impl Door for MemoryDoor {
 
     ghost has_room = { λ s n. (s.fails ≡ []) × (n ≤ s.room) };
 
-    // It listens at any address, and keeps none.
-    ghost heard = { λ _ _. Unit {0} };
+    ghost heard = { λ s calls. s.heard ≡ calls };
 
     ghost has_read = { λ s counts. ReadSo s counts };
 
@@ -146,18 +153,19 @@ impl Door for MemoryDoor {
         ensures line { self.new.connection_faults ≡ self.old.connection_faults }
         ensures served { (n : ℕ) → (self.old.fails ≡ []) × (n ≤ length self.old.facts.coming)
             → IsOk result × ((self.new.fails ≡ []) × (n ≤ length self.new.facts.coming)) }
-        ensures heard { (calls : List DoorCall) → Unit {0} → MatchResult result (λ _. Unit {0}) (λ _. Unit {0}) }
+        ensures heard { (calls : List DoorCall) → self.old.heard ≡ calls → MatchResult result (λ _. self.new.heard ≡ calls ++ Opened address.now ∷ []) (λ _. self.new.heard ≡ calls) }
         ensures spare { (n : ℕ) → (self.old.fails ≡ []) × (n ≤ self.old.room) → (self.new.fails ≡ []) × (n ≤ self.new.room) }
         ensures counts { (counts : ReadCounts) → ReadSo self.old counts → ReadSo self.new counts }
 
         // Beyond a door's promise: which calls fail, and all that each call leaves.
         ensures fails { IsErr result ↔ Contains self.old.fails (counted self.old.calls) }
         ensures err { OnErr result (self.new ≡ record self.old { calls = counted self.old.calls; door_faults = counted self.old.door_faults }) }
-        ensures ok { OnOk result (self.new ≡ record self.old { calls = counted self.old.calls }) }
+        ensures ok { OnOk result (self.new ≡ record self.old { calls = counted self.old.calls; heard = self.old.heard ++ Opened address.now ∷ [] }) }
     {
         if self.is_to_fail() {
             return Err(self.door_fault());
         }
+        self.heard = self.heard.and(&Call::opened(address));
         Ok(())
     }
 
@@ -170,7 +178,7 @@ impl Door for MemoryDoor {
         ensures line { self.new.connection_faults ≡ self.old.connection_faults }
         ensures served { (n : ℕ) → (self.old.fails ≡ []) × (n ≤ length self.old.facts.coming) → 0 < n
             → IsOk result × ((self.new.fails ≡ []) × (n - 1 ≤ length self.new.facts.coming)) }
-        ensures heard { (calls : List DoorCall) → Unit {0} → MatchResult result (λ _. Unit {0}) (λ _. Unit {0}) }
+        ensures heard { (calls : List DoorCall) → self.old.heard ≡ calls → MatchResult result (λ _. self.new.heard ≡ calls ++ Accepted ∷ []) (λ _. self.new.heard ≡ calls) }
         ensures spare { (n : ℕ) → (self.old.fails ≡ []) × (n ≤ self.old.room)
             → (((self.new.fails ≡ []) × (n ≤ self.new.room))) × OnOk result ((self.new.fails ≡ []) × IsSome self.new.facts.here × (n ≤ self.new.room)) }
         ensures begun { OnOk result (ReadSo self.new none_read) }
@@ -179,7 +187,7 @@ impl Door for MemoryDoor {
         // Beyond a door's promise: which calls fail, and all that each call leaves.
         ensures fails { IsErr result ↔ ((Contains self.old.fails (counted self.old.calls)) ⊎ (self.old.facts.coming ≡ [])) }
         ensures err { OnErr result (self.new ≡ record self.old { calls = counted self.old.calls; door_faults = counted self.old.door_faults }) }
-        ensures ok { OnOk result (self.new ≡ record self.old { facts = after_accept self.old.facts; calls = counted self.old.calls; read = 0; read_before = 0 }) }
+        ensures ok { OnOk result (self.new ≡ record self.old { facts = after_accept self.old.facts; calls = counted self.old.calls; read = 0; read_before = 0; heard = self.old.heard ++ Accepted ∷ [] }) }
     {
         if self.is_to_fail() {
             return Err(self.door_fault());
@@ -191,6 +199,7 @@ impl Door for MemoryDoor {
                 self.answers.begin();
                 self.read = 0;
                 self.read_before = 0;
+                self.heard = self.heard.and(&Call::accepted());
                 Ok(())
             }
         }
@@ -211,13 +220,13 @@ impl Door for MemoryDoor {
         ensures reliable { (n : ℕ) → (self.old.fails ≡ []) × IsSome self.old.facts.here × (n ≤ self.old.room)
             → IsOk result × ((self.new.fails ≡ []) × IsSome self.new.facts.here × (n ≤ self.new.room)) }
         ensures spare { (n : ℕ) → (self.old.fails ≡ []) × (n ≤ self.old.room) → (self.new.fails ≡ []) × (n ≤ self.new.room) }
-        ensures heard { (calls : List DoorCall) → Unit {0} → MatchResult result (λ _. Unit {0}) (λ _. Unit {0}) }
+        ensures heard { (calls : List DoorCall) → self.old.heard ≡ calls → MatchResult result (λ _. self.new.heard ≡ calls) (λ _. self.new.heard ≡ calls ++ LineFailed ∷ []) }
         ensures counts { (counts : ReadCounts) → ReadSo self.old counts
             → MatchResult result (λ count. ReadSo self.new (read_more count counts)) (λ _. ReadSo self.new counts) }
 
         // Beyond a door's promise: which calls fail, and all that each call leaves.
         ensures fails { IsErr result ↔ ((Contains self.old.fails (counted self.old.calls)) ⊎ (self.old.facts.here ≡ None)) }
-        ensures err { OnErr result (self.new ≡ record self.old { calls = counted self.old.calls; connection_faults = counted self.old.connection_faults }) }
+        ensures err { OnErr result (self.new ≡ record self.old { calls = counted self.old.calls; connection_faults = counted self.old.connection_faults; heard = self.old.heard ++ LineFailed ∷ [] }) }
         ensures count { IfOk result (λ count. Known self.old.facts.here (λ all. count ≡ min (length all) (length buf.old))) }
         ensures ok { IfOk result (λ count. self.new ≡ counted_read count (record self.old { facts = after_read count self.old.facts; calls = counted self.old.calls })) }
     {
@@ -250,12 +259,12 @@ impl Door for MemoryDoor {
             → IsOkAnd result (λ count. (self.new.fails ≡ []) × IsSome self.new.facts.here × (n - count ≤ self.new.room)) }
         ensures spare { (n : ℕ) → (self.old.fails ≡ []) × (n ≤ self.old.room)
             → MatchResult result (λ count. (self.new.fails ≡ []) × (n - count ≤ self.new.room)) (λ _. (self.new.fails ≡ []) × (n ≤ self.new.room)) }
-        ensures heard { (calls : List DoorCall) → Unit {0} → MatchResult result (λ _. Unit {0}) (λ _. Unit {0}) }
+        ensures heard { (calls : List DoorCall) → self.old.heard ≡ calls → MatchResult result (λ _. self.new.heard ≡ calls) (λ _. self.new.heard ≡ calls ++ LineFailed ∷ []) }
         ensures counts { (counts : ReadCounts) → ReadSo self.old counts → ReadSo self.new counts }
 
         // Beyond a door's promise: which calls fail, and all that each call leaves.
         ensures fails { IsErr result ↔ ((Contains self.old.fails (counted self.old.calls)) ⊎ ((self.old.facts.here ≡ None) ⊎ (self.old.room < length piece.now))) }
-        ensures err { OnErr result (self.new ≡ record self.old { calls = counted self.old.calls; connection_faults = counted self.old.connection_faults }) }
+        ensures err { OnErr result (self.new ≡ record self.old { calls = counted self.old.calls; connection_faults = counted self.old.connection_faults; heard = self.old.heard ++ LineFailed ∷ [] }) }
         ensures ok { IfOk result (λ count. (count ≡ length piece.now)
             × (self.new ≡ record self.old { facts = after_write piece.now self.old.facts; room = self.old.room - count; calls = counted self.old.calls })) }
     {
@@ -273,7 +282,7 @@ impl Door for MemoryDoor {
         ensures served { (n : ℕ) → (self.old.fails ≡ []) × (n ≤ length self.old.facts.coming)
             → (self.new.fails ≡ []) × (n ≤ length self.new.facts.coming) }
         ensures spare { (n : ℕ) → (self.old.fails ≡ []) × (n ≤ self.old.room) → (self.new.fails ≡ []) × (n ≤ self.new.room) }
-        ensures heard { (calls : List DoorCall) → Unit {0} → Unit {0} }
+        ensures heard { (calls : List DoorCall) → self.old.heard ≡ calls → self.new.heard ≡ calls }
         ensures counts { (counts : ReadCounts) → ReadSo self.old counts → ReadSo self.new counts }
 
         // Beyond a door's promise: all that it leaves, and that it is no call that counts.
