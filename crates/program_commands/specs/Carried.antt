@@ -36,7 +36,8 @@ abbrev pub ended_by : {W : Type 0} → (W → WorldFacts) → Result (Option W) 
 ended_by facts (Ok left) = record { status = statuses.Done; world = option_map facts left }
 ended_by facts (Err ending) = record { status = status_of ending; world = None }
 
--- words go by these bytes: by those of a source that is read, which are those that it tells, if it tells any; and else by none
+-- words go by these bytes: by those of a source that is read, which
+-- are those that it tells, if it tells any; and else by none
 abbrev pub GoesBy : Option Command → Option (List ℕ) → List ℕ → Type 0
 GoesBy words rest bytes = Known (heeded (reads words) rest) (λ all. bytes ≡ all)
 

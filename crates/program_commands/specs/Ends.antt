@@ -42,7 +42,8 @@ abbrev pub address_in : Option Command → List ℕ
 address_in (Some (Serve member address count)) = address
 address_in _ = []
 
--- the connections of a plan came to a door that was opened at this address, once and before them, and each failed for itself
+-- the connections of a plan came to a door that was opened at this
+-- address, once and before them, and each failed for itself
 abbrev pub IsApart : {D : Type 0} → DoorGhosts D → D → D → List ℕ → Status → Verdict → Type 0
 IsApart door was now address status (Makes (Serves script id count visitors)) =
     ComeApart door was now (serving_of status) (after_steps (cluster_of script.head) (steps_of script.body)) id

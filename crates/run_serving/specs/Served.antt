@@ -73,7 +73,8 @@ FailApart (visitor ∷ more) was now =
 abbrev pub due_on : Cluster → MemberId → List Connection → ℕ
 due_on cluster id [] = 0
 due_on cluster id (visitor ∷ more) =
-    length (bytes_due cluster id visitor) + due_on (after_steps cluster (steps_of_connection cluster id visitor)) id more
+    length (bytes_due cluster id visitor)
+    + due_on (after_steps cluster (steps_of_connection cluster id visitor)) id more
 
 -- a door was called for this first, and for these connections then; or an error came before that, and it wasn't called
 abbrev pub IsCalledFor : {D X : Type 0} → DoorGhosts D → D → Result X ServeError → List DoorCall → List DoorCall

@@ -76,6 +76,7 @@ pub record IsLate (id : MemberId) (start : Cluster) (visit : Visit) (reply : Rep
       (run_events start (steps.Connection id visit ∷ replicate most_waiting steps.Scheduled)) ≡ None
   pub says : reply ≡ refusal_reply NoResult
 
--- a reply to what a connection brought is what the agent told this request, or says that no result came in time, and none did
+-- a reply to what a connection brought is what the agent told this
+-- request, or says that no result came in time, and none did
 abbrev pub IsOwed : ℕ → MemberId → Cluster → Visit → List Event → ReplyText → Type 0
 IsOwed number id start visit events reply = IsTold number id start events reply ⊎ IsLate id start visit reply
