@@ -1,5 +1,5 @@
 -- A reply that is waited for, over ticks of the default schedule.
-use Rattle.std.proofs.Common.{ℕ, ◌≡◌, ◌==◌, Bool, true, false, cond, List, [], ◌∷◌, ◌++◌, slice_get, Option, Some, None, zero, suc, refl, ◌∙◌, ap, sym, subst, inl, inr, append-nil, option_map, replicate}
+use Rattle.std.proofs.Common.{ℕ, ◌≡◌, ◌⊎◌, ◌==◌, Bool, true, false, cond, List, [], ◌∷◌, ◌++◌, slice_get, Option, Some, None, zero, suc, refl, ◌∙◌, ap, sym, subst, inl, inr, append-nil, option_map, replicate}
 use Rattle.std.proofs.lemmas.Option.{none-some, same_Some}
 use Rattle.std.specs.Map.{keys_of}
 use Rattle.std.specs.Option.{option_or}
