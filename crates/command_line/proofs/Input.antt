@@ -1,5 +1,5 @@
 -- Input that is read up to one byte more than a script may have.
-use Rattle.std.proofs.Common.{◌≡◌, ℕ, ◌<◌, ◌+◌, ◌-◌, ◌^◌, min, nat_lt, List, [], length, take, drop, Some, None, Ok, true, arith, refl, ◌∙◌, ap, sym, subst, take_all, inl, inr}
+use Rattle.std.proofs.Common.{◌≡◌, ℕ, ◌<◌, ◌+◌, ◌-◌, ◌^◌, min, nat_lt, List, [], length, take, drop, Option, Some, None, Result, Ok, Err, IsErrAnd, MatchResult, true, arith, refl, ◌∙◌, ap, sym, subst, take_all, inl, inr}
 use Rattle.std.proofs.lemmas.List.{length-take, drop_all}
 use Rattle.std.proofs.lemmas.Bool.Decides.{nat_tests}
 use Rattle.std.proofs.lemmas.Bool.{cases_lt}
@@ -11,7 +11,10 @@ use Rattle.command_line.specs.Limits.{KeepsLimits, most_read}
 use Rattle.script_grammar.specs.declared.limit.Limit.TheVariants.{Bytes}
 use Rattle.command_line.specs.declared.ending.Ending.{Ending}
 use Rattle.command_line.specs.declared.ending.Ending.TheVariants as endings
-use Rattle.command_line.specs.Status.{Refuses}
+use Rattle.command_line.specs.Status.{Refuses, ending_of_read}
+use Rattle.pat_outside.specs.declared.transfer.ReadError.{ReadError}
+use Rattle.pat_outside.specs.declared.transfer.ReadError.TheVariants as reads
+use Rattle.pat_outside.specs.Outside.{Known}
 
 too-long : (waited : ℕ) (bytes : List ℕ) → most_bytes < length bytes → limit_of waited bytes ≡ Some Bytes
 too-long waited bytes long =
@@ -80,3 +83,26 @@ module _ (n waited : ℕ) (counted : waited ≡ min n (2 ^ 64 - 1)) where
   -- a script within the limits by what is counted is so by all
   pub keeps-counted : (script : ScriptText) → KeepsLimits waited script → KeepsLimits n script
   keeps-counted script few = record { ticks = omega (arith, few.ticks, counted); lines = few.lines }
+
+-- what holds of the bytes that a source tells, if it tells any, and of
+-- those that were read, holds of some, which it tells then
+pub some-bytes : (rest : Option (List ℕ)) (read : List ℕ) (P : List ℕ → Type 0) → Known rest P → P read
+    → (bytes : List ℕ) × Known rest (λ all. bytes ≡ all) × P bytes
+some-bytes None read P known own = (read, λ all is. absurd (nothing all is), own)
+  where
+    nothing : (all : List ℕ) → ◌≡◌ {A = Option (List ℕ)} None (Some all) → ⊥
+    nothing all e = cc
+some-bytes (Some told) read P known own = (told, λ all is. cc, known told refl)
+
+-- a read that failed, or memory that was wanting for one, refuses no bytes
+pub refuses-none : {T : Type 0} (waited : ℕ) (error : ReadError) (result : Result T Ending) (M : T → Type 0)
+    (bytes : List ℕ) → IsErrAnd result (λ ending. ending ≡ ending_of_read error)
+    → MatchResult result M (λ ending. Refuses waited ending bytes)
+refuses-none waited error (Ok made) M bytes fails = absurd fails
+refuses-none waited error (Err ending) M bytes fails =
+    let same : ending ≡ ending_of_read error = fails in
+    rw same (by-error error)
+  where
+    by-error : (error : ReadError) → Refuses waited (ending_of_read error) bytes
+    by-error reads.Fault = tt
+    by-error reads.Memory = tt

@@ -1,5 +1,5 @@
 //! The script of a source.
-ghost use Rattle.std.specs.Prelude.{◌≡◌, ◌≢◌, Some, None, Ok, Err, [], IfOk, IfErr, IsErrOf};
+ghost use Rattle.std.specs.Prelude.{ℕ, ◌≡◌, ◌≢◌, List, Some, None, Ok, Err, [], IfOk, IfErr, IsErrOf, MatchResult};
 ghost use Rattle.pat_outside.specs.Outside.{Known, Rose, Consumed};
 ghost use Rattle.script_grammar.specs.Limits.{limit_of};
 ghost use Rattle.script_grammar.specs.Reading.{script_of};
@@ -26,6 +26,9 @@ pub fn script_from<S: Source>(alloc: Global, waited: u64, input: &mut S) -> Resu
     ensures fault { IsErrOf result Ending.ReadFault → Rose (S.faults input.old) (S.faults input.new) }
     ensures reliable { S.is_reliable input.old → result ≢ Err Ending.ReadFault }
     ensures consumed { Consumed (S.rest input.old) (S.rest input.new) most_read }
+    // Also of a source that tells nothing: there are bytes, those that it tells where it does, of which this is the script, or the refusal.
+    ensures bytes { (bytes : List ℕ) × Known (S.rest input.old) (λ all. bytes ≡ all)
+        × MatchResult result (λ script. (limit_of waited bytes ≡ None) × (script_of bytes ≡ Ok script)) (λ ending. Refuses waited ending bytes) }
 {
     let bytes = read_at_most(alloc, input, MOST_READ)?;
     script_in(alloc, waited, &bytes)

@@ -203,12 +203,12 @@ clock-of number (kinds.Agent (agents.Started agent incarnation)) is = absurd is
 clock-of number _ is = tt
 
 -- the acknowledgements that an agent waits for, as the law sees them
-record IsCheck (ask : Ask) (found : Option PendingQuestion) (failsafe_check : FailsafeCheck) : Type 0 where
-  waited : PendingQuestion
-  is : found ≡ Some waited
-  staying : is_staying waited.question ≡ true
-  sequence : failsafe_check.sequence ≡ waited.sequence
-  members : failsafe_check.members ≡ set_members ask.members
+pub record IsCheck (ask : Ask) (found : Option PendingQuestion) (failsafe_check : FailsafeCheck) : Type 0 where
+  pub waited : PendingQuestion
+  pub is : found ≡ Some waited
+  pub staying : is_staying waited.question ≡ true
+  pub sequence : failsafe_check.sequence ≡ waited.sequence
+  pub members : failsafe_check.members ≡ set_members ask.members
 
 pub check-is : (ask : Ask) (found : Option PendingQuestion) (failsafe_check : FailsafeCheck)
     → check_seen ask found ≡ Some failsafe_check → IsCheck ask found failsafe_check

@@ -1,5 +1,5 @@
 -- What is said of doors.
-use Rattle.std.specs.Prelude.{ℕ, List, [], ◌∷◌, ◌++◌, ◌≡◌, drop, Option, Some, None, option_map}
+use Rattle.std.specs.Prelude.{ℕ, ◌+◌, List, [], ◌∷◌, ◌++◌, ◌≡◌, drop, Option, Some, None, option_map}
 
 -- the connections still to be accepted, with their bytes; the bytes still to come on the present one,
 -- and none where none is accepted; and what was answered on each that was accepted, the present one last
@@ -47,3 +47,23 @@ after_write bytes facts = record facts { answered = grow_last bytes facts.answer
 -- the facts after the present connection ended
 abbrev pub after_hang_up : DoorFacts → DoorFacts
 after_hang_up facts = record facts { here = None }
+
+-- what a door was called for: it was opened at this address, the next connection
+-- was accepted, or a read or a write of the present connection failed
+pub data DoorCall : Type 0 where
+  Opened : List ℕ → DoorCall
+  Accepted : DoorCall
+  Failed : DoorCall
+
+-- how many bytes were read of a connection, and how many of them before the last read of it
+pub record ReadCounts : Type 0 where
+  pub all : ℕ
+  pub before : ℕ
+
+-- nothing was read yet
+abbrev pub none_read : ReadCounts
+none_read = record { all = 0; before = 0 }
+
+-- the counts after one more read, of so many bytes
+abbrev pub read_more : ℕ → ReadCounts → ReadCounts
+read_more count counts = record { all = counts.all + count; before = counts.all }

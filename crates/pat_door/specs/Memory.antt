@@ -1,6 +1,6 @@
 -- What a door in memory holds.
-use Rattle.std.specs.Prelude.{ℕ, ◌-◌, ◌≤◌, List, [], ◌∷◌, take, drop}
-use Rattle.pat_door.specs.Doors.{DoorFacts}
+use Rattle.std.specs.Prelude.{ℕ, ◌≡◌, ◌+◌, ◌-◌, ◌^◌, ◌<◌, ◌≤◌, List, [], ◌∷◌, take, drop, min}
+use Rattle.pat_door.specs.Doors.{DoorCall, DoorFacts, ReadCounts}
 
 -- the connections and the answers, the room left for answers, the numbers
 -- of the calls that are to fail, and how many calls and faults there were
@@ -11,6 +11,11 @@ pub record DoorState : Type 0 where
   pub calls : ℕ
   pub door_faults : ℕ
   pub connection_faults : ℕ
+  -- how many bytes were read of the connection that was accepted last, and how many of them before the last read
+  pub read : ℕ
+  pub read_before : ℕ
+  -- what it was called for
+  pub heard : List DoorCall
 
 -- the answers so far, the room left for their bytes, and how many more may begin
 pub record AnswerState : Type 0 where
@@ -37,3 +42,11 @@ AreInOrderFrom start (next ∷ more) end = (start ≤ next) × AreInOrderFrom ne
 abbrev pub AreInOrder : List ℕ → ℕ → Type 0
 AreInOrder [] end = Unit {0}
 AreInOrder (start ∷ more) end = AreInOrderFrom start more end
+
+-- these are the counts of what was read, as far as a counter goes
+abbrev pub ReadSo : DoorState → ReadCounts → Type 0
+ReadSo state counts = counts.all < 2 ^ 64 → (state.read ≡ counts.all) × (state.read_before ≡ counts.before)
+
+-- the counters after one more read, of so many bytes
+abbrev pub counted_read : ℕ → DoorState → DoorState
+counted_read count state = record state { read = min (state.read + count) (2 ^ 64 - 1); read_before = state.read }

@@ -2,6 +2,7 @@
 #![tactic(auto)]
 
 mod answers;
+mod call;
 mod door;
 mod laws;
 mod listener;

@@ -1,7 +1,9 @@
 //! The trusted edge: a TCP listener as a door. It tells nothing of what comes or of what was answered.
-ghost use Rattle.std.specs.Prelude.{◌≡◌, ◌<◌, ◌≤◌, length, None, IfSome};
+ghost use Rattle.std.specs.Prelude.{[], ◌≡◌, ◌<◌, ◌≤◌, length, None, IfSome};
 
 use crate::Door;
+use crate::call::Call;
+use ghost_list::GhostList;
 use pat_outside::Failed;
 use std::io::{Read, Write};
 use std::net::{Net, OpenListener, OpenStream, Shutdown, TcpListener};
@@ -16,6 +18,8 @@ pub struct ListenerDoor<R: Net + Drop> {
     stream: Option<R::Stream>,
     door_faults: u64,
     connection_faults: u64,
+    /// What it was called for.
+    heard: GhostList<Call>,
 }
 
 impl<R: Net + Drop> ListenerDoor<R> {
@@ -23,6 +27,7 @@ impl<R: Net + Drop> ListenerDoor<R> {
     pub fn new(net: R) -> Self
         ensures door_faults { ⟦<ListenerDoor<R> as Door>⟧.door_faults result ≡ 0 }
         ensures connection_faults { ⟦<ListenerDoor<R> as Door>⟧.connection_faults result ≡ 0 }
+        ensures unheard { ⟦<ListenerDoor<R> as Door>⟧.heard result [] }
         ensures untold { ⟦<ListenerDoor<R> as Door>⟧.told result ≡ None }
     {
         ListenerDoor {
@@ -31,6 +36,7 @@ impl<R: Net + Drop> ListenerDoor<R> {
             stream: None,
             door_faults: 0,
             connection_faults: 0,
+            heard: GhostList::new(),
         }
     }
 
@@ -38,6 +44,7 @@ impl<R: Net + Drop> ListenerDoor<R> {
     fn shut(&mut self)
         ensures door { self.new.door_faults ≡ self.old.door_faults }
         ensures line { self.new.connection_faults ≡ self.old.connection_faults }
+        ensures heard { self.new.heard.items ≡ self.old.heard.items }
     {
         if let Some(stream) = self.stream.take() {
             let _ = stream.shutdown(Shutdown::Both);
@@ -86,10 +93,17 @@ impl<R: Net + Drop> Door for ListenerDoor<R> {
 
     ghost takes = { λ _ _. ⊥ };
 
+    ghost has_room = { λ _ _. ⊥ };
+
+    ghost heard = { λ s calls. s.heard.items ≡ calls };
+
+    ghost has_read = { λ _ _. Unit {0} };
+
     fn open(&mut self, address: &[u8]) -> Result<(), Failed> {
         match listen(&self.net, address) {
             Some(listener) => {
                 self.listener = Some(listener);
+                self.heard = self.heard.and(&Call::opened(address));
                 Ok(())
             }
             None => {
@@ -104,6 +118,7 @@ impl<R: Net + Drop> Door for ListenerDoor<R> {
             Some(stream) => {
                 self.shut();
                 self.stream = Some(stream);
+                self.heard = self.heard.and(&Call::accepted());
                 Ok(())
             }
             None => {
@@ -118,6 +133,7 @@ impl<R: Net + Drop> Door for ListenerDoor<R> {
             Some(count) => Ok(count),
             None => {
                 self.connection_faults = self.connection_faults.saturating_add(1);
+                self.heard = self.heard.and(&Call::failed());
                 Err(Failed)
             }
         }
@@ -128,6 +144,7 @@ impl<R: Net + Drop> Door for ListenerDoor<R> {
             Some(count) => Ok(count),
             None => {
                 self.connection_faults = self.connection_faults.saturating_add(1);
+                self.heard = self.heard.and(&Call::failed());
                 Err(Failed)
             }
         }

@@ -1,12 +1,15 @@
 //! A door in memory, with the calls that are to fail: for tests and for callers that embed the program.
-ghost use Rattle.std.specs.Prelude.{ℕ, ◌≡◌, ◌<◌, ◌≤◌, ◌-◌, ◌↔◌, ◌⊎◌, [], length, map, take, Some, None, Contains, min, IfOk, IsOk, IsSome, IsOkAnd, IsErr, IsTrue, OnOk, OnErr, option_copied, slice_get};
+ghost use Rattle.std.specs.Prelude.{ℕ, ◌≡◌, ◌<◌, ◌≤◌, ◌-◌, ◌++◌, ◌∷◌, ◌↔◌, ◌⊎◌, [], List, length, map, take, Some, None, Contains, min, IfOk, IsOk, IsSome, IsOkAnd, IsErr, IsTrue, OnOk, OnErr, MatchResult, option_copied, slice_get};
 ghost use Rattle.pat_outside.specs.Outside.{Known, Rose};
 ghost use Rattle.pat_outside.specs.Memory.{counted};
-ghost use Rattle.pat_door.specs.Doors.{Tells, bytes_here, after_accept, after_read, after_write, after_hang_up};
+ghost use Rattle.pat_door.specs.Memory.{DoorState, ReadSo, counted_read};
+ghost use Rattle.pat_door.specs.Doors.{Accepted, DoorCall, Failed as LineFailed, Opened, ReadCounts, Tells, bytes_here, none_read, read_more, after_accept, after_read, after_write, after_hang_up};
 
 use crate::Door;
 use crate::answers::Answers;
+use crate::call::Call;
 use crate::unread::Unread;
+use ghost_list::GhostList;
 use pat_outside::Failed;
 use std::alloc::{AllocError, Global};
 use std::collections::VecDeque;
@@ -25,6 +28,11 @@ pub struct MemoryDoor {
     calls: u64,
     door_faults: u64,
     connection_faults: u64,
+    // How many bytes were read of the connection that was accepted last, and how many of them before the last read.
+    read: u64,
+    read_before: u64,
+    // What it was called for.
+    heard: GhostList<Call>,
 }
 
 impl Model for MemoryDoor {
@@ -41,6 +49,9 @@ impl Model for MemoryDoor {
       calls = s.calls;
       door_faults = s.door_faults;
       connection_faults = s.connection_faults;
+      read = s.read;
+      read_before = s.read_before;
+      heard = s.heard.items;
     } };
 
     ghost invariant = { λ s. deque_len s.coming ≤ s.answers.unbegun };
@@ -62,6 +73,9 @@ impl MemoryDoor {
           calls = 0;
           door_faults = 0;
           connection_faults = 0;
+          read = 0;
+          read_before = 0;
+          heard = [];
         }) }
     {
         let answers = Answers::new(alloc, room, connections.len())?;
@@ -73,6 +87,9 @@ impl MemoryDoor {
             calls: 0,
             door_faults: 0,
             connection_faults: 0,
+            read: 0,
+            read_before: 0,
+            heard: GhostList::new(),
         })
     }
 
@@ -103,10 +120,11 @@ impl MemoryDoor {
 
     /// Counts a fault of `read` or `write`.
     fn line_fault(&mut self) -> Failed
-        ensures after { self.new ≡ record self.old { connection_faults = counted self.old.connection_faults } }
+        ensures after { self.new ≡ record self.old { connection_faults = counted self.old.connection_faults; heard = self.old.heard ++ LineFailed ∷ [] } }
         ensures grows { self.old.connection_faults ≤ self.new.connection_faults }
     {
         self.connection_faults = self.connection_faults.saturating_add(1);
+        self.heard = self.heard.and(&Call::failed());
         Failed
     }
 }
@@ -122,6 +140,12 @@ impl Door for MemoryDoor {
 
     ghost takes = { λ s n. (s.fails ≡ []) × IsSome s.facts.here × (n ≤ s.room) };
 
+    ghost has_room = { λ s n. (s.fails ≡ []) × (n ≤ s.room) };
+
+    ghost heard = { λ s calls. s.heard ≡ calls };
+
+    ghost has_read = { λ s counts. ReadSo s counts };
+
     fn open(&mut self, address: &[u8]) -> Result<(), Failed>
         ensures same { Some self.new.facts ≡ Some self.old.facts }
         ensures failed { OnErr result (Rose self.old.door_faults self.new.door_faults) }
@@ -129,15 +153,19 @@ impl Door for MemoryDoor {
         ensures line { self.new.connection_faults ≡ self.old.connection_faults }
         ensures served { (n : ℕ) → (self.old.fails ≡ []) × (n ≤ length self.old.facts.coming)
             → IsOk result × ((self.new.fails ≡ []) × (n ≤ length self.new.facts.coming)) }
+        ensures heard { (calls : List DoorCall) → self.old.heard ≡ calls → MatchResult result (λ _. self.new.heard ≡ calls ++ Opened address.now ∷ []) (λ _. self.new.heard ≡ calls) }
+        ensures spare { (n : ℕ) → (self.old.fails ≡ []) × (n ≤ self.old.room) → (self.new.fails ≡ []) × (n ≤ self.new.room) }
+        ensures counts { (counts : ReadCounts) → ReadSo self.old counts → ReadSo self.new counts }
 
         // Beyond a door's promise: which calls fail, and all that each call leaves.
         ensures fails { IsErr result ↔ Contains self.old.fails (counted self.old.calls) }
         ensures err { OnErr result (self.new ≡ record self.old { calls = counted self.old.calls; door_faults = counted self.old.door_faults }) }
-        ensures ok { OnOk result (self.new ≡ record self.old { calls = counted self.old.calls }) }
+        ensures ok { OnOk result (self.new ≡ record self.old { calls = counted self.old.calls; heard = self.old.heard ++ Opened address.now ∷ [] }) }
     {
         if self.is_to_fail() {
             return Err(self.door_fault());
         }
+        self.heard = self.heard.and(&Call::opened(address));
         Ok(())
     }
 
@@ -150,11 +178,16 @@ impl Door for MemoryDoor {
         ensures line { self.new.connection_faults ≡ self.old.connection_faults }
         ensures served { (n : ℕ) → (self.old.fails ≡ []) × (n ≤ length self.old.facts.coming) → 0 < n
             → IsOk result × ((self.new.fails ≡ []) × (n - 1 ≤ length self.new.facts.coming)) }
+        ensures heard { (calls : List DoorCall) → self.old.heard ≡ calls → MatchResult result (λ _. self.new.heard ≡ calls ++ Accepted ∷ []) (λ _. self.new.heard ≡ calls) }
+        ensures spare { (n : ℕ) → (self.old.fails ≡ []) × (n ≤ self.old.room)
+            → (((self.new.fails ≡ []) × (n ≤ self.new.room))) × OnOk result ((self.new.fails ≡ []) × IsSome self.new.facts.here × (n ≤ self.new.room)) }
+        ensures begun { OnOk result (ReadSo self.new none_read) }
+        ensures counts { OnErr result ((counts : ReadCounts) → ReadSo self.old counts → ReadSo self.new counts) }
 
         // Beyond a door's promise: which calls fail, and all that each call leaves.
         ensures fails { IsErr result ↔ ((Contains self.old.fails (counted self.old.calls)) ⊎ (self.old.facts.coming ≡ [])) }
         ensures err { OnErr result (self.new ≡ record self.old { calls = counted self.old.calls; door_faults = counted self.old.door_faults }) }
-        ensures ok { OnOk result (self.new ≡ record self.old { facts = after_accept self.old.facts; calls = counted self.old.calls }) }
+        ensures ok { OnOk result (self.new ≡ record self.old { facts = after_accept self.old.facts; calls = counted self.old.calls; read = 0; read_before = 0; heard = self.old.heard ++ Accepted ∷ [] }) }
     {
         if self.is_to_fail() {
             return Err(self.door_fault());
@@ -164,6 +197,9 @@ impl Door for MemoryDoor {
             Some(bytes) => {
                 self.here = Some(Unread::new(bytes));
                 self.answers.begin();
+                self.read = 0;
+                self.read_before = 0;
+                self.heard = self.heard.and(&Call::accepted());
                 Ok(())
             }
         }
@@ -183,19 +219,28 @@ impl Door for MemoryDoor {
             → (self.new.fails ≡ []) × (n ≤ length self.new.facts.coming) }
         ensures reliable { (n : ℕ) → (self.old.fails ≡ []) × IsSome self.old.facts.here × (n ≤ self.old.room)
             → IsOk result × ((self.new.fails ≡ []) × IsSome self.new.facts.here × (n ≤ self.new.room)) }
+        ensures spare { (n : ℕ) → (self.old.fails ≡ []) × (n ≤ self.old.room) → (self.new.fails ≡ []) × (n ≤ self.new.room) }
+        ensures heard { (calls : List DoorCall) → self.old.heard ≡ calls → MatchResult result (λ _. self.new.heard ≡ calls) (λ _. self.new.heard ≡ calls ++ LineFailed ∷ []) }
+        ensures counts { (counts : ReadCounts) → ReadSo self.old counts
+            → MatchResult result (λ count. ReadSo self.new (read_more count counts)) (λ _. ReadSo self.new counts) }
 
         // Beyond a door's promise: which calls fail, and all that each call leaves.
         ensures fails { IsErr result ↔ ((Contains self.old.fails (counted self.old.calls)) ⊎ (self.old.facts.here ≡ None)) }
-        ensures err { OnErr result (self.new ≡ record self.old { calls = counted self.old.calls; connection_faults = counted self.old.connection_faults }) }
+        ensures err { OnErr result (self.new ≡ record self.old { calls = counted self.old.calls; connection_faults = counted self.old.connection_faults; heard = self.old.heard ++ LineFailed ∷ [] }) }
         ensures count { IfOk result (λ count. Known self.old.facts.here (λ all. count ≡ min (length all) (length buf.old))) }
-        ensures ok { IfOk result (λ count. self.new ≡ record self.old { facts = after_read count self.old.facts; calls = counted self.old.calls }) }
+        ensures ok { IfOk result (λ count. self.new ≡ counted_read count (record self.old { facts = after_read count self.old.facts; calls = counted self.old.calls })) }
     {
         if self.is_to_fail() {
             return Err(self.line_fault());
         }
         match &mut self.here {
             None => Err(self.line_fault()),
-            Some(unread) => Ok(unread.read(buf)),
+            Some(unread) => {
+                let count = unread.read(buf);
+                self.read_before = self.read;
+                self.read = self.read.saturating_add(count as u64);
+                Ok(count)
+            }
         }
     }
 
@@ -212,10 +257,14 @@ impl Door for MemoryDoor {
             → (self.new.fails ≡ []) × (n ≤ length self.new.facts.coming) }
         ensures room { (n : ℕ) → (self.old.fails ≡ []) × IsSome self.old.facts.here × (n ≤ self.old.room) → length piece.now ≤ n
             → IsOkAnd result (λ count. (self.new.fails ≡ []) × IsSome self.new.facts.here × (n - count ≤ self.new.room)) }
+        ensures spare { (n : ℕ) → (self.old.fails ≡ []) × (n ≤ self.old.room)
+            → MatchResult result (λ count. (self.new.fails ≡ []) × (n - count ≤ self.new.room)) (λ _. (self.new.fails ≡ []) × (n ≤ self.new.room)) }
+        ensures heard { (calls : List DoorCall) → self.old.heard ≡ calls → MatchResult result (λ _. self.new.heard ≡ calls) (λ _. self.new.heard ≡ calls ++ LineFailed ∷ []) }
+        ensures counts { (counts : ReadCounts) → ReadSo self.old counts → ReadSo self.new counts }
 
         // Beyond a door's promise: which calls fail, and all that each call leaves.
         ensures fails { IsErr result ↔ ((Contains self.old.fails (counted self.old.calls)) ⊎ ((self.old.facts.here ≡ None) ⊎ (self.old.room < length piece.now))) }
-        ensures err { OnErr result (self.new ≡ record self.old { calls = counted self.old.calls; connection_faults = counted self.old.connection_faults }) }
+        ensures err { OnErr result (self.new ≡ record self.old { calls = counted self.old.calls; connection_faults = counted self.old.connection_faults; heard = self.old.heard ++ LineFailed ∷ [] }) }
         ensures ok { IfOk result (λ count. (count ≡ length piece.now)
             × (self.new ≡ record self.old { facts = after_write piece.now self.old.facts; room = self.old.room - count; calls = counted self.old.calls })) }
     {
@@ -232,6 +281,9 @@ impl Door for MemoryDoor {
         ensures line { self.new.connection_faults ≡ self.old.connection_faults }
         ensures served { (n : ℕ) → (self.old.fails ≡ []) × (n ≤ length self.old.facts.coming)
             → (self.new.fails ≡ []) × (n ≤ length self.new.facts.coming) }
+        ensures spare { (n : ℕ) → (self.old.fails ≡ []) × (n ≤ self.old.room) → (self.new.fails ≡ []) × (n ≤ self.new.room) }
+        ensures heard { (calls : List DoorCall) → self.old.heard ≡ calls → self.new.heard ≡ calls }
+        ensures counts { (counts : ReadCounts) → ReadSo self.old counts → ReadSo self.new counts }
 
         // Beyond a door's promise: all that it leaves, and that it is no call that counts.
         ensures all { self.new ≡ record self.old { facts = after_hang_up self.old.facts } }

@@ -9,16 +9,19 @@ use Rattle.event_list.specs.Listed.{Listed, traced_list, ◌+++◌}
 use Rattle.cluster_model.specs.declared.step.Step.{Step}
 use Rattle.cluster_model.specs.Cluster.{cluster_over}
 use Rattle.cluster_model.specs.Next.{next_events, run_events}
+use Rattle.cluster_model.specs.Starting.{cluster_of}
 use Rattle.cluster_model.specs.State.{Cluster}
 use Rattle.cluster_model.specs.Steps.{names_in}
 use Rattle.world_model.specs.Emits.{Emits}
 use Rattle.world_model.proofs.Taking.{cluster_over-append, members-stay}
 use Rattle.world_model.specs.Room.{step_cost}
-use Rattle.run_model.specs.Run.{events_by_step}
+use Rattle.run_model.specs.Run.{Played, events_by_step, run_of}
+use Rattle.simulation.specs.Book.{StandsFor}
 use Rattle.simulation.specs.Steps.{HasStepsLeft, TookSteps, WorldFacts}
 use Rattle.run_model.proofs.Steps.{run_events-both}
+use Rattle.simulation.proofs.Standing.{is-stands}
 use Rattle.simulation.proofs.Stepping.{TookSteps-none, TookSteps-then, steps-left-behind, steps-left-fewer}
-use Rattle.pat_serve.specs.Serving.{Brings}
+use Rattle.pat_serve.specs.Serving.{Brings, GoesOn}
 
 events_by_step-append : (world : Cluster) (steps rest : List Step)
     → events_by_step world (steps ++ rest)
@@ -111,3 +114,18 @@ Brings-then first second third had mid has steps rest p q = record {
       (ap (λ w. events_by_step first.cluster steps ++ events_by_step w rest) p.cluster
       ∙ sym (events_by_step-append first.cluster steps rest));
 }
+
+-- the run that brought the world here goes on by these steps
+pub goes-on : (before after : WorldFacts) (had has : List Listed) (steps : List Step)
+    → Brings before after had has steps → (played : Played)
+    → StandsFor (cluster_of played.head) (run_of played) before.cluster
+    → GoesOn played before.cluster after.cluster had has
+goes-on before after had has steps b played stands =
+    let start = cluster_of played.head in
+    record {
+      more = steps;
+      events = b.events;
+      stands = is-stands start (run_of (record { head = played.head; steps = played.steps ++ steps })) after.cluster
+          (b.cluster ∙ ap (λ (w : Cluster). cluster_over w (run_events w steps)) stands.world_is
+          ∙ run-over start played.steps steps);
+    }

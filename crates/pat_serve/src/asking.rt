@@ -1,7 +1,8 @@
 //! What a connection asks, as what it brings to a run.
-ghost use Rattle.std.specs.Prelude.{ℕ, ◌≡◌, ◌≢◌, ◌≤◌, Ok, None, IfOk, IfSome, OnOk};
+ghost use Rattle.std.specs.Prelude.{ℕ, ◌≡◌, ◌≢◌, ◌≤◌, ◌++◌, ◌∷◌, [], List, Ok, None, is_none, IfOk, IfSome, MatchOption, OnOk};
 ghost use Rattle.pat_outside.specs.Outside.{Known, Rose};
-ghost use Rattle.pat_door.specs.Doors.{Tells, after_read, bytes_here};
+ghost use Rattle.pat_door.specs.Doors.{DoorCall, Failed, Tells, after_read, bytes_here};
+ghost use Rattle.rest_connection.specs.Connections.{ReadsToAnswer};
 ghost use Rattle.serve_model.specs.Connections.{asks_for_a_head, first_visit};
 ghost use Rattle.pat_serve.specs.Serving.{IsFaultOf, IsRead};
 
@@ -25,6 +26,9 @@ pub(crate) fn asked_on<D: Door>(
     ensures door { D.door_faults door.new ≡ D.door_faults door.old }
     ensures served { (n : ℕ) → D.serves door.old n → D.serves door.new n }
     ensures reliable { (n : ℕ) → D.takes door.old n → D.takes door.new n × (result ≢ Ok None) }
+    ensures early { IfOk result (λ asks. ReadsToAnswer D.Door door.old door.new (is_none asks)) }
+    ensures spare { (n : ℕ) → D.has_room door.old n → D.has_room door.new n }
+    ensures heard { (calls : List DoorCall) → D.heard door.old calls → IfOk result (λ asks. MatchOption asks (D.heard door.new (calls ++ Failed ∷ [])) (λ _. D.heard door.new calls)) }
 {
     match read_request_from(alloc, door) {
         Ok(request) => Ok(Some(Ok(request))),

@@ -1,11 +1,11 @@
 //! What an agent replied, read off events, and written to a connection.
-ghost use Rattle.std.specs.Prelude.{ℕ, List, ◌≡◌, ◌≢◌, ◌≤◌, ◌-◌, Ok, Some, false, length, IfOk, OnOk, option_map};
+ghost use Rattle.std.specs.Prelude.{ℕ, List, ◌≡◌, ◌≢◌, ◌≤◌, ◌-◌, Ok, Some, true, false, length, IfOk, OnOk, option_map};
 ghost use Rattle.pat_outside.specs.Outside.{Rose};
-ghost use Rattle.pat_door.specs.Doors.{Tells, after_write};
+ghost use Rattle.pat_door.specs.Doors.{DoorCall, ReadCounts, Tells, after_write};
 ghost use Rattle.rest_message.specs.Replies.{reply_text};
 ghost use Rattle.rest_reply.specs.Replies.{reply_bytes};
 ghost use Rattle.serve_model.specs.Connections.{IsSent, reply_by, reply_in};
-ghost use Rattle.pat_serve.specs.Serving.{course_of};
+ghost use Rattle.pat_serve.specs.Serving.{calls_by, course_of};
 
 use event_book::{Event, EventKind, Note};
 use pat_base::MemberId;
@@ -64,6 +64,9 @@ pub(crate) fn is_written<D: Door>(
     ensures door { D.door_faults door.new ≡ D.door_faults door.old }
     ensures served { (n : ℕ) → D.serves door.old n → D.serves door.new n }
     ensures room { (n : ℕ) → D.takes door.old n → length (reply_bytes (reply_text reply.now) head_only) ≤ n → result ≢ Ok false }
+    ensures spare { (n : ℕ) → D.has_room door.old n → IfOk result (λ whole. whole ≡ true → D.has_room door.new (n - length (reply_bytes (reply_text reply.now) head_only))) }
+    ensures heard { (calls : List DoorCall) → D.heard door.old calls → IfOk result (λ whole. D.heard door.new (calls_by (course_of whole) calls)) }
+    ensures counts { (counts : ReadCounts) → D.has_read door.old counts → D.has_read door.new counts }
 {
     match write_reply_to(alloc, door, reply, head_only) {
         Ok(()) => Ok(true),

@@ -2,12 +2,15 @@
 ghost use Rattle.std.specs.Prelude.{ℕ, Bool, ◌≡◌, ◌+◌, ◌≤◌, ◌∷◌, [], option_map, IfOk, OnOk};
 ghost use Rattle.script_model.specs.Script.{IsMember};
 ghost use Rattle.cluster_model.specs.Next.{next_events};
+ghost use Rattle.cluster_model.specs.Starting.{cluster_of};
 ghost use Rattle.cluster_model.specs.Steps.{IsStep, names_in};
 ghost use Rattle.pat_door.specs.Doors.{after_hang_up};
+ghost use Rattle.run_model.specs.Run.{Played, run_of};
+ghost use Rattle.simulation.specs.Book.{StandsFor};
 ghost use Rattle.simulation.specs.Steps.{HasStepsLeft};
 ghost use Rattle.rest_message.specs.Replies.{reply_text};
 ghost use Rattle.serve_model.specs.Connections.{Connection, connection_cost, failure_steps, most_waiting, replied, replied_steps, reply_in, steps_of_connection, waiting_steps};
-ghost use Rattle.pat_serve.specs.Serving.{Answers, Brings, Serves};
+ghost use Rattle.pat_serve.specs.Serving.{Answers, Brings, GoesOn, Serves};
 
 use crate::asking::{asked_on, asks_for_a_head, first_visit};
 use crate::replying::{is_written, reply_in};
@@ -42,6 +45,9 @@ pub fn serve_one<W: Simulation, D: Door>(
     ensures serves { OnOk result ((connection : Connection)
         × Brings (W.facts world.old) (W.facts world.new) events.old.items events.new.items (steps_of_connection (W.facts world.old).cluster member connection)
         × Serves D.Door door.old door.new (D.told door.new) (W.facts world.old).cluster member connection) }
+    // Whichever run brought the world here goes on: what is promised of every run was promised of it, and is so of the world after it.
+    ensures goes_on { OnOk result ((played : Played) → StandsFor (cluster_of played.head) (run_of played) (W.facts world.old).cluster
+        → GoesOn played (W.facts world.old).cluster (W.facts world.new).cluster events.old.items events.new.items) }
     ensures grows { D.connection_faults door.old ≤ D.connection_faults door.new }
     ensures door { D.door_faults door.new ≡ D.door_faults door.old }
     ensures served { (n : ℕ) → D.serves door.old n → D.serves door.new n }

@@ -1,11 +1,10 @@
 //! The top call.
-ghost use Rattle.std.specs.Prelude.{List, ◌≡◌, ◌↔◌, None, map, string_bytes};
-ghost use Rattle.pat_outside.specs.Outside.{Known};
+ghost use Rattle.std.specs.Prelude.{ℕ, List, ◌≡◌, ◌↔◌, None, map, string_bytes};
 ghost use Rattle.serve_model.specs.Connections.{Connection};
 ghost use Rattle.promise_law.specs.Claims.{KeepsPromises};
-ghost use Rattle.command_line.specs.Commands.{command_of, heeded, reads};
+ghost use Rattle.command_line.specs.Commands.{command_of};
 ghost use Rattle.command_line.specs.Status.{status_of, message_of, IsReported};
-ghost use Rattle.program_commands.specs.Carried.{Carries};
+ghost use Rattle.program_commands.specs.Carried.{Carries, GoesBy};
 ghost use Rattle.program_commands.specs.Verdicts.{IfPlayed, Says, verdict_of};
 
 use crate::Ended;
@@ -41,16 +40,17 @@ pub fn run<S: Source, K: Sink, E: Sink, D: Door>(
 ) -> Ended
     // The words are a command, or that is all that is said.
     ensures usage { (result.status ≡ Status.Usage) ↔ (command_of (map string_bytes words.now) ≡ None) }
-    // These connections came: the status says what came of the words by the bytes of the input and by them, what was written of that, and
-    // what was sent on each; and a run that was played leaves its world.
-    ensures carried { (visitors : List Connection) × Carries S.Source K.Sink D.Door input.old input.new out.old out.new door.old door.new (command_of (map string_bytes words.now)) visitors (record { status = result.status; world = result.world }) }
-    // What is played has one writer while the premises are met, keeps commits while synchronous mode is on too, and its summary is true,
-    // whoever connects.
-    ensures promises { (visitors : List Connection) → Known (heeded (reads (command_of (map string_bytes words.now))) (S.rest input.old)) (λ bytes. IfPlayed KeepsPromises (verdict_of (command_of (map string_bytes words.now)) visitors bytes)) }
-    // The line told is that of the status; the fault with its line, or the limit, that it names is the input's or that of the words.
-    ensures reported { (ending : Ending) × (status_of ending ≡ result.status)
-        × ((visitors : List Connection) → Known (heeded (reads (command_of (map string_bytes words.now))) (S.rest input.old)) (λ bytes. Says ending (verdict_of (command_of (map string_bytes words.now)) visitors bytes)))
+    // There are bytes, those that the input tells where it tells any, and these connections came: the status says what came of the words
+    // by both, what was written of that, and what was sent on each; and a run that was played leaves its world. The line told is that of
+    // the status; the fault with its line, or the limit, that it names is that of these bytes or of the words.
+    ensures carried { (bytes : List ℕ) × GoesBy (command_of (map string_bytes words.now)) (S.rest input.old) bytes
+        × ((visitors : List Connection) × Carries S.Source K.Sink D.Door input.old input.new out.old out.new door.old door.new (command_of (map string_bytes words.now)) bytes visitors (record { status = result.status; world = result.world }))
+        × (ending : Ending) × (status_of ending ≡ result.status)
+        × ((visitors : List Connection) → Says ending (verdict_of (command_of (map string_bytes words.now)) visitors bytes))
         × IsReported E.Sink err.old err.new (message_of ending) }
+    // What is played, of any bytes, has one writer while the premises are met, keeps commits while synchronous mode is on too, and its
+    // summary is true, whoever connects.
+    ensures promises { (visitors : List Connection) (bytes : List ℕ) → IfPlayed KeepsPromises (verdict_of (command_of (map string_bytes words.now)) visitors bytes) }
 {
     let Some(order) = Order::read(words) else {
         report(err, Ending::Usage);

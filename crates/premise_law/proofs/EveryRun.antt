@@ -1,14 +1,12 @@
 -- Each run keeps what is owed of each of its events.
-use Rattle.std.proofs.Common.{ℕ, ◌≡◌, ◌≤◌, ◌==◌, ◌&&◌, ◌++◌, Bool, true, false, List, [], ◌∷◌, length, slice_get, Option, Some, None, All, option_map, refl, ◌∙◌, ap, sym, subst, append_assoc}
+use Rattle.std.proofs.Common.{ℕ, ◌≡◌, ◌≤◌, ◌==◌, ◌&&◌, ◌++◌, Bool, true, false, List, [], ◌∷◌, length, slice_get, Option, Some, None, option_map, refl, ◌∙◌, ap, sym, subst, append_assoc}
 use Rattle.std.proofs.lemmas.Option.{slice_get-map}
 use Rattle.pat_base.specs.declared.member_id.MemberId.{MemberId}
 use Rattle.pat_base.specs.declared.member_id.TheConstants.{MOST_MEMBERS}
 use Rattle.pat_base.specs.declared.ticks.Ticks.{Ticks}
-use Rattle.store_keys.specs.declared.txn.Txn.{Txn}
 use Rattle.lease_store.specs.declared.granted.Granted.{Granted}
 use Rattle.cluster_view.specs.Snapshots.{SnapshotFacts}
 use Rattle.script_model.specs.Script.{HeadText, IsHead, names_of}
-use Rattle.event_book.specs.declared.agent_process.AgentProcess.{AgentProcess}
 use Rattle.event_book.specs.declared.event.AgentEvent.TheVariants as agents
 use Rattle.event_book.specs.declared.event.Event.{Event}
 use Rattle.event_book.specs.declared.event.EventKind.{EventKind}
@@ -47,6 +45,7 @@ use Rattle.cluster_model.proofs.Places.{get-here}
 use Rattle.run_promise.specs.Members.{declared_members}
 use Rattle.run_promise.specs.Parts.{PartsUphold}
 use Rattle.run_promise.proofs.Members.{few-names, members-over, numbered}
+use Rattle.run_promise.proofs.Upholding.{over-append}
 use Rattle.run_promise.proofs.Walking.{upholds-run}
 use Rattle.lease_parts.specs.Machines.{run_in, run_now}
 use Rattle.lease_inputs.proofs.InputStays.{each-mine}
@@ -250,7 +249,7 @@ module _ (head : HeadText) (few : length (names_of head) ≤ MOST_MEMBERS) where
         (ap (λ (c : Cluster). c.facts.members) good.left ∙ members-over (cluster_of head) book)) ∙ is)
 
     -- ---- an input of an agent
-    module _ (member : Member) (opening : EventKind) (message : HeardMessage) (opens : Says Start book opening) where
+    module _ (member : Member) (opening : EventKind) (message : HeardMessage) (opens : Says head book opening) where
       abbrev Opened : List Event
       Opened = event_of cluster opening
 
@@ -258,7 +257,7 @@ module _ (head : HeadText) (few : length (names_of head) ≤ MOST_MEMBERS) where
       First = cluster_after cluster opening
 
       abbrev Owed : Option Outcome → Type 0
-      Owed outcome = AreSaid Start book (Opened ++ input_events First member message outcome)
+      Owed outcome = AreSaid head book (Opened ++ input_events First member message outcome)
 
       idle : Owed None
       idle = (opens, tt)
@@ -280,16 +279,18 @@ module _ (head : HeadText) (few : length (names_of head) ≤ MOST_MEMBERS) where
           let F : Type 0 = HearsLease agent.knows.who.me heard in
           let front : List Event = book ++ Opened in
           let knows : Knowing Start front First = knowing-over Start book cluster Opened knowing in
+          let left : First ≡ cluster_over (cluster_of head) front =
+          ap (λ (c : Cluster). cluster_over c Opened) good.left ∙ sym (over-append (cluster_of head) book Opened) in
           let there : slice_get First.agents member.id.number ≡ Some (Some after) =
           ap (λ (l : List (Option AgentFacts)). slice_get l member.id.number)
           (acted ∙ ap (agent_facts_with cluster.agents member)
           (the-outcome cluster member heard (Some agent) (Some machine) a m))
           ∙ get-here cluster.agents member.id.number (agent_after (Some x))
           ∙ ap (option_map (agent_after (Some x))) (at-place (slice_get cluster.agents member.id.number) agent a) in
-          said-both Start book Opened (each (output_events member message) First x.outputs) (opens, tt)
-          (input-said member incarnation message.number U F Start front First knows
+          said-both head book Opened (each (output_events member message) First x.outputs) (opens, tt)
+          (input-said member incarnation message.number U F head front First knows
           (λ done all is. lease agent.knows.who.me is done all)
-          (outside-read member incarnation message.number U F Start front First knows after there)
+          (outside-read member incarnation message.number U F head front First knows left after there)
           (each (output_events member message) First x.outputs)
           (each-mine member incarnation message.number (λ output. TellsOnly U F output) First message refl (record {
             process = λ process found. sym (ap run_now found);
@@ -364,21 +365,21 @@ module _ (head : HeadText) (few : length (names_of head) ≤ MOST_MEMBERS) where
           ∙ ap (λ (x : Option Heard). agent_facts_with cluster.agents member (outcome_of_heard cluster member x)) h
 
       heard-said : (heard : Option Heard) → heard_from cluster carried ≡ heard
-          → AreSaid Start book
+          → AreSaid head book
           (event_of cluster Arrived ++ input_events (cluster_after cluster Arrived) member
           (heard_message number carried) (outcome_of_heard cluster member heard))
       heard-said None h = (record { feeds = tt; passes = tt; sends = tt }, tt)
       heard-said (Some heard) h = hears-it member Arrived (heard_message number carried)
           (record { feeds = tt; passes = tt; sends = tt }) heard (acted (Some heard) h) (lease-by heard h)
 
-      hearing-said : AreSaid Start book (hear_events cluster number carried member)
+      hearing-said : AreSaid head book (hear_events cluster number carried member)
       hearing-said = heard-said (heard_from cluster carried) refl
 
-    wake-said : (member : Member) → AreSaid Start book (wake_events_of cluster member)
+    wake-said : (member : Member) → AreSaid head book (wake_events_of cluster member)
     wake-said member = hears-it member (kinds.Agent (agents.Woken member)) no_message
         (record { feeds = tt; passes = tt; sends = tt }) heards.Wake refl (λ me mine. absurd mine)
 
-    operated-said : (member : Member) (action : _) → AreSaid Start book (operate_events cluster member action)
+    operated-said : (member : Member) (action : _) → AreSaid head book (operate_events cluster member action)
     operated-said member action = hears-it member (kinds.Agent (agents.Operated member action)) no_message
         (record { feeds = tt; passes = tt; sends = tt }) (heards.Operated action) refl (λ me mine. absurd mine)
 
@@ -399,7 +400,7 @@ module _ (head : HeadText) (few : length (names_of head) ≤ MOST_MEMBERS) where
     };
     arrivals = λ book cluster number message good found to. upheld-said head book cluster _ good (
       record { feeds = tt; passes = tt; sends = tt },
-      answer-said Start _ _ number message.message message.message.body,
+      answer-said head _ _ number message.message message.message.body,
     );
     losses = λ number book cluster good. upheld-untold head book cluster _ good (tt, tt);
     notes = λ note book cluster good. upheld-untold head book cluster _ good (tt, tt);
@@ -419,7 +420,7 @@ module _ (head : HeadText) (few : length (names_of head) ≤ MOST_MEMBERS) where
   first-said : SaidSoFar head [] (cluster_of head)
   first-said = record { all = λ front rest event e. absurd (no-more front event rest e); left = refl }
 
-  all-said : (steps : List Step) → AllSaid Start (run_events (cluster_of head) steps)
+  all-said : (steps : List Step) → AllSaid head (run_events (cluster_of head) steps)
   all-said steps = ((upholds-run IsAny (said head) (composable head) parts steps [] (cluster_of head) first-said).behind
       tt).all
 
@@ -428,5 +429,5 @@ pub runs-feed : (head : HeadText) → IsHead head → (steps : List Step)
 runs-feed head is steps front rest event e = (all-said head (few-names head is) steps front rest event e).feeds
 
 pub runs-pass : (head : HeadText) → IsHead head → (steps : List Step)
-    → PassOutside (start_in head) (run_events (cluster_of head) steps)
+    → PassOutside head (run_events (cluster_of head) steps)
 runs-pass head is steps front rest event e = (all-said head (few-names head is) steps front rest event e).passes

@@ -1,13 +1,11 @@
 -- What an input of an agent tells of a watchdog that is fed, and of the sync key.
-use Rattle.std.proofs.Common.{ℕ, ◌≡◌, ◌⊎◌, ◌≤◌, ◌==◌, ◌||◌, ◌++◌, Bool, true, false, List, [], ◌∷◌, length, slice_get, Option, Some, None, All, option_map, refl, ◌∙◌, ap, sym, subst, append_assoc, append-nil, arith, inl, inr}
+use Rattle.std.proofs.Common.{ℕ, ◌≡◌, ◌==◌, ◌||◌, ◌++◌, Bool, true, false, List, [], ◌∷◌, slice_get, Option, Some, None, refl, ◌∙◌, ap, sym, subst, append_assoc, append-nil, arith}
 use Rattle.std.proofs.lemmas.Bool.Decides.{nat_tests}
 use Rattle.pat_base.specs.declared.member_id.MemberId.{MemberId}
-use Rattle.pat_base.specs.declared.member_id.TheConstants.{MOST_MEMBERS}
 use Rattle.pat_base.specs.declared.ticks.Ticks.{Ticks}
-use Rattle.store_keys.specs.declared.value.SyncKey.{SyncKey}
 use Rattle.lease_store.specs.declared.granted.Granted.{Granted}
 use Rattle.cluster_view.specs.Naming.{is_named}
-use Rattle.script_model.specs.Script.{HeadText, names_of}
+use Rattle.script_model.specs.Script.{HeadText}
 use Rattle.event_book.specs.declared.event.AgentEvent.TheVariants as agents
 use Rattle.event_book.specs.declared.event.Event.{Event}
 use Rattle.event_book.specs.declared.event.EventKind.{EventKind}
@@ -19,14 +17,15 @@ use Rattle.event_book.specs.declared.message.Body.{Body}
 use Rattle.event_book.specs.declared.message.Body.TheVariants as bodies
 use Rattle.event_book.specs.declared.message.Message.{Message}
 use Rattle.event_book.specs.declared.reason.Basis.{Basis}
-use Rattle.event_book.specs.declared.reason.Basis.TheVariants as bases
-use Rattle.event_book.specs.Facts.{Facts}
 use Rattle.event_book.specs.Kinds.{AllAre}
 use Rattle.agent_model.specs.declared.knowledge.SyncRead.{SyncRead}
 use Rattle.agent_model.specs.declared.output.Output.{Output}
 use Rattle.agent_model.specs.Agents.{AgentFacts}
 use Rattle.agent_model.specs.Synchronous.{is_named_if}
 use Rattle.cluster_model.specs.Cluster.{cluster_over}
+use Rattle.cluster_model.specs.Starting.{cluster_of}
+use Rattle.commit_runs.specs.Runs.{start_in}
+use Rattle.run_promise.proofs.Upholding.{over-append}
 use Rattle.cluster_model.specs.State.{Cluster}
 use Rattle.cluster_model.proofs.Lists.{all-both, all-more}
 use Rattle.lease_inputs.specs.InputEvents.{AnswersPeer, AnswersRequest, Asks, AsksPeer, ByFailsafe, ByGrant, IsFeedOf, IsMessageOf, IsOfInput}
@@ -35,8 +34,7 @@ use Rattle.sync_order.specs.Order.{has}
 use Rattle.premise_law.specs.Feeding.{ActsOnItsGrant, BeginsNoInput, IsFedOnItsGrant}
 use Rattle.premise_law.specs.Passing.{HasReadOthers}
 use Rattle.premise_law.proofs.ReadKeys.{Knowing, knowing-over}
-use Rattle.premise_law.proofs.Runs.{AreSaid, IsOfGrant, Says, TellsGrant}
-use Rattle.premise_law.proofs.TakeOvers.{none-some}
+use Rattle.premise_law.proofs.Runs.{AreSaid, Says, TellsGrant}
 use Rattle.premise_law.proofs.Telling.{IsInquiry, TellsOnly}
 
 pub no-way : true ≡ false → ⊥
@@ -88,10 +86,11 @@ module _ (member : Member) (incarnation heard : ℕ) (U F : Type 0) where
   mine-within _ is = tt
 
   -- behind the event with which the input begins
-  module _ (start : Facts) (front : List Event) (cluster : Cluster) (knows : Knowing start front cluster)
+  module _ (head : HeadText) (front : List Event) (cluster : Cluster)
+      (knows : Knowing (start_in head) front cluster)
       (lease : (done : List Event) → AllAre BeginsNoInput done → F → ActsOnItsGrant (front ++ done) member heard)
       (outside : (done : List Event) → AllAre Mine done → U →
-      HasReadOthers start (front ++ done) member.id.number) where
+      HasReadOthers head (front ++ done) member.id.number) where
     fed-says : (done : List Event) → AllAre Mine done → (by : Member) (until : Ticks) (basis : Basis) → by ≡ member
         → IsFeedOf heard Q until basis → IsFedOnItsGrant (front ++ done) (watchdogs.Fed by until basis)
     fed-says done all by until basis is (ByGrant same from) =
@@ -102,7 +101,7 @@ module _ (member : Member) (incarnation heard : ℕ) (U F : Type 0) where
         subst (λ (b : Basis). IsFedOnItsGrant (front ++ done) (watchdogs.Fed by until b)) (sym same) tt
 
     mine-says : (done : List Event) → AllAre Mine done → (kind : EventKind) → Mine kind
-        → Says start (front ++ done) kind
+        → Says head (front ++ done) kind
     mine-says done all (kinds.Message (messages.Sent number message)) is =
         record { feeds = tt; passes = tt; sends = sent-tells (front ++ done) message is }
     mine-says done all (kinds.Watchdog (watchdogs.Armed by until answer)) is = record {
@@ -116,41 +115,46 @@ module _ (member : Member) (incarnation heard : ℕ) (U F : Type 0) where
         record { feeds = fed-says done all by until basis is.0 is.1; passes = tt; sends = tt }
     mine-says done all (kinds.Agent (agents.Passed by)) is = record {
       feeds = tt;
-      passes = subst (λ (m : Member). HasReadOthers start (front ++ done) m.id.number) (sym is.0)
+      passes = subst (λ (m : Member). HasReadOthers head (front ++ done) m.id.number) (sym is.0)
           (outside done all is.1);
       sends = tt;
     }
     mine-says done all _ is = record { feeds = tt; passes = tt; sends = tt }
 
     mine-said : (done events : List Event) → AllAre Mine done → AllAre Mine events
-        → AreSaid start (front ++ done) events
+        → AreSaid head (front ++ done) events
     mine-said done [] all more = tt
     mine-said done (event ∷ events) all more = (
       mine-says done all event.kind more.0,
-      subst (λ (l : List Event). AreSaid start l events) (sym (append_assoc front done (event ∷ [])))
+      subst (λ (l : List Event). AreSaid head l events) (sym (append_assoc front done (event ∷ [])))
           (mine-said (done ++ event ∷ []) events (all-both Mine done (event ∷ []) all (more.0, tt)) more.1),
     )
 
-    pub input-said : (events : List Event) → AllAre Mine events → AreSaid start front events
+    pub input-said : (events : List Event) → AllAre Mine events → AreSaid head front events
     input-said events more =
-        subst (λ (l : List Event). AreSaid start l events) (append-nil front) (mine-said [] events tt more)
+        subst (λ (l : List Event). AreSaid head l events) (append-nil front) (mine-said [] events tt more)
 
   -- who passes has read that the sync key doesn't name it: the agent is as its input left it
-  pub outside-read : (start : Facts) (front : List Event) (cluster : Cluster) → Knowing start front cluster
+  pub outside-read : (head : HeadText) (front : List Event) (cluster : Cluster)
+      → Knowing (start_in head) front cluster → cluster ≡ cluster_over (cluster_of head) front
       → (agent : AgentFacts) → slice_get cluster.agents member.id.number ≡ Some (Some agent)
       → (done : List Event) → AllAre Mine done → is_named_if agent.knows.who.me agent.knows.turn_sync ≡ false
-      → HasReadOthers start (front ++ done) member.id.number
-  outside-read start front cluster knows agent here done all outside =
-      let later : Knowing start (front ++ done) (cluster_over cluster done) =
-      knowing-over start front cluster done knows in
+      → HasReadOthers head (front ++ done) member.id.number
+  outside-read head front cluster knows left agent here done all outside =
+      let later : Knowing (start_in head) (front ++ done) (cluster_over cluster done) =
+      knowing-over (start_in head) front cluster done knows in
       let stays = stays-over member incarnation heard Q cluster done all in
-      let its = later.known member.id.number agent
-      (ap (λ (l : List (Option AgentFacts)). slice_get l member.id.number) stays.agents ∙ here) in
+      let there : slice_get (cluster_over cluster done).agents member.id.number ≡ Some (Some agent) =
+      ap (λ (l : List (Option AgentFacts)). slice_get l member.id.number) stays.agents ∙ here in
+      let its = later.known member.id.number agent there in
       let read = unnamed-read agent.knows.who.me agent.knows.turn_sync outside in
       let parts = not-one _ _ read.2 in
       record {
-        key = read.0.key;
-        revision = read.0.revision;
+        agent = agent;
+        stands = ap (λ (c : Cluster). slice_get c.agents member.id.number)
+            (over-append (cluster_of head) front done ∙ ap (λ (c : Cluster). cluster_over c done) (sym left)) ∙ there;
+        turn = read.0;
+        is = read.1;
         read = its.read read.0 read.1;
         leader = λ same. not-same read.0.key.leader.number agent.knows.who.me.number parts.0 (same ∙ sym its.me);
         standbys = ap (has read.0.key.standbys) (sym its.me) ∙ parts.1;

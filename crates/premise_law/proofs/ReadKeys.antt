@@ -1,5 +1,5 @@
 -- What an agent knows that its turn read of the sync key, an answer of the key store told it, in every book.
-use Rattle.std.proofs.Common.{ℕ, ◌≡◌, ◌≢◌, ◌⊎◌, ◌++◌, Bool, true, false, List, [], ◌∷◌, slice_get, Option, Some, None, option_and_then, option_map, refl, ◌∙◌, ap, sym, subst, append_assoc, append-nil, inl, inr}
+use Rattle.std.proofs.Common.{ℕ, ◌≡◌, ◌++◌, List, [], ◌∷◌, slice_get, Option, Some, None, option_map, refl, ◌∙◌, ap, sym, subst, append_assoc, append-nil, inl, inr}
 use Rattle.std.proofs.lemmas.Bool.{cases_eq}
 use Rattle.std.specs.FinMap.{find}
 use Rattle.pat_base.specs.Changes.{with_changed}
@@ -27,8 +27,7 @@ use Rattle.event_book.specs.declared.member.Member.{Member}
 use Rattle.event_book.specs.declared.message.Body.{Body}
 use Rattle.event_book.specs.declared.message.Body.TheVariants as bodies
 use Rattle.event_book.specs.Facts.{Facts, facts_after, facts_over}
-use Rattle.event_book.specs.Flight.{InFlightFacts, in_flight, launched, snapshot_for}
-use Rattle.event_book.specs.Kinds.{AllAre}
+use Rattle.event_book.specs.Flight.{InFlightFacts, in_flight, snapshot_for}
 use Rattle.agent_model.specs.declared.heard.Heard.{Heard}
 use Rattle.agent_model.specs.declared.heard.Heard.TheVariants as heards
 use Rattle.agent_model.specs.declared.knowledge.SyncRead.{SyncRead}
@@ -47,7 +46,7 @@ use Rattle.cluster_model.proofs.Lists.{all-both}
 use Rattle.cluster_model.proofs.Places.{get-elsewhere, get-here}
 use Rattle.premise_law.specs.Passing.{HasRead, HasSync, IsMemberAt, StartsNone}
 use Rattle.premise_law.proofs.Readings.{Flown, WasSent, behind, flown-on}
-use Rattle.premise_law.proofs.TakeOvers.{agent_in, at-place, facts-of, none-some, over-one, some-same}
+use Rattle.premise_law.proofs.TakeOvers.{at-place, none-some, some-same}
 use Rattle.premise_law.proofs.Telling.{step-told, told_by}
 
 -- whose agent it is, and what it knows that its turn read of the sync key

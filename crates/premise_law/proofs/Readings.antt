@@ -1,32 +1,18 @@
 -- What an agent knows that its turn read of the sync key, an answer of the key store told it.
-use Rattle.std.proofs.Common.{ℕ, ◌≡◌, ◌≢◌, ◌⊎◌, ◌<◌, ◌≤◌, ◌++◌, Bool, true, false, List, [], ◌∷◌, slice_get, Option, Some, None, option_and_then, option_map, refl, ◌∙◌, ap, sym, subst, append_assoc, append-nil, arith, inl, inr}
+use Rattle.std.proofs.Common.{ℕ, ◌≡◌, ◌++◌, List, [], ◌∷◌, Option, Some, None, refl, ◌∙◌, ap, sym, subst, append_assoc, arith, inl, inr}
 use Rattle.std.proofs.lemmas.Bool.{cases_eq}
-use Rattle.pat_base.specs.Changes.{with_changed}
 use Rattle.pat_base.specs.declared.ticks.Ticks.{Ticks}
-use Rattle.store_keys.specs.declared.value.KeyEntry.{KeyEntry}
-use Rattle.store_keys.specs.declared.value.SyncKey.{SyncKey}
-use Rattle.store_keys.specs.declared.value.Value.{Value}
-use Rattle.store_keys.specs.declared.value.Value.TheVariants as values
-use Rattle.lease_store.specs.Answers.{present_pairs}
-use Rattle.cluster_view.specs.KeyValues.{sync_by}
-use Rattle.cluster_view.specs.Snapshots.{SnapshotFacts}
-use Rattle.script_model.specs.Script.{HeadText}
-use Rattle.event_book.specs.declared.event.AgentEvent.TheVariants as agents
 use Rattle.event_book.specs.declared.event.Event.{Event}
 use Rattle.event_book.specs.declared.event.EventKind.{EventKind}
 use Rattle.event_book.specs.declared.event.EventKind.TheVariants as kinds
 use Rattle.event_book.specs.declared.event.MessageEvent.TheVariants as messages
-use Rattle.event_book.specs.declared.message.Body.{Body}
-use Rattle.event_book.specs.declared.message.Body.TheVariants as bodies
 use Rattle.event_book.specs.declared.message.Message.{Message}
 use Rattle.event_book.specs.Facts.{Facts, facts_after, facts_over}
 use Rattle.event_book.specs.Flight.{Flight, InFlightFacts, in_flight, launched, without_message}
 use Rattle.event_book.specs.Functions.{put_at}
-use Rattle.event_book.specs.Kinds.{AllAre}
 use Rattle.lease_model.proofs.Tools.{dropped, put-here, put-there, some-is}
 use Rattle.lease_book.specs.Flights.{Rises}
 use Rattle.lease_book.proofs.Entries.{in-with, in-without, rises-with, rises-without}
-use Rattle.premise_law.specs.Passing.{HasRead, HasSync, StartsNone}
 
 none-some : {A : Type 0} (x : A) → ◌≡◌ {A = Option A} None (Some x) → ⊥
 none-some x e = cc

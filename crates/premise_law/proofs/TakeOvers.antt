@@ -1,5 +1,5 @@
 -- Each event by which a member takes over its running server leaves noted where the log of that ends.
-use Rattle.std.proofs.Common.{ℕ, ◌≡◌, ◌≢◌, ◌⊎◌, ◌++◌, Bool, true, false, List, [], ◌∷◌, slice_get, Option, Some, None, is_some, option_and_then, option_map, refl, ◌∙◌, ap, sym, subst, inl, inr}
+use Rattle.std.proofs.Common.{ℕ, ◌≡◌, ◌≢◌, ◌++◌, Bool, true, false, List, [], ◌∷◌, slice_get, Option, Some, None, is_some, option_and_then, option_map, refl, ◌∙◌, ap, sym, subst, inl, inr}
 use Rattle.std.proofs.lemmas.Bool.{cases_eq}
 use Rattle.std.proofs.lemmas.Option.{slice_get-map}
 use Rattle.pat_base.specs.ServerState.{live}
@@ -9,7 +9,6 @@ use Rattle.pat_base.specs.declared.ticks.Ticks.{Ticks}
 use Rattle.member_options.specs.declared.member_option.MemberOptions.{MemberOptions}
 use Rattle.wal_model.specs.Log.{end_of}
 use Rattle.wal_model.specs.declared.entry.Entry.{Entry}
-use Rattle.wal_model.specs.declared.entry.HistoryPoint.{HistoryPoint}
 use Rattle.pg_model.specs.Facts.{ServerFacts, entries_of}
 use Rattle.pg_model.specs.Status.{end_in}
 use Rattle.script_model.specs.Script.{HeadText}
@@ -32,9 +31,9 @@ use Rattle.agent_model.specs.declared.machine.Machine.{Machine}
 use Rattle.agent_model.specs.declared.machine.Replication.{Replication}
 use Rattle.agent_model.specs.Agents.{AgentFacts, Outcome, is_leader, outcome_from}
 use Rattle.agent_model.specs.Table.{step}
-use Rattle.cluster_model.specs.Cluster.{agent_after, agent_facts_after, agent_facts_reached, agent_facts_reached_at, agent_facts_with, agent_facts_without, cluster_after, cluster_over}
+use Rattle.cluster_model.specs.Cluster.{agent_after, agent_facts_after, agent_facts_reached, agent_facts_reached_at, agent_facts_with, cluster_after, cluster_over}
 use Rattle.cluster_model.specs.Hearing.{heard_from}
-use Rattle.cluster_model.specs.Inputs.{agent_at, moment_of, outcome_at, outcome_of, outcome_of_heard}
+use Rattle.cluster_model.specs.Inputs.{agent_at, moment_of, outcome_at, outcome_of_heard}
 use Rattle.cluster_model.specs.FailsafeDeadlines.{is_set_by_failsafe}
 use Rattle.cluster_model.specs.Machines.{machine_from, machine_of, points_of, replication_of}
 use Rattle.cluster_model.specs.Streaming.{source_of}
@@ -43,9 +42,9 @@ use Rattle.cluster_model.specs.Starting.{cluster_of}
 use Rattle.cluster_model.specs.State.{Cluster}
 use Rattle.cluster_model.proofs.Places.{get-elsewhere, get-here}
 use Rattle.commit_parts.specs.Ordered.{noted_by}
-use Rattle.commit_runs.specs.Runs.{first_logs, noted_in, start_in}
+use Rattle.commit_runs.specs.Runs.{first_logs}
 use Rattle.agent_roles.proofs.Living.{no-way}
-use Rattle.premise_law.specs.TakingOver.{NotesTakeOvers, TakesOver, is_led_by}
+use Rattle.premise_law.specs.TakingOver.{NotesTakeOvers, is_led_by}
 use Rattle.premise_law.proofs.Leading.{taking-notes}
 
 pub some-same : {A : Type 0} (x y : A) → ◌≡◌ {A = Option A} (Some x) (Some y) → x ≡ y

@@ -1,9 +1,8 @@
 -- What an input tells: only a grant of the leader key that is waited for arms or feeds a watchdog by a grant,
 -- and lets a member tell that the sync key doesn't name it; and only a read changes what its turn read of that.
-use Rattle.std.proofs.Common.{◌≡◌, ◌⊎◌, ◌+◌, ◌&&◌, ℕ, Bool, true, false, zero, suc, List, [], ◌∷◌, Option, None, Some, All, refl, sym, ap, ◌∙◌, inl, inr}
+use Rattle.std.proofs.Common.{◌≡◌, ◌+◌, ◌&&◌, ℕ, Bool, true, false, zero, suc, List, [], Option, None, Some, All, refl, sym, ap, ◌∙◌, inl, inr}
 use Rattle.std.proofs.lemmas.List.Elements.{All-nil, All-push, All-weaker}
 use Rattle.pat_base.specs.MemberId.{member_of}
-use Rattle.pat_base.specs.declared.ineligibility.Ineligibility.{Ineligibility}
 use Rattle.pat_base.specs.declared.member_id.MemberId.{MemberId}
 use Rattle.pat_base.specs.declared.member_id.TheConstants.{MOST_MEMBERS}
 use Rattle.pat_base.specs.declared.peer_answer.PeerAnswer.{PeerAnswer}
@@ -21,7 +20,6 @@ use Rattle.pg_model.specs.Running.{is_primary}
 use Rattle.event_book.specs.declared.reason.Reason.TheVariants.{FailsafeNotAcknowledged, LeaderKeyLost, StartTooLong, StoreOutOfReach, WatchdogNotArmed}
 use Rattle.agent_model.specs.declared.heard.Heard.{Heard}
 use Rattle.agent_model.specs.declared.heard.Heard.TheVariants as heards
-use Rattle.agent_model.specs.declared.knowledge.PendingQuestion.{PendingQuestion}
 use Rattle.agent_model.specs.declared.knowledge.SyncRead.{SyncRead}
 use Rattle.agent_model.specs.declared.why.Why.TheVariants.{HandOver, Lost}
 use Rattle.agent_model.specs.declared.output.Output.{Output}
@@ -29,11 +27,11 @@ use Rattle.agent_model.specs.declared.output.Output.TheVariants as outputs
 use Rattle.agent_model.specs.declared.output.Target.TheVariants as targets
 use Rattle.agent_model.specs.declared.who.Who.{Who}
 use Rattle.agent_model.specs.declared.why.Why.{Why}
-use Rattle.agent_model.specs.Acting.{armed, arming, deadline_after, disarmed, fed_until, is_refusing, lease_span, requiring, starting_replica, touching, waiting_no_more}
-use Rattle.agent_model.specs.Agents.{AgentFacts, Ending, Follower, Outcome, outcome_from}
+use Rattle.agent_model.specs.Acting.{armed, arming, deadline_after, disarmed, fed_until, is_refusing, lease_span, requiring, touching, waiting_no_more}
+use Rattle.agent_model.specs.Agents.{AgentFacts, Follower, Outcome, outcome_from}
 use Rattle.agent_model.specs.Answers.{asking_first, asking_one, is_other}
 use Rattle.agent_model.specs.Claiming.{begins, begins_or_claims, passing, postpones, told_passing}
-use Rattle.agent_model.specs.Decisions.{arms, cannot_arm, confirming, gives_back, granted, is_decision, is_lease_of, may_take, refused, takes_over, unleased_unarmed}
+use Rattle.agent_model.specs.Decisions.{arms, cannot_arm, confirming, gives_back, granted, is_decision, is_lease_of, may_take, takes_over, unleased_unarmed}
 use Rattle.agent_model.specs.HandingOver.{asking_whom}
 use Rattle.agent_model.specs.Operators.{given_up, learned, looked, operated, restarting, unnumbered, wiping}
 use Rattle.agent_model.specs.Wake.{overdue, turned, woken}
@@ -49,7 +47,7 @@ use Rattle.agent_model.specs.Synchronous.{is_named_if, unnamed}
 use Rattle.agent_model.specs.Table.{granted_any, refused_any, step}
 use Rattle.agent_cases.proofs.Rows.{HandoverRows, ReplyRows, answered-by, before-by, follow-by, free-by, given-up-by, got-by, if-cases, judged-by, looked-by, operated-by, overdue-by, refused-any-by, refused-by, repaired-by, turn-by, wake-by}
 use Rattle.agent_cases.proofs.FailsafeRows.{failsafe-answered-by, failsafe-asked-by}
-use Rattle.agent_cases.proofs.Grants.{DutyRows, GrantRows, begins-or-claims-by, duties-of, granted-any-by, granted-by, judges-start-by, kept_on, leading_in_pause, led_on, renewed-by, takes-in-pause-by}
+use Rattle.agent_cases.proofs.Grants.{DutyRows, GrantRows, begins-or-claims-by, duties-of, granted-any-by, granted-by, judges-start-by, kept_on, leading_in_pause, led_on, renewed-by}
 use Rattle.agent_commit_law.proofs.CommitIdling.{Idle, TurnsOn, answered-idle, any-refused-idle, asked-idle, before-idle, got-idle, looked-idle, operated-idle, stay-answered-idle, stay-asked-idle, wake-idle}
 use Rattle.agent_roles.proofs.Granting.{both-true}
 use Rattle.agent_roles.proofs.Knowing.{before-onward}

@@ -1,9 +1,7 @@
 -- The parts of a step but inputs of agents and arrivals at the key store
 -- arm and feed no watchdog, send nothing, and have no member pass.
-use Rattle.std.proofs.Common.{ℕ, Bool, true, false, cond, List, [], ◌∷◌, ◌++◌, Option, Some, None, option_and_then, slice_get, ◌+◌}
+use Rattle.std.proofs.Common.{ℕ, Bool, true, false, cond, List, [], ◌∷◌, Option, Some, None, slice_get, ◌+◌}
 use Rattle.pat_base.specs.declared.lsn.Lsn.{Lsn}
-use Rattle.pat_base.specs.declared.server_state.State.{State}
-use Rattle.pat_base.specs.declared.server_state.State.TheVariants as states
 use Rattle.pat_base.specs.declared.ticks.Ticks.{Ticks}
 use Rattle.pat_base.specs.ServerState.{live}
 use Rattle.store_keys.specs.declared.key.Key.{Key}
@@ -16,7 +14,6 @@ use Rattle.pg_model.specs.Facts.{ServerFacts, entries_of, is_replica}
 use Rattle.pg_model.specs.declared.answers.Streamed.{Streamed}
 use Rattle.pg_model.specs.declared.answers.Streamed.TheVariants as streams
 use Rattle.script_model.specs.declared.line.Command.{Command}
-use Rattle.event_book.specs.declared.agent_process.AgentProcess.{AgentProcess}
 use Rattle.event_book.specs.declared.event.AgentEvent.TheVariants as agents
 use Rattle.event_book.specs.declared.event.Event.{Event}
 use Rattle.event_book.specs.declared.event.EventKind.{EventKind}
@@ -37,9 +34,9 @@ use Rattle.cluster_model.specs.Cluster.{cluster_after, cluster_over}
 use Rattle.cluster_model.specs.Commands.{agent_started, disarm_at_start, disarm_if, disarm_of, kinds_of}
 use Rattle.cluster_model.specs.Losing.{beginning_kinds, is_lacking, loss_if, loss_of, losses_of}
 use Rattle.cluster_model.specs.Machines.{machine_of}
-use Rattle.cluster_model.specs.Next.{acknowledge_events, agent_start_events, command_kind, confirm_events, declared, promote_events, receive_events, receive_events_at_most}
+use Rattle.cluster_model.specs.Next.{acknowledge_events, agent_start_events, command_kind, confirm_events, promote_events, receive_events, receive_events_at_most}
 use Rattle.cluster_model.specs.Orders.{declared_member}
-use Rattle.cluster_model.specs.Parts.{each, event_of, events_of, for_some}
+use Rattle.cluster_model.specs.Parts.{each, events_of, for_some}
 use Rattle.cluster_model.specs.ServerCommands.{commit_of, promote_kinds}
 use Rattle.cluster_model.specs.State.{Cluster}
 use Rattle.cluster_model.specs.Streaming.{confirm_of, source_of, unconfirmed_end}

@@ -38,8 +38,8 @@ lease_answer member incarnation sequence request = record {
   body = bodies.Granted request true;
 }
 
--- behind these events this member acts on the answer of this number: it tells that its own request for a
--- lease of the leader key was granted, was sent as that was granted, and is the last that came to an agent
+-- behind these events this member acts on the answer of this number: it tells that its own request for a lease of
+-- the leader key was granted, was sent as that was granted, and is the last message that came to an agent
 pub record ActsOnItsGrant (book : List Event) (member : Member) (answer : ℕ) : Type 0 where
   pub earlier : List Event
   pub between : List Event

@@ -1,5 +1,5 @@
 -- Whoever leads outside the sync key has read that this doesn't name it.
-use Rattle.std.specs.Prelude.{ℕ, ◌≡◌, ◌≢◌, ◌++◌, false, List, ◌∷◌, Some}
+use Rattle.std.specs.Prelude.{ℕ, ◌≡◌, ◌≢◌, ◌++◌, false, List, ◌∷◌, Some, slice_get}
 use Rattle.std.specs.FinMap.{find}
 use Rattle.pat_base.specs.declared.ticks.Ticks.{Ticks}
 use Rattle.store_keys.specs.declared.key.Key.TheVariants as keys
@@ -19,6 +19,12 @@ use Rattle.event_book.specs.declared.message.Body.TheVariants as bodies
 use Rattle.event_book.specs.declared.message.Message.{Message}
 use Rattle.event_book.specs.Facts.{Facts, facts_over}
 use Rattle.event_book.specs.Kinds.{AllAre}
+use Rattle.agent_model.specs.declared.knowledge.SyncRead.{SyncRead}
+use Rattle.agent_model.specs.Agents.{AgentFacts}
+use Rattle.cluster_model.specs.Cluster.{cluster_over}
+use Rattle.cluster_model.specs.Starting.{cluster_of}
+use Rattle.commit_runs.specs.Runs.{start_in}
+use Rattle.script_model.specs.Script.{HeadText}
 use Rattle.sync_order.specs.Order.{has}
 
 -- at this moment the key store has this sync key, under this revision
@@ -55,20 +61,23 @@ pub record HasRead (start : Facts) (book : List Event) (m : ℕ) (key : SyncKey)
   pub tells : HasSync (facts_over start earlier) key revision
   pub since : AllAre (StartsNone m) later
 
--- so has one that the key doesn't name, neither as the leader nor as a standby
-pub record HasReadOthers (start : Facts) (book : List Event) (m : ℕ) : Type 0 where
-  pub key : SyncKey
-  pub revision : ℕ
-  pub read : HasRead start book m key revision
-  pub leader : key.leader.number ≢ m
-  pub standbys : has key.standbys m ≡ false
+-- behind this book of a cluster of this head the sync key that the last turn of the member of this number
+-- read, as its agent stands then, doesn't name it, neither as the leader nor as a standby; and it has read it
+pub record HasReadOthers (head : HeadText) (book : List Event) (m : ℕ) : Type 0 where
+  pub agent : AgentFacts
+  pub stands : slice_get (cluster_over (cluster_of head) book).agents m ≡ Some (Some agent)
+  pub turn : SyncRead
+  pub is : agent.knows.turn_sync ≡ Some turn
+  pub read : HasRead (start_in head) book m turn.key turn.revision
+  pub leader : turn.key.leader.number ≢ m
+  pub standbys : has turn.key.standbys m ≡ false
 
 -- whoever leads outside the sync key by this event has read, in the events before it, that the key doesn't name it
-abbrev pub PassesOutside : Facts → List Event → EventKind → Type 0
-PassesOutside start before (kinds.Agent (agents.Passed member)) = HasReadOthers start before member.id.number
-PassesOutside start before _ = Unit {0}
+abbrev pub PassesOutside : HeadText → List Event → EventKind → Type 0
+PassesOutside head before (kinds.Agent (agents.Passed member)) = HasReadOthers head before member.id.number
+PassesOutside head before _ = Unit {0}
 
--- so it is wherever a member of this book does
-abbrev pub PassOutside : Facts → List Event → Type 0
-PassOutside start book = (front rest : List Event) (event : Event) → front ++ event ∷ rest ≡ book
-    → PassesOutside start front event.kind
+-- so it is wherever a member does in this book of a cluster of this head
+abbrev pub PassOutside : HeadText → List Event → Type 0
+PassOutside head book = (front rest : List Event) (event : Event) → front ++ event ∷ rest ≡ book
+    → PassesOutside head front event.kind

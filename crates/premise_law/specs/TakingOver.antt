@@ -1,5 +1,5 @@
 -- What a member notes that takes over its running server.
-use Rattle.std.specs.Prelude.{ℕ, ◌≡◌, ◌++◌, Bool, true, false, List, [], ◌∷◌, Option, Some, None, slice_get}
+use Rattle.std.specs.Prelude.{ℕ, ◌≡◌, ◌++◌, Bool, true, false, List, [], ◌∷◌, Option, Some, slice_get}
 use Rattle.pat_base.specs.Lsn.{lsn_at}
 use Rattle.pat_base.specs.ServerState.{live}
 use Rattle.wal_model.specs.Log.{end_of}

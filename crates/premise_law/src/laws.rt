@@ -4,7 +4,6 @@ ghost use Rattle.script_model.specs.Script.{HeadText, IsHead};
 ghost use Rattle.cluster_model.specs.declared.step.Step.{Step};
 ghost use Rattle.cluster_model.specs.Next.{run_events};
 ghost use Rattle.cluster_model.specs.Starting.{cluster_of};
-ghost use Rattle.commit_runs.specs.Runs.{start_in};
 ghost use Rattle.event_book.specs.declared.event.Event.{Event};
 ghost use Rattle.premise_law.specs.Feeding.{FeedOnTheirGrants};
 ghost use Rattle.premise_law.specs.Passing.{PassOutside};
@@ -16,9 +15,11 @@ pub fn runs_feed_on_their_grants()
     ensures { (head : HeadText) → IsHead head → (steps : List Step) → FeedOnTheirGrants (run_events (cluster_of head) steps) }
 {}
 
-/// In every run whoever leads outside the sync key has read that this doesn't name it, by an answer that came to its agent since that started.
+/// In every run whoever leads outside the sync key has read that this doesn't name it: the key that its last turn read, as its agent stands then,
+/// has it neither as the leader nor as a standby; and an answer told it that key which came since its agent started, and was sent while the key
+/// store had that.
 pub fn runs_pass_outside_the_sync_key()
-    ensures { (head : HeadText) → IsHead head → (steps : List Step) → PassOutside (start_in head) (run_events (cluster_of head) steps) }
+    ensures { (head : HeadText) → IsHead head → (steps : List Step) → PassOutside head (run_events (cluster_of head) steps) }
 {}
 
 /// Where a member takes over its running server, it notes where the log of that ends then. That is so in every book.

@@ -1,5 +1,5 @@
 -- How a command was carried out, for each way in which it may go.
-use Rattle.std.proofs.Common.{◌≡◌, ◌≢◌, ◌<◌, ◌*◌, ◌+◌, ℕ, Bool, false, true, List, [], Option, Some, None, Result, Ok, Err, append-nil, arith, nat_lt, refl, sym, subst, ap, ◌∙◌}
+use Rattle.std.proofs.Common.{◌≡◌, ◌≢◌, ◌<◌, ◌*◌, ◌+◌, ℕ, Bool, false, true, List, [], ◌∷◌, Option, Some, None, Result, Ok, Err, append-nil, arith, nat_lt, refl, sym, subst, ap, ◌∙◌}
 use Rattle.std.proofs.lemmas.Bool.Decides.{nat_tests}
 use Rattle.pat_base.specs.declared.member_id.MemberId.{MemberId}
 use Rattle.pat_outside.specs.declared.outside.Sink.{Ghosts as SinkGhosts}
@@ -23,7 +23,9 @@ use Rattle.run_printing.specs.declared.print_error.PrintError.{PrintError}
 use Rattle.run_printing.specs.declared.print_error.PrintError.TheVariants as prints
 use Rattle.run_player.specs.Left.{IsLeftBy}
 use Rattle.run_player.specs.Playing.{PrintsWholeSteps}
-use Rattle.run_serving.specs.Served.{Came, Serves as ServedSo}
+use Rattle.pat_door.specs.Doors.{Opened}
+use Rattle.run_serving.specs.Served.{Came, ComeApart, Serves as ServedSo}
+use Rattle.run_serving.proofs.Apart.{apart-all, apart-stop}
 use Rattle.run_serving.proofs.Closing.{memory-is, no-door}
 use Rattle.run_printing.specs.declared.serve_error.ServeError.{ServeError}
 use Rattle.run_printing.specs.declared.serve_error.ServeError.TheVariants as serves
@@ -37,12 +39,12 @@ use Rattle.command_line.specs.declared.status.Status.{Status}
 use Rattle.command_line.specs.declared.status.Status.TheVariants as statuses
 use Rattle.command_line.specs.Commands.{Command, Drill, Generate, Print, Run, Serve, heeded, plays, reads}
 use Rattle.command_line.specs.Members.{member_named}
-use Rattle.program_commands.specs.Verdicts.{Drills, EndsWhole, Formats, Makes, NoCommand, PastCount, Plan, Plays, Says, Serves, UnknownMember, Verdict, plan_run, plan_text, service_of, verdict_in, verdict_of_count, verdict_on}
+use Rattle.program_commands.specs.Verdicts.{Drills, EndsWhole, Formats, Makes, NoCommand, PastCount, Plan, Plays, Says, Serves, UnknownMember, Verdict, plan_run, plan_text, service_of, verdict_in, verdict_of, verdict_of_count, verdict_on}
 use Rattle.command_line.specs.Drawing.{CanBeDrawn, RefusesToDraw}
-use Rattle.program_commands.specs.Carried.{Carries, EndedFacts, IsCarriedOut, LeavesWorld, ended_by}
-use Rattle.program_commands.specs.Ends.{Ends, IsCut, IsVisited, serving_of}
+use Rattle.program_commands.specs.Carried.{Carries, EndedFacts, GoesBy, IsCarriedOut, LeavesWorld, ended_by}
+use Rattle.program_commands.specs.Ends.{Ends, IsApart, IsCut, IsVisited, address_in, serving_of}
 use Rattle.command_line.specs.Status.{IsRefusal, Refuses, ending_of_print, ending_of_serve, status_of}
-use Rattle.program_commands.proofs.Endings.{Ends-done, Ends-faulty, Ends-past, Ends-refused, Ends-stopped, Ends-wanting, IsQuiet, Reads, plays-only, prints-so, quiet, refusal-says, script-makes, steps-cut}
+use Rattle.program_commands.proofs.Endings.{Ends-done, Ends-faulty, Ends-past, Ends-refused, Ends-stopped, Ends-wanting, IsQuiet, Reads, plays-only, prints-so, quiet, refusal-says, refusal-unserved, script-makes, steps-cut, unapart}
 
 -- an ending in which the input gives no script
 refusal-is : (ending : Ending) → IsRefusal ending
@@ -92,6 +94,13 @@ same-error is so = cc
 no-world : false ≡ true → ⊥
 no-world e = cc
 
+-- what reads nothing goes by no bytes
+pub no-bytes : Known (Some []) (λ all. [] ≡ all)
+no-bytes all is = cc
+
+pub goes-by-none : (words : Option Command) (rest : Option (List ℕ)) → words ≡ None → GoesBy words rest []
+goes-by-none words rest is = subst (λ (o : Option Command). GoesBy o rest []) (sym is) (λ all none. cc)
+
 -- what a call answers where all connections came tells nothing of them
 came-all : {D X : Type 0} (door : DoorGhosts D) (was now : D) (x : X) (cluster : Cluster) (id : MemberId)
     (count : ℕ) (visitors : List Connection) → Came door was now (Ok x) cluster id count visitors
@@ -136,89 +145,93 @@ ended-same (Some world) = refl
 
 module _ {S K D W : Type 0} (source : SourceGhosts S) (sink : SinkGhosts K) (door : DoorGhosts D)
     (facts : W → WorldFacts) where
-  leaves-nothing : (bytes : Option (List ℕ)) (played : Bool) (verdict : List ℕ → Verdict) (ending : Ending)
-      → status_of ending ≢ statuses.Done → LeavesWorld bytes played verdict (ended_by facts (Err ending))
-  leaves-nothing bytes played verdict ending not =
+  leaves-nothing : (played : Bool) (verdict : Verdict) (ending : Ending)
+      → status_of ending ≢ statuses.Done → LeavesWorld played verdict (ended_by facts (Err ending))
+  leaves-nothing played verdict ending not =
       record { done = ((λ some. absurd (no-world some)), λ done. absurd (not done.0)); stands = tt }
 
   -- something was printed, and then a stop came
-  stopped : (input left : S) (out then : K) (was now : D) (command : Command) (error : ServeError)
+  stopped : (input left : S) (out then : K) (was now : D) (command : Command) (bytes : List ℕ) (error : ServeError)
       → ((visitors : List Connection) × Carries source sink door input left out then was now
-      (Some command) visitors (ended_by facts (Err (ending_of_serve error))))
-      → IsCarriedOut source sink door facts input left out then was now command (Err (ending_of_serve error))
-  stopped input left out then was now command error carries = record {
+      (Some command) bytes visitors (ended_by facts (Err (ending_of_serve error))))
+      → IsCarriedOut source sink door facts input left out then was now command bytes (Err (ending_of_serve error))
+  stopped input left out then was now command bytes error carries = record {
     usage = stop-no-usage error;
     carries = carries;
-    says = λ visitors bytes told. stop-says error (verdict_on command visitors bytes);
+    says = λ visitors. stop-says error (verdict_on command visitors bytes);
   }
 
   -- a command that has nothing to do with the door makes this plan of the bytes that it goes by
-  module _ (input left : S) (out then : K) (was : D) (command : Command) (plan : Plan)
-      (makes : Known (heeded (reads (Some command)) (source.rest input))
-      (λ bytes. verdict_on command [] bytes ≡ Makes plan))
-      (read : Reads source sink door input left out was (reads (Some command)) (verdict_on command []))
+  module _ (input left : S) (out then : K) (was : D) (command : Command) (bytes : List ℕ) (plan : Plan)
+      (makes : verdict_on command [] bytes ≡ Makes plan)
+      (read : Reads source sink door input left out was (reads (Some command)) (verdict_on command []) bytes)
       (visited : (status : Status) → IsVisited source sink door input left out then was was
-      (reads (Some command)) (verdict_on command []) status (Makes plan)) where
+      (reads (Some command)) (verdict_on command []) bytes status (Makes plan))
+      (apart : (status : Status) → IsApart door was was (address_in (Some command)) status (Makes plan)) where
+    apart-so-far : (status : Status)
+        → IsApart door was was (address_in (Some command)) status (verdict_on command [] bytes)
+    apart-so-far status =
+        subst (IsApart door was was (address_in (Some command)) status) (sym makes) (apart status)
+
     -- all of it was printed
     pub planned-whole : {X E : Type 0} {x : X} {fault : E} (world : Option W)
-        → (reads (Some command) ≡ true →
-        Known (heeded (reads (Some command)) (source.rest input)) (λ bytes. source.rest left ≡ Some []))
+        → (reads (Some command) ≡ true → Known (source.rest input) (λ all. source.rest left ≡ Some []))
         → Prints sink out then fault (Ok x) (plan_text plan)
-        → LeavesWorld (heeded (reads (Some command)) (source.rest input)) (plays (Some command))
-        (verdict_on command []) (ended_by facts (Ok world))
-        → IsCarriedOut source sink door facts input left out then was was command (Ok world)
+        → LeavesWorld (plays (Some command)) (verdict_on command [] bytes) (ended_by facts (Ok world))
+        → IsCarriedOut source sink door facts input left out then was was command bytes (Ok world)
     planned-whole world end printed leaves = record {
       usage = λ e. cc;
       carries = (
         [],
         record {
           ends = Ends-done source sink door input left out then was was (reads (Some command))
-              (verdict_on command []) plan makes read end printed (visited statuses.Done);
+              (verdict_on command []) bytes plan makes read end printed (visited statuses.Done);
           world = leaves;
+          apart = apart-so-far statuses.Done;
         },
       );
-      says = λ visitors bytes told. tt;
+      says = λ visitors. tt;
     }
 
     -- or a part of it
     pub planned-part : {X : Type 0} (error : PrintError)
         → Prints {X = X} sink out then prints.Write (Err error) (plan_text plan)
         → (error ≡ prints.Memory →
-        IsCut source sink door input left out then was was (reads (Some command)) (verdict_on command []) (Makes plan))
-        → IsCarriedOut source sink door facts input left out then was was command (Err (ending_of_print error))
+        IsCut source sink door input left out then was was (reads (Some command)) (verdict_on command []) bytes
+        (Makes plan))
+        → IsCarriedOut source sink door facts input left out then was was command bytes (Err (ending_of_print error))
     planned-part error printed whole =
         let how : ServeError = serve_error error in
-        subst (λ (e : Ending). IsCarriedOut source sink door facts input left out then was was command (Err e))
-        (sym (print-ends error)) (stopped input left out then was was command how (
+        subst (λ (e : Ending). IsCarriedOut source sink door facts input left out then was was command bytes (Err e))
+        (sym (print-ends error)) (stopped input left out then was was command bytes how (
           [],
           record {
             ends = Ends-stopped source sink door input left out then was was (reads (Some command))
-                (verdict_on command []) plan makes read how (record {
+                (verdict_on command []) bytes plan makes read how (record {
                   printed = prints-so error printed;
                   whole = λ memory. whole (memory-is error memory);
                   halted = λ e. absurd (no-door error e);
                   opens = λ opens e. no-door error e;
                   visited = visited (status_of (ending_of_serve how));
                 });
-            world = leaves-nothing (heeded (reads (Some command)) (source.rest input)) (plays (Some command))
-                (verdict_on command []) (ending_of_serve how) (stop-not-done how);
+            world = leaves-nothing (plays (Some command)) (verdict_on command [] bytes) (ending_of_serve how)
+                (stop-not-done how);
+            apart = apart-so-far (status_of (ending_of_serve how));
           },
         ))
 
   -- a world that a run left
-  leaves-run : (bytes : Option (List ℕ)) (verdict : List ℕ → Verdict) (plan : Plan) (played : Played) (world : W)
-      → Known bytes (λ all. verdict all ≡ Makes plan) → plan_run plan ≡ Some played
-      → IsLeftBy played (facts world) → LeavesWorld bytes true verdict (ended_by facts (Ok (Some world)))
-  leaves-run bytes verdict plan played world makes run stands = record {
+  leaves-run : (verdict : Verdict) (plan : Plan) (played : Played) (world : W)
+      → verdict ≡ Makes plan → plan_run plan ≡ Some played
+      → IsLeftBy played (facts world) → LeavesWorld true verdict (ended_by facts (Ok (Some world)))
+  leaves-run verdict plan played world makes run stands = record {
     done = ((λ some. (refl, refl)), λ done. refl);
-    stands = λ all told.
-        plays-only (λ (p : Played). IsLeftBy p (facts world)) (verdict all) plan played (makes all told) run stands;
+    stands = plays-only (λ (p : Played). IsLeftBy p (facts world)) verdict plan played makes run stands;
   }
 
   -- nothing was played
-  leaves-none : (bytes : Option (List ℕ)) (verdict : List ℕ → Verdict)
-      → LeavesWorld bytes false verdict (ended_by facts (Ok None))
-  leaves-none bytes verdict =
+  leaves-none : (verdict : Verdict) → LeavesWorld false verdict (ended_by facts (Ok None))
+  leaves-none verdict =
       record { done = ((λ some. absurd (no-world some)), λ done. absurd (no-world done.1)); stands = tt }
 
   -- nothing was written of what is told whole or not at all
@@ -229,7 +242,7 @@ module _ {S K D W : Type 0} (source : SourceGhosts S) (sink : SinkGhosts K) (doo
       (sym same) ([], none, Grew-nothing (sink.content out))
 
   -- a command that goes by a script of the input
-  module _ (input left : S) (taken : Consumed (source.rest input) (source.rest left) most_read) where
+  module _ (input left : S) (bytes : List ℕ) (taken : Consumed (source.rest input) (source.rest left) most_read) where
     -- the script can't be read
     pub refused : (out : K) (was : D) (command : Command) (waited : ℕ) (makes : List Connection → ScriptText → Verdict)
         → reads (Some command) ≡ true
@@ -237,94 +250,92 @@ module _ {S K D W : Type 0} (source : SourceGhosts S) (sink : SinkGhosts K) (doo
         verdict_in waited (makes visitors) bytes ≡ verdict_on command visitors bytes)
         → ((script : ScriptText) → IsQuiet (makes [] script))
         → (result : Result (Option W) Ending) (ending : Ending) → result ≡ Err ending → IsRefusal ending
-        → Known (source.rest input) (Refuses waited ending)
+        → Refuses waited ending bytes
         → (ending ≡ endings.ReadFault → Rose (source.faults input) (source.faults left))
         → (source.is_reliable input → ending ≢ endings.ReadFault)
-        → IsCarriedOut source sink door facts input left out out was was command result
+        → IsCarriedOut source sink door facts input left out out was was command bytes result
     refused out was command waited makes goes same quiets result ending is refusal refuses rose unfailing =
-        let says : (visitors : List Connection)
-        → Known (source.rest input) (λ bytes. Says ending (verdict_on command visitors bytes)) =
-        λ visitors bytes told. subst (Says ending) (same visitors bytes)
-        (refusal-says waited (makes visitors) ending bytes refusal (refuses bytes told)) in
-        let heard : (b : Bool) → b ≡ true → heeded b (source.rest input) ≡ source.rest input =
-        λ b true-is. rw true-is refl in
-        subst (IsCarriedOut source sink door facts input left out out was was command) (sym is) (record {
+        let says : (visitors : List Connection) → Says ending (verdict_on command visitors bytes) =
+        λ visitors. subst (Says ending) (same visitors bytes)
+        (refusal-says waited (makes visitors) ending bytes refusal refuses) in
+        subst (IsCarriedOut source sink door facts input left out out was was command bytes) (sym is) (record {
           usage = (refusal-is ending refusal).0;
           carries = (
             [],
             record {
               ends =
                   subst (λ (b : Bool).
-                  Ends source sink door input left out out was was b (verdict_on command []) (status_of ending))
+                  Ends source sink door input left out out was was b (verdict_on command []) bytes (status_of ending))
                   (sym goes)
                   (Ends-refused source sink door input left out was
-                  (verdict_on command []) taken ending refusal (says [])
-                  (λ bytes. subst IsQuiet (same [] bytes) (quiet waited (makes []) bytes quiets)) rose unfailing);
-              world = leaves-nothing (heeded (reads (Some command)) (source.rest input))
-                  (plays (Some command)) (verdict_on command []) ending (refusal-is ending refusal).1;
+                  (verdict_on command []) bytes taken ending refusal (says [])
+                  (subst IsQuiet (same [] bytes) (quiet waited (makes []) bytes quiets)) rose unfailing);
+              world = leaves-nothing (plays (Some command)) (verdict_on command [] bytes) ending
+                  (refusal-is ending refusal).1;
+              apart = unapart door was (address_in (Some command)) (status_of ending)
+                  (verdict_on command [] bytes) (refusal-unserved ending refusal)
+                  (subst IsQuiet (same [] bytes) (quiet waited (makes []) bytes quiets));
             },
           );
-          says = λ visitors bytes told. says visitors bytes (sym (heard (reads (Some command)) goes) ∙ told);
+          says = says;
         })
 
-    reads-so : (out : K) (was : D) (verdict : List ℕ → Verdict) → Reads source sink door input left out was true verdict
+    reads-so : (out : K) (was : D) (verdict : List ℕ → Verdict)
+        → Reads source sink door input left out was true verdict bytes
     reads-so out was verdict = record { unread = λ e. cc; consumed = taken }
 
     -- a script was read
-    module _ (script : ScriptText) (end : Known (source.rest input) (λ bytes. source.rest left ≡ Some [])) where
+    module _ (script : ScriptText) (end : Known (source.rest input) (λ all. source.rest left ≡ Some [])) where
       abbrev IsRead : ℕ → Type 0
-      IsRead waited =
-          Known (source.rest input) (λ bytes. (limit_of waited bytes ≡ None) × (script_of bytes ≡ Ok script))
+      IsRead waited = (limit_of waited bytes ≡ None) × (script_of bytes ≡ Ok script)
 
       -- and its run is printed, or the script
       module _ (out then : K) (was : D) (read : IsRead 0) (result : Result (Option W) Ending) where
-        plays-so : Known (source.rest input) (λ bytes. verdict_on Run [] bytes ≡ Makes (Plays (played_of script)))
-        plays-so bytes told = script-makes 0 (λ script. Makes (Plays (played_of script))) bytes script
-            (read bytes told).0 (read bytes told).1
+        plays-so : verdict_on Run [] bytes ≡ Makes (Plays (played_of script))
+        plays-so = script-makes 0 (λ script. Makes (Plays (played_of script))) bytes script read.0 read.1
 
-        formats-so : Known (source.rest input) (λ bytes. verdict_on Print [] bytes ≡ Makes (Formats script))
-        formats-so bytes told =
-            script-makes 0 (λ script. Makes (Formats script)) bytes script (read bytes told).0 (read bytes told).1
+        formats-so : verdict_on Print [] bytes ≡ Makes (Formats script)
+        formats-so = script-makes 0 (λ script. Makes (Formats script)) bytes script read.0 read.1
 
         pub printed-whole : (world : W) → result ≡ Ok (Some world)
             → Prints sink out then prints.Write (Ok world) (text_of_run (played_of script))
             → IsLeftBy (played_of script) (facts world)
-            → IsCarriedOut source sink door facts input left out then was was Run result
+            → IsCarriedOut source sink door facts input left out then was was Run bytes result
         printed-whole world is printed stands =
-            subst (IsCarriedOut source sink door facts input left out then was was Run) (sym is)
-            (planned-whole input left out then was Run (Plays (played_of script)) plays-so
-            (reads-so out was (verdict_on Run [])) (λ status. refl) (Some world) (λ e. end) printed
-            (leaves-run (source.rest input) (verdict_on Run []) (Plays (played_of script))
-            (played_of script) world plays-so refl stands))
+            subst (IsCarriedOut source sink door facts input left out then was was Run bytes) (sym is)
+            (planned-whole input left out then was Run bytes (Plays (played_of script)) plays-so
+            (reads-so out was (verdict_on Run [])) (λ status. refl) (λ status. tt) (Some world) (λ e. end) printed
+            (leaves-run (verdict_on Run [] bytes) (Plays (played_of script)) (played_of script) world plays-so refl
+            stands))
 
         pub printed-part : (error : PrintError) → result ≡ Err (ending_of_print error)
             → Prints {X = W} sink out then prints.Write (Err error) (text_of_run (played_of script))
             → (error ≡ prints.Memory →
             PrintsWholeSteps sink out then (cluster_of script.head) false (steps_of script.body))
-            → IsCarriedOut source sink door facts input left out then was was Run result
+            → IsCarriedOut source sink door facts input left out then was was Run bytes result
         printed-part error is printed whole =
-            subst (IsCarriedOut source sink door facts input left out then was was Run) (sym is)
-            (planned-part input left out then was Run (Plays (played_of script)) plays-so
-            (reads-so out was (verdict_on Run [])) (λ status. refl) error printed
+            subst (IsCarriedOut source sink door facts input left out then was was Run bytes) (sym is)
+            (planned-part input left out then was Run bytes (Plays (played_of script)) plays-so
+            (reads-so out was (verdict_on Run [])) (λ status. refl) (λ status. tt) error printed
             (λ memory. steps-cut source sink door script.head (steps_of script.body) (whole memory)))
 
         pub formatted-whole : result ≡ Ok None
             → Prints {X = Unit {0}} sink out then prints.Write (Ok tt) (spelling_of script)
-            → IsCarriedOut source sink door facts input left out then was was Print result
+            → IsCarriedOut source sink door facts input left out then was was Print bytes result
         formatted-whole is printed =
-            subst (IsCarriedOut source sink door facts input left out then was was Print) (sym is)
-            (planned-whole input left out then was Print (Formats script) formats-so
-            (reads-so out was (verdict_on Print [])) (λ status. refl) None (λ e. end) printed
-            (leaves-none (source.rest input) (verdict_on Print [])))
+            subst (IsCarriedOut source sink door facts input left out then was was Print bytes) (sym is)
+            (planned-whole input left out then was Print bytes (Formats script) formats-so
+            (reads-so out was (verdict_on Print [])) (λ status. refl) (λ status. tt) None (λ e. end) printed
+            (leaves-none (verdict_on Print [] bytes)))
 
         pub formatted-part : (error : PrintError) → result ≡ Err (ending_of_print error)
             → Prints {X = Unit {0}} sink out then prints.Write (Err error) (spelling_of script)
             → (error ≡ prints.Memory → then ≡ out)
-            → IsCarriedOut source sink door facts input left out then was was Print result
+            → IsCarriedOut source sink door facts input left out then was was Print bytes result
         formatted-part error is printed memory =
-            subst (IsCarriedOut source sink door facts input left out then was was Print) (sym is)
-            (planned-part input left out then was Print (Formats script) formats-so
-            (reads-so out was (verdict_on Print [])) (λ status. refl) error printed
+            subst (IsCarriedOut source sink door facts input left out then was was Print bytes) (sym is)
+            (planned-part input left out then was Print bytes (Formats script) formats-so
+            (reads-so out was (verdict_on Print [])) (λ status. refl) (λ status. tt) error printed
             (λ wanting. untold (Formats script) refl (memory wanting)))
 
       module _ (member address : List ℕ) (count : ℕ) (read : IsRead (most_waiting * count)) where
@@ -335,29 +346,26 @@ module _ {S K D W : Type 0} (source : SourceGhosts S) (sink : SinkGhosts K) (doo
         makes visitors script = service_of script count visitors (member_named script.head member)
 
         makes-so : (visitors : List Connection) (found : Option MemberId) → member_named script.head member ≡ found
-            → Known (source.rest input)
-            (λ bytes. verdict_on service visitors bytes ≡ service_of script count visitors found)
-        makes-so visitors found is bytes told =
-            script-makes (most_waiting * count) (makes visitors) bytes script (read bytes told).0 (read bytes told).1
+            → verdict_on service visitors bytes ≡ service_of script count visitors found
+        makes-so visitors found is = script-makes (most_waiting * count) (makes visitors) bytes script read.0 read.1
             ∙ ap (service_of script count visitors) is
 
         -- it declares no member of the name that is to be served
         pub unknown : (out : K) (was : D) (result : Result (Option W) Ending)
             → result ≡ Err endings.UnknownMember → member_named script.head member ≡ None
-            → IsCarriedOut source sink door facts input left out out was was service result
+            → IsCarriedOut source sink door facts input left out out was was service bytes result
         unknown out was result is none =
-            let says : (visitors : List Connection)
-            → Known (source.rest input) (λ bytes. verdict_on service visitors bytes ≡ UnknownMember) =
+            let says : (visitors : List Connection) → verdict_on service visitors bytes ≡ UnknownMember =
             λ visitors. makes-so visitors None none in
-            subst (IsCarriedOut source sink door facts input left out out was was service) (sym is) (record {
+            subst (IsCarriedOut source sink door facts input left out out was was service bytes) (sym is) (record {
               usage = λ e. cc;
               carries = (
                 [],
                 record {
-                  ends = Ends-faulty source sink door input left out was true (verdict_on service [])
+                  ends = Ends-faulty source sink door input left out was true (verdict_on service []) bytes
                       (reads-so out was (verdict_on service [])) UnknownMember tt tt (says []);
-                  world =
-                      leaves-nothing (source.rest input) true (verdict_on service []) endings.UnknownMember (λ e. cc);
+                  world = leaves-nothing true (verdict_on service [] bytes) endings.UnknownMember (λ e. cc);
+                  apart = subst (IsApart door was was address statuses.NotScript) (sym (says [])) tt;
                 },
               );
               says = says;
@@ -368,42 +376,52 @@ module _ {S K D W : Type 0} (source : SourceGhosts S) (sink : SinkGhosts K) (doo
           abbrev served : Plan
           served = Serves script id count visitors
 
-          serves-so : Known (source.rest input) (λ bytes. verdict_on service visitors bytes ≡ Makes served)
+          serves-so : verdict_on service visitors bytes ≡ Makes served
           serves-so = makes-so visitors (Some id) found
 
           -- or connections came behind its run, and all was printed
           pub served-whole : (result : Result (Option W) Ending) (world : W) → result ≡ Ok (Some world)
               → ServedSo sink door facts out then was now (Ok world) script id count visitors
-              → IsCarriedOut source sink door facts input left out then was now service result
-          served-whole result world is s =
-              subst (IsCarriedOut source sink door facts input left out then was now service) (sym is) (record {
+              → ComeApart door was now (Ok world) (after_steps (cluster_of script.head) (steps_of script.body)) id
+              (Opened address ∷ []) visitors
+              → IsCarriedOut source sink door facts input left out then was now service bytes result
+          served-whole result world is s apart =
+              subst (IsCarriedOut source sink door facts input left out then was now service bytes) (sym is) (record {
                 usage = λ e. cc;
                 carries = (
                   visitors,
                   record {
-                    ends = Ends-done source sink door input left out then was now true (verdict_on service visitors)
+                    ends =
+                        Ends-done source sink door input left out then was now true (verdict_on service visitors) bytes
                         served serves-so (reads-so out was (verdict_on service visitors)) (λ e. end) s.printed
                         (came-all door was now world
                         (after_steps (cluster_of script.head) (steps_of script.body)) id count visitors s.came);
-                    world = leaves-run (source.rest input) (verdict_on service visitors) served
+                    world = leaves-run (verdict_on service visitors bytes) served
                         (served_of script id visitors) world serves-so refl s.world;
+                    apart = subst (IsApart door was now address statuses.Done) (sym serves-so)
+                        (apart-all door was now world tt
+                        (after_steps (cluster_of script.head) (steps_of script.body)) id (Opened address ∷ []) visitors
+                        apart);
                   },
                 );
-                says = λ others bytes told. tt;
+                says = λ others. tt;
               })
 
           -- or a part of it
           pub served-part : (result : Result (Option W) Ending) (error : ServeError)
               → result ≡ Err (ending_of_serve error)
               → ServedSo sink door facts out then was now (Err error) script id count visitors
-              → IsCarriedOut source sink door facts input left out then was now service result
-          served-part result error is s =
+              → ComeApart {X = W} door was now (Err error)
+              (after_steps (cluster_of script.head) (steps_of script.body)) id (Opened address ∷ []) visitors
+              → IsCarriedOut source sink door facts input left out then was now service bytes result
+          served-part result error is s apart =
               let start : Cluster = after_steps (cluster_of script.head) (steps_of script.body) in
-              subst (IsCarriedOut source sink door facts input left out then was now service) (sym is)
-              (stopped input left out then was now service error (
+              subst (IsCarriedOut source sink door facts input left out then was now service bytes) (sym is)
+              (stopped input left out then was now service bytes error (
                 visitors,
                 record {
-                  ends = Ends-stopped source sink door input left out then was now true (verdict_on service visitors)
+                  ends =
+                      Ends-stopped source sink door input left out then was now true (verdict_on service visitors) bytes
                       served serves-so (reads-so out was (verdict_on service visitors)) error (record {
                         printed = subst (λ (t : List ℕ). Prints {X = Unit {0}} sink out then serves.Write (Err error) t)
                             (append-nil (text_of_run (served_of script id visitors)))
@@ -416,8 +434,13 @@ module _ {S K D W : Type 0} (source : SourceGhosts S) (sink : SinkGhosts K) (doo
                             subst (λ (r : Result (Unit {0}) ServeError). Came door was now r start id count visitors)
                             (sym (serving-back error)) (came-part door was now error start id count visitors s.came);
                       });
-                  world = leaves-nothing (source.rest input) true (verdict_on service visitors)
-                      (ending_of_serve error) (stop-not-done error);
+                  world = leaves-nothing true (verdict_on service visitors bytes) (ending_of_serve error)
+                      (stop-not-done error);
+                  apart = subst (IsApart door was now address (status_of (ending_of_serve error))) (sym serves-so)
+                      (subst (λ (r : Result (Unit {0}) ServeError).
+                      ComeApart door was now r start id (Opened address ∷ []) visitors)
+                      (sym (serving-back error))
+                      (apart-stop door was now error (Err error) start id (Opened address ∷ []) visitors refl apart));
                 },
               ))
             where
@@ -425,8 +448,9 @@ module _ {S K D W : Type 0} (source : SourceGhosts S) (sink : SinkGhosts K) (doo
               plus-nothing n = omega arith
 
   -- a command that reads nothing
-  module _ (input : S) where
-    unread : (out : K) (was : D) (verdict : List ℕ → Verdict) → Reads source sink door input input out was false verdict
+  module _ (input : S) (bytes : List ℕ) where
+    unread : (out : K) (was : D) (verdict : List ℕ → Verdict)
+        → Reads source sink door input input out was false verdict bytes
     unread out was verdict =
         record { unread = λ e. refl; consumed = record { some = λ all told. (0, omega arith, told) } }
 
@@ -437,45 +461,47 @@ module _ {S K D W : Type 0} (source : SourceGhosts S) (sink : SinkGhosts K) (doo
           verdict_of_count count plan ≡ verdict_on command visitors bytes)
           → IsQuiet (Makes plan)
           → (ending : Ending) → result ≡ Err ending → RefusesToDraw count ending
-          → IsCarriedOut source sink door facts input input out out was was command result
+          → IsCarriedOut source sink door facts input input out out was was command bytes result
       not-drawn command plan goes same none endings.PastCount is many =
-          let says : (visitors : List Connection) (bytes : List ℕ) → verdict_on command visitors bytes ≡ PastCount =
-          λ visitors bytes. sym (same visitors bytes) ∙ past-so count plan many in
-          subst (IsCarriedOut source sink door facts input input out out was was command) (sym is) (record {
+          let says : (visitors : List Connection) → verdict_on command visitors bytes ≡ PastCount =
+          λ visitors. sym (same visitors bytes) ∙ past-so count plan many in
+          subst (IsCarriedOut source sink door facts input input out out was was command bytes) (sym is) (record {
             usage = λ e. cc;
             carries = (
               [],
               record {
                 ends =
                     subst (λ (b : Bool).
-                    Ends source sink door input input out out was was b (verdict_on command []) statuses.Limit)
+                    Ends source sink door input input out out was was b (verdict_on command []) bytes statuses.Limit)
                     (sym goes)
-                    (Ends-past source sink door input input out was false (verdict_on command [])
-                    (unread out was (verdict_on command [])) PastCount tt tt (λ bytes told. says [] bytes));
-                world = leaves-nothing (heeded (reads (Some command)) (source.rest input))
-                    (plays (Some command)) (verdict_on command []) endings.PastCount (λ e. cc);
+                    (Ends-past source sink door input input out was false (verdict_on command []) bytes
+                    (unread out was (verdict_on command [])) PastCount tt tt (says []));
+                world = leaves-nothing (plays (Some command)) (verdict_on command [] bytes) endings.PastCount (λ e. cc);
+                apart = subst (IsApart door was was (address_in (Some command)) statuses.Limit) (sym (says [])) tt;
               },
             );
-            says = λ visitors bytes told. says visitors bytes;
+            says = says;
           })
       not-drawn command plan goes same none endings.Memory is few =
-          subst (IsCarriedOut source sink door facts input input out out was was command) (sym is) (record {
+          subst (IsCarriedOut source sink door facts input input out out was was command bytes) (sym is) (record {
             usage = λ e. cc;
             carries = (
               [],
               record {
                 ends =
                     subst (λ (b : Bool).
-                    Ends source sink door input input out out was was b (verdict_on command []) statuses.Memory)
+                    Ends source sink door input input out out was was b (verdict_on command []) bytes statuses.Memory)
                     (sym goes)
-                    (Ends-wanting source sink door input input out was false (verdict_on command [])
+                    (Ends-wanting source sink door input input out was false (verdict_on command []) bytes
                     (unread out was (verdict_on command []))
-                    (λ bytes. subst IsQuiet (sym (drawn-so count plan few) ∙ same [] bytes) none));
-                world = leaves-nothing (heeded (reads (Some command)) (source.rest input))
-                    (plays (Some command)) (verdict_on command []) endings.Memory (λ e. cc);
+                    (subst IsQuiet (sym (drawn-so count plan few) ∙ same [] bytes) none));
+                world = leaves-nothing (plays (Some command)) (verdict_on command [] bytes) endings.Memory (λ e. cc);
+                apart = unapart door was (address_in (Some command)) statuses.Memory
+                    (verdict_on command [] bytes) refl
+                    (subst IsQuiet (sym (drawn-so count plan few) ∙ same [] bytes) none);
               },
             );
-            says = λ visitors bytes told. tt;
+            says = λ visitors. tt;
           })
       not-drawn command plan goes same none endings.Done is never = absurd never
       not-drawn command plan goes same none endings.Usage is never = absurd never
@@ -487,12 +513,12 @@ module _ {S K D W : Type 0} (source : SourceGhosts S) (sink : SinkGhosts K) (doo
       not-drawn command plan goes same none (endings.Limit limit) is never = absurd never
 
       pub not-generated : (ending : Ending) → result ≡ Err ending → RefusesToDraw count ending
-          → IsCarriedOut source sink door facts input input out out was was (Generate seed count) result
+          → IsCarriedOut source sink door facts input input out out was was (Generate seed count) bytes result
       not-generated =
           not-drawn (Generate seed count) (Formats (generated_script seed count)) refl (λ visitors bytes. refl) tt
 
       pub not-drilled : (ending : Ending) → result ≡ Err ending → RefusesToDraw count ending
-          → IsCarriedOut source sink door facts input input out out was was (Drill seed count) result
+          → IsCarriedOut source sink door facts input input out out was was (Drill seed count) bytes result
       not-drilled = not-drawn (Drill seed count) (Drills (played_of (generated_script seed count))) refl
           (λ visitors bytes. refl) tt
 
@@ -503,76 +529,92 @@ module _ {S K D W : Type 0} (source : SourceGhosts S) (sink : SinkGhosts K) (doo
 
         pub generated-whole : result ≡ Ok None
             → Prints {X = Unit {0}} sink out then prints.Write (Ok tt) (spelling_of script)
-            → IsCarriedOut source sink door facts input input out then was was (Generate seed count) result
+            → IsCarriedOut source sink door facts input input out then was was (Generate seed count) bytes result
         generated-whole is printed =
-            subst (IsCarriedOut source sink door facts input input out then was was (Generate seed count)) (sym is)
-            (planned-whole input input out then was (Generate seed count) (Formats script)
-            (λ bytes told. drawn-so count (Formats script) few) (unread out was (verdict_on (Generate seed count) []))
-            (λ status. refl) None (λ e. absurd (no-world e)) printed
-            (leaves-none (Some []) (verdict_on (Generate seed count) [])))
+            subst (IsCarriedOut source sink door facts input input out then was was (Generate seed count) bytes)
+            (sym is)
+            (planned-whole input input out then was (Generate seed count) bytes (Formats script)
+            (drawn-so count (Formats script) few) (unread out was (verdict_on (Generate seed count) []))
+            (λ status. refl) (λ status. tt) None (λ e. absurd (no-world e)) printed
+            (leaves-none (verdict_on (Generate seed count) [] bytes)))
 
         pub generated-part : (error : PrintError) → result ≡ Err (ending_of_print error)
             → Prints {X = Unit {0}} sink out then prints.Write (Err error) (spelling_of script)
             → (error ≡ prints.Memory → then ≡ out)
-            → IsCarriedOut source sink door facts input input out then was was (Generate seed count) result
+            → IsCarriedOut source sink door facts input input out then was was (Generate seed count) bytes result
         generated-part error is printed memory =
-            subst (IsCarriedOut source sink door facts input input out then was was (Generate seed count)) (sym is)
-            (planned-part input input out then was (Generate seed count) (Formats script)
-            (λ bytes told. drawn-so count (Formats script) few) (unread out was (verdict_on (Generate seed count) []))
-            (λ status. refl) error printed (λ wanting. untold (Formats script) refl (memory wanting)))
+            subst (IsCarriedOut source sink door facts input input out then was was (Generate seed count) bytes)
+            (sym is)
+            (planned-part input input out then was (Generate seed count) bytes (Formats script)
+            (drawn-so count (Formats script) few) (unread out was (verdict_on (Generate seed count) []))
+            (λ status. refl) (λ status. tt) error printed (λ wanting. untold (Formats script) refl (memory wanting)))
 
         pub drilled-whole : (world : W) → result ≡ Ok (Some world)
             → Prints sink out then prints.Write (Ok world) (summary_of_run (played_of script))
             → IsLeftBy (played_of script) (facts world)
-            → IsCarriedOut source sink door facts input input out then was was (Drill seed count) result
+            → IsCarriedOut source sink door facts input input out then was was (Drill seed count) bytes result
         drilled-whole world is printed stands =
-            subst (IsCarriedOut source sink door facts input input out then was was (Drill seed count)) (sym is)
-            (planned-whole input input out then was (Drill seed count) (Drills (played_of script))
-            (λ bytes told. drawn-so count (Drills (played_of script)) few)
-            (unread out was (verdict_on (Drill seed count) [])) (λ status. refl) (Some world)
+            subst (IsCarriedOut source sink door facts input input out then was was (Drill seed count) bytes) (sym is)
+            (planned-whole input input out then was (Drill seed count) bytes (Drills (played_of script))
+            (drawn-so count (Drills (played_of script)) few)
+            (unread out was (verdict_on (Drill seed count) [])) (λ status. refl) (λ status. tt) (Some world)
             (λ e. absurd (no-world e)) printed
-            (leaves-run (Some []) (verdict_on (Drill seed count) []) (Drills (played_of script))
-            (played_of script) world (λ bytes told. drawn-so count (Drills (played_of script)) few) refl stands))
+            (leaves-run (verdict_on (Drill seed count) [] bytes) (Drills (played_of script))
+            (played_of script) world (drawn-so count (Drills (played_of script)) few) refl stands))
 
         pub drilled-part : (error : PrintError) → result ≡ Err (ending_of_print error)
             → Prints {X = W} sink out then prints.Write (Err error) (summary_of_run (played_of script))
             → (error ≡ prints.Memory → then ≡ out)
-            → IsCarriedOut source sink door facts input input out then was was (Drill seed count) result
+            → IsCarriedOut source sink door facts input input out then was was (Drill seed count) bytes result
         drilled-part error is printed memory =
-            subst (IsCarriedOut source sink door facts input input out then was was (Drill seed count)) (sym is)
-            (planned-part input input out then was (Drill seed count) (Drills (played_of script))
-            (λ bytes told. drawn-so count (Drills (played_of script)) few)
-            (unread out was (verdict_on (Drill seed count) [])) (λ status. refl) error printed
+            subst (IsCarriedOut source sink door facts input input out then was was (Drill seed count) bytes) (sym is)
+            (planned-part input input out then was (Drill seed count) bytes (Drills (played_of script))
+            (drawn-so count (Drills (played_of script)) few)
+            (unread out was (verdict_on (Drill seed count) [])) (λ status. refl) (λ status. tt) error printed
             (λ wanting. untold (Drills (played_of script)) refl (memory wanting)))
 
   -- words that are this command
   pub asked : (input left : S) (out then : K) (was now : D) (command : Command) (words : Option Command)
-      (result : Result (Option W) Ending) (ended : EndedFacts) → Some command ≡ words → ended_by facts result ≡ ended
-      → IsCarriedOut source sink door facts input left out then was now command result
-      → (visitors : List Connection) × Carries source sink door input left out then was now words visitors ended
-  asked input left out then was now command words result ended is so carried = rw (sym is, sym so) carried.carries
+      (bytes : List ℕ) (result : Result (Option W) Ending) (ended : EndedFacts) → Some command ≡ words
+      → ended_by facts result ≡ ended
+      → IsCarriedOut source sink door facts input left out then was now command bytes result
+      → (visitors : List Connection) × Carries source sink door input left out then was now words bytes visitors ended
+  asked input left out then was now command words bytes result ended is so carried =
+      rw (sym is, sym so) carried.carries
+
+-- what is said of a command is said of the words that it stands for
+pub asked-by : (command : Command) (words : Option Command) (rest : Option (List ℕ)) (bytes : List ℕ)
+    → Some command ≡ words → GoesBy (Some command) rest bytes → GoesBy words rest bytes
+asked-by command words rest bytes is goes = subst (λ (o : Option Command). GoesBy o rest bytes) is goes
+
+pub asked-says : (command : Command) (words : Option Command) (bytes : List ℕ) (ending : Ending)
+    → Some command ≡ words → ((visitors : List Connection) → Says ending (verdict_on command visitors bytes))
+    → (visitors : List Connection) → Says ending (verdict_of words visitors bytes)
+asked-says command words bytes ending is says visitors =
+    subst (λ (o : Option Command). Says ending (verdict_of o visitors bytes)) is (says visitors)
 
 module _ {S K D : Type 0} (source : SourceGhosts S) (sink : SinkGhosts K) (door : DoorGhosts D) where
   -- words that are no command
-  pub unasked : (input : S) (out : K) (was : D) (words : Option Command) → words ≡ None
-      → (visitors : List Connection) × Carries source sink door input input out out was was words visitors
+  pub unasked : (input : S) (out : K) (was : D) (words : Option Command) (bytes : List ℕ) → words ≡ None
+      → (visitors : List Connection) × Carries source sink door input input out out was was words bytes visitors
       (record { status = statuses.Usage; world = None })
-  unasked input out was words is =
+  unasked input out was words bytes is =
       subst (λ (o : Option Command). (visitors : List Connection) × Carries source sink door input input out
-      out was was o visitors (record { status = statuses.Usage; world = None }))
+      out was was o bytes visitors (record { status = statuses.Usage; world = None }))
       (sym is) (
         [],
         record {
           ends = record {
             means = refl;
             unread = λ e. refl;
-            visited = λ bytes told. refl;
-            past_limit = λ reliable bytes told past. absurd past;
-            faulty = λ reliable bytes told faulty. absurd faulty;
-            complete = λ reliable bytes told plan makes. absurd (no-plan plan makes);
+            visited = refl;
+            past_limit = λ reliable past. absurd past;
+            faulty = λ reliable faulty. absurd faulty;
+            complete = λ reliable plan makes. absurd (no-plan plan makes);
             consumed = record { some = λ all told. (0, omega arith, told) };
           };
           world = record { done = ((λ some. absurd (no-world some)), λ done. absurd (not-so done.0)); stands = tt };
+          apart = tt;
         },
       )
     where

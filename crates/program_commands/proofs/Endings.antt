@@ -1,5 +1,5 @@
 -- What is said of how a command ends, for each way in which it does.
-use Rattle.std.proofs.Common.{◌≡◌, ◌≢◌, ◌≤◌, ℕ, Bool, true, false, List, [], length, Option, Some, None, Result, Ok, Err, append-nil, refl, inl, inr, sym, subst, ◌∙◌}
+use Rattle.std.proofs.Common.{◌≡◌, ◌≢◌, ◌≤◌, ℕ, Bool, true, false, List, [], ◌∷◌, length, Option, Some, None, Result, Ok, Err, append-nil, refl, inl, inr, sym, subst, ◌∙◌}
 use Rattle.pat_base.specs.declared.member_id.MemberId.{MemberId}
 use Rattle.pat_outside.specs.declared.outside.Sink.{Ghosts as SinkGhosts}
 use Rattle.pat_outside.specs.declared.outside.Source.{Ghosts as SourceGhosts}
@@ -20,7 +20,9 @@ use Rattle.serve_model.specs.Connections.{Connection}
 use Rattle.run_printing.specs.declared.print_error.PrintError.{PrintError}
 use Rattle.run_printing.specs.declared.print_error.PrintError.TheVariants as prints
 use Rattle.run_player.specs.Playing.{PrintsWholeSteps}
-use Rattle.run_serving.specs.Served.{Came}
+use Rattle.pat_door.specs.Doors.{Opened}
+use Rattle.run_serving.specs.Served.{Came, ComeApart}
+use Rattle.run_serving.proofs.Apart.{apart-none}
 use Rattle.run_serving.proofs.Closing.{write-is}
 use Rattle.run_serving.proofs.Visiting.{Came-none}
 use Rattle.run_printing.specs.declared.serve_error.ServeError.{ServeError}
@@ -35,7 +37,7 @@ use Rattle.command_line.specs.declared.status.Status.{Status}
 use Rattle.command_line.specs.declared.status.Status.TheVariants as statuses
 use Rattle.command_line.specs.Commands.{heeded}
 use Rattle.program_commands.specs.Verdicts.{Drills, EndsWhole, Faulty, Formats, IfPlayed, Makes, NoCommand, PastCount, PastLimit, Plan, Plays, Says, Serves, UnknownMember, Verdict, plan_run, plan_text, service_of, verdict_by, verdict_in}
-use Rattle.program_commands.specs.Ends.{Ends, IsBroken, IsCut, IsDone, IsFaulty, IsHalted, IsPastLimit, IsServedBy, IsVisited, serving_of}
+use Rattle.program_commands.specs.Ends.{Ends, IsApart, IsBroken, IsCut, IsDone, IsFaulty, IsHalted, IsPastLimit, IsServedBy, IsVisited, serving_of}
 use Rattle.command_line.specs.Status.{status_of, ending_of_print, ending_of_serve, Refuses, IsRefusal}
 
 -- an ending that refuses bytes says what comes of them
@@ -91,13 +93,45 @@ none-played (Serves script id count visitors) =
 none-played (Drills played) = refl
 none-played (Formats script) = refl
 
-module _ {S K D : Type 0} (source : SourceGhosts S) (sink : SinkGhosts K) (door : DoorGhosts D) where
-  module _ (input left : S) (out : K) (was : D) (read : Bool) (verdict : List ℕ → Verdict) where
-    abbrev told : Option (List ℕ)
-    told = heeded read (source.rest input)
+-- and so nothing came apart
+pub unapart : {D : Type 0} (door : DoorGhosts D) (was : D) (address : List ℕ) (status : Status) (found : Verdict)
+    → serving_of status ≡ Err serves.Memory → IsQuiet found → IsApart door was was address status found
+unapart {D = D} door was address status (Makes (Serves script id count visitors)) stops none =
+    subst (λ (l : List Connection).
+    ComeApart door was was (serving_of status) (after_steps (cluster_of script.head) (steps_of script.body)) id
+    (Opened address ∷ []) l)
+    (sym none)
+    (subst (λ (r : Result (Unit {0}) ServeError).
+    ComeApart door was was r (after_steps (cluster_of script.head) (steps_of script.body)) id (Opened address ∷ []) [])
+    (sym stops)
+    (apart-none door was serves.Memory (after_steps (cluster_of script.head) (steps_of script.body)) id
+    (Opened address ∷ [])))
+unapart door was address status (Makes (Plays played)) stops none = tt
+unapart door was address status (Makes (Drills played)) stops none = tt
+unapart door was address status (Makes (Formats script)) stops none = tt
+unapart door was address status NoCommand stops none = tt
+unapart door was address status PastCount stops none = tt
+unapart door was address status (PastLimit limit) stops none = tt
+unapart door was address status (Faulty line fault) stops none = tt
+unapart door was address status UnknownMember stops none = tt
 
+-- where the input gives no script nothing is served
+pub refusal-unserved : (ending : Ending) → IsRefusal ending → serving_of (status_of ending) ≡ Err serves.Memory
+refusal-unserved (endings.NotScript line fault) is = refl
+refusal-unserved (endings.Limit limit) is = refl
+refusal-unserved endings.ReadFault is = refl
+refusal-unserved endings.Memory is = refl
+refusal-unserved endings.Done is = absurd is
+refusal-unserved endings.Usage is = absurd is
+refusal-unserved endings.UnknownMember is = absurd is
+refusal-unserved endings.WriteFault is = absurd is
+refusal-unserved endings.DoorFault is = absurd is
+refusal-unserved endings.PastCount is = absurd is
+
+module _ {S K D : Type 0} (source : SourceGhosts S) (sink : SinkGhosts K) (door : DoorGhosts D) where
+  module _ (input left : S) (out : K) (was : D) (read : Bool) (verdict : List ℕ → Verdict) (bytes : List ℕ) where
     -- nothing was written for want of memory
-    nothing-cut : (found : Verdict) → IsCut source sink door input left out out was was read verdict found
+    nothing-cut : (found : Verdict) → IsCut source sink door input left out out was was read verdict bytes found
     nothing-cut (Makes plan) = ([], none-played plan, Grew-nothing (sink.content out))
     nothing-cut NoCommand = refl
     nothing-cut PastCount = refl
@@ -107,7 +141,7 @@ module _ {S K D : Type 0} (source : SourceGhosts S) (sink : SinkGhosts K) (door 
 
     -- no connection came to a door, since nothing was played
     unvisited : (status : Status) (found : Verdict) → serving_of status ≡ Err serves.Memory → IsQuiet found
-        → IsVisited source sink door input left out out was was read verdict status found
+        → IsVisited source sink door input left out out was was read verdict bytes status found
     unvisited status (Makes (Serves script id count visitors)) stops none =
         subst (λ (l : List Connection).
         Came door was was (serving_of status) (after_steps (cluster_of script.head) (steps_of script.body)) id count l)
@@ -136,17 +170,17 @@ module _ {S K D : Type 0} (source : SourceGhosts S) (sink : SinkGhosts K) (door 
 
     -- the input is no script, or declares no such member
     pub Ends-faulty : Reads → (found : Verdict) → IsFaulty found → IsQuiet found
-        → Known told (λ bytes. verdict bytes ≡ found)
-        → Ends source sink door input left out out was was read verdict statuses.NotScript
+        → verdict bytes ≡ found
+        → Ends source sink door input left out out was was read verdict bytes statuses.NotScript
     Ends-faulty reads found faulty none is = record {
-      means = (λ bytes told. subst IsFaulty (sym (is bytes told)) faulty, refl);
+      means = (subst IsFaulty (sym is) faulty, refl);
       unread = reads.unread;
       visited =
-          λ bytes told. subst (IsVisited source sink door input left out out was was read verdict statuses.NotScript)
-          (sym (is bytes told)) (unvisited statuses.NotScript found refl none);
-      past_limit = λ reliable bytes told past. absurd (not-past found faulty (subst IsPastLimit (is bytes told) past));
-      faulty = λ reliable bytes told not. inl refl;
-      complete = λ reliable bytes told plan so. absurd (subst IsFaulty (sym (is bytes told) ∙ so) faulty);
+          subst (IsVisited source sink door input left out out was was read verdict bytes statuses.NotScript)
+          (sym is) (unvisited statuses.NotScript found refl none);
+      past_limit = λ reliable past. absurd (not-past found faulty (subst IsPastLimit is past));
+      faulty = λ reliable not. inl refl;
+      complete = λ reliable plan so. absurd (subst IsFaulty (sym is ∙ so) faulty);
       consumed = reads.consumed;
     }
       where
@@ -160,16 +194,16 @@ module _ {S K D : Type 0} (source : SourceGhosts S) (sink : SinkGhosts K) (door 
 
     -- a limit is passed
     pub Ends-past : Reads → (found : Verdict) → IsPastLimit found → IsQuiet found
-        → Known told (λ bytes. verdict bytes ≡ found)
-        → Ends source sink door input left out out was was read verdict statuses.Limit
+        → verdict bytes ≡ found
+        → Ends source sink door input left out out was was read verdict bytes statuses.Limit
     Ends-past reads found past none is = record {
-      means = (λ bytes told. subst IsPastLimit (sym (is bytes told)) past, refl);
+      means = (subst IsPastLimit (sym is) past, refl);
       unread = reads.unread;
-      visited = λ bytes told. subst (IsVisited source sink door input left out out was was read verdict statuses.Limit)
-          (sym (is bytes told)) (unvisited statuses.Limit found refl none);
-      past_limit = λ reliable bytes told passed. inl refl;
-      faulty = λ reliable bytes told faulty. absurd (not-faulty found past (subst IsFaulty (is bytes told) faulty));
-      complete = λ reliable bytes told plan so. absurd (subst IsPastLimit (sym (is bytes told) ∙ so) past);
+      visited = subst (IsVisited source sink door input left out out was was read verdict bytes statuses.Limit)
+          (sym is) (unvisited statuses.Limit found refl none);
+      past_limit = λ reliable passed. inl refl;
+      faulty = λ reliable faulty. absurd (not-faulty found past (subst IsFaulty is faulty));
+      complete = λ reliable plan so. absurd (subst IsPastLimit (sym is ∙ so) past);
       consumed = reads.consumed;
     }
       where
@@ -182,30 +216,30 @@ module _ {S K D : Type 0} (source : SourceGhosts S) (sink : SinkGhosts K) (door 
         not-faulty (Makes plan) past faulty = past
 
     -- memory was wanting before anything was written
-    pub Ends-wanting : Reads → ((bytes : List ℕ) → IsQuiet (verdict bytes))
-        → Ends source sink door input left out out was was read verdict statuses.Memory
+    pub Ends-wanting : Reads → IsQuiet (verdict bytes)
+        → Ends source sink door input left out out was was read verdict bytes statuses.Memory
     Ends-wanting reads none = record {
-      means = λ bytes told. nothing-cut (verdict bytes);
+      means = nothing-cut (verdict bytes);
       unread = reads.unread;
-      visited = λ bytes told. unvisited statuses.Memory (verdict bytes) refl (none bytes);
-      past_limit = λ reliable bytes told past. inr refl;
-      faulty = λ reliable bytes told faulty. inr refl;
-      complete = λ reliable bytes told plan is n can fits opens. inr refl;
+      visited = unvisited statuses.Memory (verdict bytes) refl none;
+      past_limit = λ reliable past. inr refl;
+      faulty = λ reliable faulty. inr refl;
+      complete = λ reliable plan is n can fits opens. inr refl;
       consumed = reads.consumed;
     }
 
   -- an input that gives no script
-  module _ (input left : S) (out : K) (was : D) (verdict : List ℕ → Verdict)
+  module _ (input left : S) (out : K) (was : D) (verdict : List ℕ → Verdict) (bytes : List ℕ)
       (consumed : Consumed (source.rest input) (source.rest left) most_read) where
-    reads-so : Reads input left out was true verdict
+    reads-so : Reads input left out was true verdict bytes
     reads-so = record { unread = λ e. cc; consumed = consumed }
 
     pub Ends-refused : (ending : Ending) → IsRefusal ending
-        → Known (source.rest input) (λ bytes. Says ending (verdict bytes))
-        → ((bytes : List ℕ) → IsQuiet (verdict bytes))
+        → Says ending (verdict bytes)
+        → IsQuiet (verdict bytes)
         → (ending ≡ endings.ReadFault → Rose (source.faults input) (source.faults left))
         → (source.is_reliable input → ending ≢ endings.ReadFault)
-        → Ends source sink door input left out out was was true verdict (status_of ending)
+        → Ends source sink door input left out out was was true verdict bytes (status_of ending)
     Ends-refused endings.Done refusal says none rose unfailing = absurd refusal
     Ends-refused endings.Usage refusal says none rose unfailing = absurd refusal
     Ends-refused endings.WriteFault refusal says none rose unfailing = absurd refusal
@@ -213,118 +247,113 @@ module _ {S K D : Type 0} (source : SourceGhosts S) (sink : SinkGhosts K) (door 
     Ends-refused endings.DoorFault refusal says none rose unfailing = absurd refusal
     Ends-refused endings.PastCount refusal says none rose unfailing = absurd refusal
     Ends-refused (endings.NotScript line fault) refusal says none rose unfailing =
-        Ends-faulty input left out was true verdict reads-so (Faulty line fault) tt tt says
+        Ends-faulty input left out was true verdict bytes reads-so (Faulty line fault) tt tt says
     Ends-refused (endings.Limit limit) refusal says none rose unfailing =
-        Ends-past input left out was true verdict reads-so (PastLimit limit) tt tt says
+        Ends-past input left out was true verdict bytes reads-so (PastLimit limit) tt tt says
     Ends-refused endings.ReadFault refusal says none rose unfailing = record {
       means = (refl, rose refl, refl);
       unread = reads-so.unread;
       visited =
-          λ bytes told. unvisited input left out was true verdict statuses.ReadFault (verdict bytes) refl (none bytes);
+          unvisited input left out was true verdict bytes statuses.ReadFault (verdict bytes) refl none;
       past_limit = λ reliable. absurd (unfailing (reliable refl) refl);
       faulty = λ reliable. absurd (unfailing (reliable refl) refl);
       complete = λ reliable. absurd (unfailing (reliable refl) refl);
       consumed = consumed;
     }
     Ends-refused endings.Memory refusal says none rose unfailing =
-        Ends-wanting input left out was true verdict reads-so none
+        Ends-wanting input left out was true verdict bytes reads-so none
 
   -- a plan of which all was printed, or a front
-  module _ (input left : S) (out then : K) (was now : D) (read : Bool) (verdict : List ℕ → Verdict)
-      (plan : Plan) (is : Known (heeded read (source.rest input)) (λ bytes. verdict bytes ≡ Makes plan))
-      (reads : Reads input left out was read verdict) where
+  module _ (input left : S) (out then : K) (was now : D) (read : Bool) (verdict : List ℕ → Verdict) (bytes : List ℕ)
+      (plan : Plan) (is : verdict bytes ≡ Makes plan)
+      (reads : Reads input left out was read verdict bytes) where
     abbrev Visited : Status → Type 0
-    Visited status = IsVisited source sink door input left out then was now read verdict status (Makes plan)
+    Visited status = IsVisited source sink door input left out then was now read verdict bytes status (Makes plan)
 
-    abbrev heard : Option (List ℕ)
-    heard = heeded read (source.rest input)
+    no-limit : IsPastLimit (verdict bytes) → ⊥
+    no-limit past = subst IsPastLimit is past
 
-    no-limit : Known heard (λ bytes. IsPastLimit (verdict bytes) → ⊥)
-    no-limit bytes told past = subst IsPastLimit (is bytes told) past
+    no-fault : IsFaulty (verdict bytes) → ⊥
+    no-fault faulty = subst IsFaulty is faulty
 
-    no-fault : Known heard (λ bytes. IsFaulty (verdict bytes) → ⊥)
-    no-fault bytes told faulty = subst IsFaulty (is bytes told) faulty
-
-    one-plan : (bytes : List ℕ) → heard ≡ Some bytes → (other : Plan) → verdict bytes ≡ Makes other → plan ≡ other
-    one-plan bytes told other so = same-plan (sym (is bytes told) ∙ so)
+    one-plan : (other : Plan) → verdict bytes ≡ Makes other → plan ≡ other
+    one-plan other so = same-plan (sym is ∙ so)
       where
         same-plan : Makes plan ≡ Makes other → plan ≡ other
         same-plan e = cc
 
     came : (status : Status) → Visited status
-        → Known heard
-        (λ bytes. IsVisited source sink door input left out then was now read verdict status (verdict bytes))
-    came status visited bytes told =
-        subst (IsVisited source sink door input left out then was now read verdict status) (sym (is bytes told)) visited
+        → IsVisited source sink door input left out then was now read verdict bytes status (verdict bytes)
+    came status visited =
+        subst (IsVisited source sink door input left out then was now read verdict bytes status) (sym is) visited
 
     pub Ends-done : {X E : Type 0} {x : X} {fault : E}
-        → (read ≡ true → Known heard (λ bytes. source.rest left ≡ Some []))
+        → (read ≡ true → Known (source.rest input) (λ all. source.rest left ≡ Some []))
         → Prints sink out then fault (Ok x) (plan_text plan) → Visited statuses.Done
-        → Ends source sink door input left out then was now read verdict statuses.Done
+        → Ends source sink door input left out then was now read verdict bytes statuses.Done
     Ends-done end printed visited = record {
       means = (
-        λ bytes told.
-            subst (IsDone source sink door input left out then was now read verdict) (sym (is bytes told)) printed.ok,
+        subst (IsDone source sink door input left out then was now read verdict bytes) (sym is) printed.ok,
         end,
       );
       unread = reads.unread;
       visited = came statuses.Done visited;
-      past_limit = λ reliable bytes told past. absurd (no-limit bytes told past);
-      faulty = λ reliable bytes told faulty. absurd (no-fault bytes told faulty);
-      complete = λ reliable bytes told other so n can fits opens. inl refl;
+      past_limit = λ reliable past. absurd (no-limit past);
+      faulty = λ reliable faulty. absurd (no-fault faulty);
+      complete = λ reliable other so n can fits opens. inl refl;
       consumed = reads.consumed;
     }
 
     -- what a stop leaves on the sink
     pub record Stops (error : ServeError) : Type 0 where
       pub printed : Prints {X = Unit {0}} sink out then serves.Write (Err error) (plan_text plan)
-      pub whole : error ≡ serves.Memory → IsCut source sink door input left out then was now read verdict (Makes plan)
+      pub whole : error ≡ serves.Memory
+          → IsCut source sink door input left out then was now read verdict bytes (Makes plan)
       pub halted : error ≡ serves.Door
           → Rose (door.door_faults was) (door.door_faults now)
-          × IsHalted source sink door input left out then was now read verdict (Makes plan)
-      pub opens : IsServedBy source sink door input left out then was now read verdict plan → error ≢ serves.Door
+          × IsHalted source sink door input left out then was now read verdict bytes (Makes plan)
+      pub opens : IsServedBy source sink door input left out then was now read verdict bytes plan → error ≢ serves.Door
       pub visited : Visited (status_of (ending_of_serve error))
 
     pub Ends-stopped : (error : ServeError) → Stops error
-        → Ends source sink door input left out then was now read verdict (status_of (ending_of_serve error))
+        → Ends source sink door input left out then was now read verdict bytes (status_of (ending_of_serve error))
     Ends-stopped serves.Write s = record {
       means = (
         s.printed.write refl,
-        λ bytes told. subst (IsBroken source sink door input left out then was now read verdict)
-            (sym (is bytes told)) s.printed.part,
+        subst (IsBroken source sink door input left out then was now read verdict bytes)
+            (sym is) s.printed.part,
       );
       unread = reads.unread;
       visited = came statuses.WriteFault s.visited;
-      past_limit = λ reliable bytes told past. absurd (no-limit bytes told past);
-      faulty = λ reliable bytes told faulty. absurd (no-fault bytes told faulty);
-      complete = λ reliable bytes told other so n can fits opens.
+      past_limit = λ reliable past. absurd (no-limit past);
+      faulty = λ reliable faulty. absurd (no-fault faulty);
+      complete = λ reliable other so n can fits opens.
           absurd (s.printed.room n can
-          (subst (λ (p : Plan). length (plan_text p) ≤ n) (sym (one-plan bytes told other so)) fits) refl);
+          (subst (λ (p : Plan). length (plan_text p) ≤ n) (sym (one-plan other so)) fits) refl);
       consumed = reads.consumed;
     }
     Ends-stopped serves.Memory s = record {
-      means = λ bytes told.
-          subst (IsCut source sink door input left out then was now read verdict) (sym (is bytes told)) (s.whole refl);
+      means = subst (IsCut source sink door input left out then was now read verdict bytes) (sym is) (s.whole refl);
       unread = reads.unread;
       visited = came statuses.Memory s.visited;
-      past_limit = λ reliable bytes told past. inr refl;
-      faulty = λ reliable bytes told faulty. inr refl;
-      complete = λ reliable bytes told other so n can fits opens. inr refl;
+      past_limit = λ reliable past. inr refl;
+      faulty = λ reliable faulty. inr refl;
+      complete = λ reliable other so n can fits opens. inr refl;
       consumed = reads.consumed;
     }
     Ends-stopped serves.Door s = record {
       means = (
         (s.halted refl).0,
-        λ bytes told. subst (IsHalted source sink door input left out then was now read verdict)
-            (sym (is bytes told)) (s.halted refl).1,
+        subst (IsHalted source sink door input left out then was now read verdict bytes)
+            (sym is) (s.halted refl).1,
       );
       unread = reads.unread;
       visited = came statuses.DoorFault s.visited;
-      past_limit = λ reliable bytes told past. absurd (no-limit bytes told past);
-      faulty = λ reliable bytes told faulty. absurd (no-fault bytes told faulty);
-      complete = λ reliable bytes told other so n can fits opens.
-          absurd (s.opens (subst (IsServedBy source sink door input left out then was now read verdict)
-          (sym (one-plan bytes told other so)) opens)
+      past_limit = λ reliable past. absurd (no-limit past);
+      faulty = λ reliable faulty. absurd (no-fault faulty);
+      complete = λ reliable other so n can fits opens.
+          absurd (s.opens (subst (IsServedBy source sink door input left out then was now read verdict bytes)
+          (sym (one-plan other so)) opens)
           refl);
       consumed = reads.consumed;
     }

@@ -1,12 +1,13 @@
 -- How a command ends.
-use Rattle.std.specs.Prelude.{ℕ, ◌≡◌, ◌≤◌, ◌⊎◌, Bool, false, List, [], length, Option, Some, Result, Ok, Err, IsTrue}
+use Rattle.std.specs.Prelude.{ℕ, ◌≡◌, ◌≤◌, ◌⊎◌, Bool, false, List, [], ◌∷◌, length, Option, Some, Result, Ok, Err, IsTrue}
 use Rattle.pat_outside.specs.declared.outside.Sink.{Ghosts as SinkGhosts}
 use Rattle.pat_outside.specs.declared.outside.Source.{Ghosts as SourceGhosts}
 use Rattle.pat_outside.specs.Outside.{Known, Rose, Grew, GrewByPrefix, Consumed}
 use Rattle.pat_door.specs.declared.door.Door.{Ghosts as DoorGhosts}
 use Rattle.cluster_model.specs.Starting.{cluster_of}
 use Rattle.cluster_model.specs.Steps.{steps_of}
-use Rattle.run_serving.specs.Served.{Came}
+use Rattle.pat_door.specs.Doors.{Opened}
+use Rattle.run_serving.specs.Served.{Came, ComeApart}
 use Rattle.run_printing.specs.declared.serve_error.ServeError.{ServeError}
 use Rattle.run_printing.specs.declared.serve_error.ServeError.TheVariants as errors
 use Rattle.run_model.specs.Run.{lines_of_run}
@@ -14,7 +15,7 @@ use Rattle.run_model.specs.Visits.{after_steps, served_of}
 use Rattle.command_line.specs.declared.status.Status.{Status}
 use Rattle.command_line.specs.declared.status.Status.TheVariants as statuses
 use Rattle.command_line.specs.Limits.{most_read}
-use Rattle.command_line.specs.Commands.{heeded}
+use Rattle.command_line.specs.Commands.{Command, Serve}
 use Rattle.program_commands.specs.Verdicts.{EndsWhole, Faulty, Makes, PastCount, PastLimit, Plan, Serves, UnknownMember, Verdict, plan_text}
 
 -- the input is no script, or declares no such member
@@ -36,14 +37,23 @@ serving_of statuses.WriteFault = Err errors.Write
 serving_of statuses.DoorFault = Err errors.Door
 serving_of _ = Err errors.Memory
 
--- a source, a sink and a door before a command and after it, whether the
--- command reads the source, and what comes of it by the bytes that it goes by
-module _ {S K D : Type 0} (source : SourceGhosts S) (sink : SinkGhosts K) (door : DoorGhosts D)
-    (input left : S) (out then : K) (was now : D) (read : Bool) (verdict : List ℕ → Verdict) where
-  -- the bytes that the command goes by, where they are told
-  abbrev pub told : Option (List ℕ)
-  told = heeded read (source.rest input)
+-- the address at which words ask to serve, if they do
+abbrev pub address_in : Option Command → List ℕ
+address_in (Some (Serve member address count)) = address
+address_in _ = []
 
+-- the connections of a plan came to a door that was opened at this
+-- address, once and before them, and each failed for itself
+abbrev pub IsApart : {D : Type 0} → DoorGhosts D → D → D → List ℕ → Status → Verdict → Type 0
+IsApart door was now address status (Makes (Serves script id count visitors)) =
+    ComeApart door was now (serving_of status) (after_steps (cluster_of script.head) (steps_of script.body)) id
+    (Opened address ∷ []) visitors
+IsApart door was now address status _ = Unit {0}
+
+-- a source, a sink and a door before a command and after it, whether the command reads the
+-- source, what comes of it by bytes, and the bytes that it goes by: those of the source, if that tells them
+module _ {S K D : Type 0} (source : SourceGhosts S) (sink : SinkGhosts K) (door : DoorGhosts D)
+    (input left : S) (out then : K) (was now : D) (read : Bool) (verdict : List ℕ → Verdict) (bytes : List ℕ) where
   -- no read fails
   abbrev pub NoReadFails : Type 0
   NoReadFails = IsTrue read → source.is_reliable input
@@ -75,15 +85,15 @@ module _ {S K D : Type 0} (source : SourceGhosts S) (sink : SinkGhosts K) (door 
   -- what each status says of the bytes, of the input, of the output and of the door
   abbrev pub Means : Status → Type 0
   Means statuses.Done =
-      Known told (λ bytes. IsDone (verdict bytes)) × (IsTrue read → Known told (λ bytes. source.rest left ≡ Some []))
-  Means statuses.NotScript = Known told (λ bytes. IsFaulty (verdict bytes)) × IsUnwritten
+      IsDone (verdict bytes) × (IsTrue read → Known (source.rest input) (λ all. source.rest left ≡ Some []))
+  Means statuses.NotScript = IsFaulty (verdict bytes) × IsUnwritten
   Means statuses.Usage = IsUnwritten
   Means statuses.ReadFault = IsTrue read × Rose (source.faults input) (source.faults left) × IsUnwritten
-  Means statuses.WriteFault = Rose (sink.faults out) (sink.faults then) × Known told (λ bytes. IsBroken (verdict bytes))
-  Means statuses.Memory = Known told (λ bytes. IsCut (verdict bytes))
+  Means statuses.WriteFault = Rose (sink.faults out) (sink.faults then) × IsBroken (verdict bytes)
+  Means statuses.Memory = IsCut (verdict bytes)
   Means statuses.DoorFault =
-      Rose (door.door_faults was) (door.door_faults now) × Known told (λ bytes. IsHalted (verdict bytes))
-  Means statuses.Limit = Known told (λ bytes. IsPastLimit (verdict bytes)) × IsUnwritten
+      Rose (door.door_faults was) (door.door_faults now) × IsHalted (verdict bytes)
+  Means statuses.Limit = IsPastLimit (verdict bytes) × IsUnwritten
 
   -- what became of the door: the connections of a plan came to it, which else has nothing to do with it
   abbrev pub IsVisited : Status → Verdict → Type 0
@@ -102,12 +112,10 @@ module _ {S K D : Type 0} (source : SourceGhosts S) (sink : SinkGhosts K) (door 
   pub record Ends (status : Status) : Type 0 where
     pub means : Means status
     pub unread : read ≡ false → left ≡ input
-    pub visited : Known told (λ bytes. IsVisited status (verdict bytes))
-    pub past_limit : NoReadFails
-        → Known told (λ bytes. IsPastLimit (verdict bytes) → (status ≡ statuses.Limit) ⊎ (status ≡ statuses.Memory))
-    pub faulty : NoReadFails
-        → Known told (λ bytes. IsFaulty (verdict bytes) → (status ≡ statuses.NotScript) ⊎ (status ≡ statuses.Memory))
-    pub complete : NoReadFails → Known told (λ bytes.
-        (plan : Plan) → verdict bytes ≡ Makes plan → (n : ℕ) → sink.can_take out n →
-        length (plan_text plan) ≤ n → IsServedBy plan → (status ≡ statuses.Done) ⊎ (status ≡ statuses.Memory))
+    pub visited : IsVisited status (verdict bytes)
+    pub past_limit : NoReadFails → IsPastLimit (verdict bytes)
+        → (status ≡ statuses.Limit) ⊎ (status ≡ statuses.Memory)
+    pub faulty : NoReadFails → IsFaulty (verdict bytes) → (status ≡ statuses.NotScript) ⊎ (status ≡ statuses.Memory)
+    pub complete : NoReadFails → (plan : Plan) → verdict bytes ≡ Makes plan → (n : ℕ) → sink.can_take out n
+        → length (plan_text plan) ≤ n → IsServedBy plan → (status ≡ statuses.Done) ⊎ (status ≡ statuses.Memory)
     pub consumed : Consumed (source.rest input) (source.rest left) most_read

@@ -1,6 +1,7 @@
 //! Commands carried out.
+ghost use Rattle.std.specs.Prelude.{ℕ, List, Some};
 ghost use Rattle.command_line.specs.Commands.{Serve, order_command};
-ghost use Rattle.program_commands.specs.Carried.{IsCarriedOut};
+ghost use Rattle.program_commands.specs.Carried.{GoesBy, IsCarriedOut};
 
 use command_line::{Ending, Order, drawn_script, member_named, print_script, script_from};
 use pat_door::Door;
@@ -18,7 +19,8 @@ pub fn carry_out<W: Simulation, S: Source, K: Sink, D: Door>(
     out: &mut K,
     door: &mut D,
 ) -> Result<Option<W>, Ending>
-    ensures { IsCarriedOut S.Source K.Sink D.Door W.facts input.old input.new out.old out.new door.old door.new (order_command order.entry) result }
+    ensures { (bytes : List ℕ) × GoesBy (Some (order_command order.entry)) (S.rest input.old) bytes
+        × IsCarriedOut S.Source K.Sink D.Door W.facts input.old input.new out.old out.new door.old door.new (order_command order.entry) bytes result }
 {
     match order {
         Order::Run => {
@@ -60,7 +62,8 @@ fn serve_script<W: Simulation, S: Source, K: Sink, D: Door>(
     out: &mut K,
     door: &mut D,
 ) -> Result<Option<W>, Ending>
-    ensures { IsCarriedOut S.Source K.Sink D.Door W.facts input.old input.new out.old out.new door.old door.new (Serve name.now address.now count) result }
+    ensures { (bytes : List ℕ) × GoesBy (Some (Serve name.now address.now count)) (S.rest input.old) bytes
+        × IsCarriedOut S.Source K.Sink D.Door W.facts input.old input.new out.old out.new door.old door.new (Serve name.now address.now count) bytes result }
 {
     let script = script_from(alloc, MOST_WAITING.saturating_mul(count), input)?;
     let Some(member) = member_named(script.head(), name) else {

@@ -26,6 +26,8 @@ use Rattle.lease_runs.proofs.MeasuredRuns.{runs-measured}
 use Rattle.lease_runs.proofs.NamedRuns.{runs-name}
 use Rattle.commit_runs.specs.Runs.{KeepsCommitsIn, first_logs}
 use Rattle.commit_runs.proofs.EveryRun.{runs-in-order, runs-keep}
+use Rattle.premise_law.proofs.EveryRun.{runs-feed, runs-pass}
+use Rattle.premise_law.proofs.TakeOvers.{take-overs}
 use Rattle.cluster_model.specs.State.{Cluster}
 use Rattle.event_book.specs.Writers.{HasOneWriter}
 use Rattle.run_model.specs.Run.{closing_of_run, events_by_step, Played, run_of}
@@ -105,6 +107,9 @@ module _ (played : Played) (is : IsHead played.head) where
     one_primary = λ front rest parts met. one-found played.head front (one-writer front rest parts met);
     kept_commits = keeps-commits;
     sync_order = runs-in-order played.head is played.steps;
+    own_grants = runs-feed played.head is played.steps;
+    outside_sync = runs-pass played.head is played.steps;
+    take_overs = take-overs played.head (run_of played);
     summary = closes;
     names = named;
     premises_guard = steps-guarded (watches_of played.head) played.head.config (events_by_step start played.steps) few

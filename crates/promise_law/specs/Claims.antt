@@ -7,6 +7,9 @@ use Rattle.summary_model.specs.Listed.{AreNamed}
 use Rattle.rest_law.specs.Finding.{FindsOne}
 use Rattle.lease_parts.specs.Kept.{WhereMet}
 use Rattle.commit_runs.specs.Runs.{KeepsCommitsIn, KeepsOrderIn, first_logs}
+use Rattle.premise_law.specs.Feeding.{FeedOnTheirGrants}
+use Rattle.premise_law.specs.Passing.{PassOutside}
+use Rattle.premise_law.specs.TakingOver.{NotesTakeOvers}
 use Rattle.run_model.specs.Run.{Played, closing_of_run, run_of}
 use Rattle.run_model.specs.Watches.{watches_of}
 
@@ -25,6 +28,16 @@ pub record KeepsPromises (played : Played) : Type 0 where
   -- its sender; and who asked to add a standby to it had commits wait for that one, which had confirmed
   -- where its leader's log ended when its required list last grew (Patroni, "Replication modes").
   pub sync_order : KeepsOrderIn played.head (run_of played)
+  -- Each watchdog is armed, and fed by a grant, only in the input by which its member hears of that very grant
+  -- of the leader key: the answer that is named tells that this member's own create or renewal was granted.
+  -- So a feed is late only by its member's own delay.
+  pub own_grants : FeedOnTheirGrants (run_of played)
+  -- Whoever leads outside the sync key has read that this doesn't name it: the key that its last turn read
+  -- has it neither as the leader nor as a standby, and an answer told it that since its agent started.
+  pub outside_sync : PassOutside played.head (run_of played)
+  -- Whoever takes over its running server notes where the log of that ends then: whoever
+  -- becomes a standby must have confirmed that position (Patroni, "Replication modes").
+  pub take_overs : NotesTakeOvers played.head (run_of played)
   -- Each answer of the closing summary is so of the book: when the premises were first
   -- broken, and why; when synchronous mode was; since when two servers accepted writes,
   -- and which do at the end; how many commits were acknowledged; since when one is lost.

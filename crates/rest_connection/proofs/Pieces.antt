@@ -1,5 +1,5 @@
 -- What a connection asks, read piece by piece.
-use Rattle.std.proofs.Common.{ℕ, zero, suc, ◌≡◌, ◌≢◌, ◌⊎◌, inl, inr, ◌<◌, ◌≤◌, ◌+◌, nat_lt, Bool, true, false, List, [], ◌∷◌, ◌++◌, length, map, take, drop, Option, Some, None, option_map, Result, Ok, Err, IsErrAnd, IsSome, IsTrue, arith, refl, ap, sym, ◌∙◌, subst, length-append, length-take, length-drop, take-append-drop, take_all}
+use Rattle.std.proofs.Common.{ℕ, zero, suc, ◌≡◌, ◌≢◌, ◌⊎◌, inl, inr, ◌<◌, ◌≤◌, ◌+◌, ◌-◌, nat_lt, Bool, true, false, List, [], ◌∷◌, ◌++◌, length, map, take, drop, Option, Some, None, option_map, Result, Ok, Err, IsErrAnd, IsSome, IfSome, IsTrue, MatchResult, arith, refl, ap, sym, ◌∙◌, subst, length-append, length-take, length-drop, take-append-drop, take_all}
 use Rattle.std.specs.Str.Parse.{digits_value}
 use Rattle.std.proofs.lemmas.Bool.{ltb-true, ltb-false}
 use Rattle.std.specs.Prelude.{codes}
@@ -11,7 +11,7 @@ use Rattle.httparse.specs.Spans.{name_and_value}
 use Rattle.httparse.proofs.GrammarLemmas.{request_unique, ReadsRequest-append}
 use Rattle.pat_outside.specs.Outside.{Known}
 use Rattle.pat_outside.proofs.Contents.{HasRead, HasRead-more}
-use Rattle.pat_door.specs.Doors.{DoorFacts, Tells, bytes_here, after_read}
+use Rattle.pat_door.specs.Doors.{DoorCall, DoorFacts, ReadCounts, Tells, bytes_here, after_read, read_more}
 use Rattle.pat_door.specs.declared.door.Door.{Ghosts}
 use Rattle.pat_door.proofs.Growing.{after_read-twice}
 use Rattle.rest_request.specs.declared.limits.TheConstants.{HEAD_LIMIT, BODY_LIMIT}
@@ -26,11 +26,20 @@ use Rattle.rest_request.proofs.Readings.{one-thing, stays}
 use Rattle.rest_connection.specs.declared.asking.TheConstants.{PIECE}
 use Rattle.rest_connection.specs.declared.asking.AskError.{AskError}
 use Rattle.rest_connection.specs.declared.asking.AskError.TheVariants.{Bytes, Connection}
-use Rattle.rest_connection.specs.Connections.{IsRequested, LeavesRest, at_end, fault_seen, seen}
+use Rattle.rest_connection.specs.Connections.{IsRequested, IsUnanswered, LeavesRest, ReadsToAnswer, at_end, fault_read, fault_seen, read_failed, seen, with_failed_read}
 
 -- the most bytes that are read of a connection
 abbrev pub most-read : ℕ
 most-read = HEAD_LIMIT + (BODY_LIMIT + PIECE)
+
+-- so many bytes have been read behind these counts, and before the last read there was no answer
+pub record ReadEarly {D : Type 0} (door : Ghosts D) (before after : D) (bytes : List ℕ) (counts : ReadCounts) : Type
+    0 where
+  pub then : ReadCounts
+  pub has : door.has_read after then
+  pub all : then.all ≡ counts.all + length bytes
+  pub unanswered : 0 < length bytes
+      → Known (bytes_here (door.told before)) (λ all. IsUnanswered (take (then.before - counts.all) all))
 
 -- these bytes have been read, and what the door promised still holds
 pub record Reading {D : Type 0} (door : Ghosts D) (before after : D) (bytes : List ℕ) : Type 0 where
@@ -41,6 +50,44 @@ pub record Reading {D : Type 0} (door : Ghosts D) (before after : D) (bytes : Li
   pub calm : door.door_faults after ≡ door.door_faults before
   pub served : (n : ℕ) → door.serves before n → door.serves after n
   pub reliable : (n : ℕ) → door.takes before n → door.takes after n
+  pub spare : (n : ℕ) → door.has_room before n → door.has_room after n
+  pub heard : (calls : List DoorCall) → door.heard before calls → door.heard after calls
+  pub early : (counts : ReadCounts) → door.has_read before counts → ReadEarly door before after bytes counts
+
+-- nothing was read yet
+nothing-here : (here : Option (List ℕ)) → option_map (drop 0) here ≡ here
+nothing-here None = refl
+nothing-here (Some all) = refl
+
+no-byte : 0 < length {A = ℕ} [] → ⊥
+no-byte some = omega (arith, some)
+
+nothing-read : {D : Type 0} (door : Ghosts D) (before : D) → Reading door before before []
+nothing-read door before = record {
+  facts = λ facts is. is ∙ ap (λ here. Some (record facts { here = here })) (sym (nothing-here facts.here));
+  read = record {
+    within = omega arith;
+    front = λ all is. (omega arith, refl);
+    rest = λ all is. is;
+    grows = omega arith;
+  };
+  present = λ some. absurd (no-byte some);
+  calm = refl;
+  served = λ n serves. serves;
+  reliable = λ n takes. takes;
+  spare = λ n has. has;
+  heard = λ calls heard. heard;
+  early = λ counts has. record {
+    then = counts;
+    has = has;
+    all = omega arith;
+    unanswered = λ some. absurd (no-byte some);
+  };
+}
+
+pub reading-starts : {D : Type 0} (door : Ghosts D) (before : D) (bytes : List ℕ) → bytes ≡ []
+    → Reading door before before bytes
+reading-starts door before bytes none = subst (Reading door before before) (sym none) (nothing-read door before)
 
 -- two reads are as good as one
 read-more : (before mid after : Option DoorFacts) (count more : ℕ)
@@ -79,11 +126,36 @@ pub record ReadsPiece {D : Type 0} (door : Ghosts D) (mid after : D) (bytes long
   pub calm : door.door_faults after ≡ door.door_faults mid
   pub served : (n : ℕ) → door.serves mid n → door.serves after n
   pub reliable : (n : ℕ) → door.takes mid n → door.takes after n
+  pub spare : (n : ℕ) → door.has_room mid n → door.has_room after n
+  pub heard : (calls : List DoorCall) → door.heard mid calls → door.heard after calls
+  pub counts : (counts : ReadCounts) → door.has_read mid counts → door.has_read after (read_more count counts)
+
+-- what was read has no answer where more is wanted
+unanswered-front : (all bytes : List ℕ) (n : ℕ) → bytes ≡ take (length bytes) all → n ≡ length bytes
+    → Reads bytes (Ok None) → IsUnanswered (take n all)
+unanswered-front all bytes n front is reads =
+    let begins = reads (λ e. cc) in
+    subst IsUnanswered (front ∙ ap (λ k. take k all) (sym is)) (begins.0, begins.1, sym begins.2)
+
+read-early : {D : Type 0} (door : Ghosts D) (before mid after : D) (bytes : List ℕ) (count : ℕ)
+    (counts : ReadCounts) (longer : List ℕ) → Reading door before mid bytes → Reads bytes (Ok None)
+    → length longer ≡ length bytes + count
+    → ((counts : ReadCounts) → door.has_read mid counts → door.has_read after (read_more count counts))
+    → door.has_read before counts → ReadEarly door before after longer counts
+read-early door before mid after bytes count counts longer had reads long more has =
+    let e = had.early counts has in
+    record {
+      then = read_more count e.then;
+      has = more e.then e.has;
+      all = omega (arith, e.all, long);
+      unanswered = λ some all is.
+          unanswered-front all bytes (e.then.all - counts.all) (had.read.front all is).1 (omega (arith, e.all)) reads;
+    }
 
 pub reading-more : {D : Type 0} (door : Ghosts D) (before mid after : D) (bytes longer : List ℕ) (count : ℕ)
-    → Reading door before mid bytes → length bytes < HEAD_LIMIT + BODY_LIMIT
+    → Reading door before mid bytes → length bytes < HEAD_LIMIT + BODY_LIMIT → Reads bytes (Ok None)
     → ReadsPiece door mid after bytes longer count → Reading door before after longer
-reading-more door before mid after bytes longer count had short more = record {
+reading-more door before mid after bytes longer count had short wanted more = record {
   facts = subst (λ (n : ℕ). Tells (door.told before) (λ facts. door.told after ≡ Some (after_read n facts)))
       (sym more.added) (read-more _ _ _ (length bytes) count had.facts more.facts);
   read = HasRead-more _ _ _ _ _ _ _ _ _ _ had.read
@@ -93,6 +165,10 @@ reading-more door before mid after bytes longer count had short more = record {
   calm = more.calm ∙ had.calm;
   served = λ n serves. more.served n (had.served n serves);
   reliable = λ n takes. more.reliable n (had.reliable n takes);
+  spare = λ n has. more.spare n (had.spare n has);
+  heard = λ calls heard. more.heard calls (had.heard calls heard);
+  early = λ counts has.
+      read-early door before mid after bytes count counts longer had wanted more.added more.counts has;
 }
 
 -- content that is wanted is within its limit
@@ -372,3 +448,79 @@ pub asks-one : (all : List ℕ) (one other : Result RequestText RequestFault) �
 asks-one all one other x y =
     elim (one-end all
     (nat_lt HEAD_LIMIT (length all)) x.0 y.0 refl x.1 y.1) [ inl e ↦ inl (x.2 ∙ e ∙ sym y.2) | inr t ↦ inr t ]
+
+-- what was read no further than its answer
+pub to-answer : {D : Type 0} (door : Ghosts D) (before after : D) (bytes : List ℕ) → Reading door before after bytes
+    → 0 < length bytes → ReadsToAnswer door before after false
+to-answer door before after bytes had some = record {
+  unanswered = λ counts has.
+      let e = had.early counts has in
+      (e.then, e.has, e.unanswered some);
+}
+
+-- a fault of the bytes is an answer, unless memory was wanting
+pub to-fault : {D : Type 0} (door : Ghosts D) (before after : D) (bytes : List ℕ) (fault : RequestFault)
+    (result : Result Request AskError) → Reading door before after bytes
+    → Reads bytes (Err fault) → IsErrAnd result (λ error. error ≡ Bytes fault)
+    → IfSome (read_failed result) (λ failed. ReadsToAnswer door before after failed)
+to-fault door before after bytes fault (Ok request) had reads fails = absurd fails
+to-fault door before after bytes fault (Err error) had reads fails =
+    let same : error ≡ Bytes fault = fails in
+    rw same (by-fault fault reads)
+  where
+    by-fault : (fault : RequestFault) → Reads bytes (Err fault)
+        → IfSome (fault_read fault) (λ failed. ReadsToAnswer door before after failed)
+    by-fault Memory reads = tt
+    by-fault BadHead reads =
+        to-answer door before after bytes had (answered-some bytes (Err BadHead) (Err BadHead) reads refl)
+    by-fault TooLong reads =
+        to-answer door before after bytes had (answered-some bytes (Err TooLong) (Err TooLong) reads refl)
+    by-fault BadLength reads =
+        to-answer door before after bytes had (answered-some bytes (Err BadLength) (Err BadLength) reads refl)
+
+-- where no more bytes came, all of them had no answer
+pub to-end : {D : Type 0} (door : Ghosts D) (before mid after : D) (bytes : List ℕ) (count : ℕ)
+    → Reading door before mid bytes → Reads bytes (Ok None)
+    → ((counts : ReadCounts) → door.has_read mid counts → door.has_read after (read_more count counts))
+    → ReadsToAnswer door before after false
+to-end door before mid after bytes count had reads more = record {
+  unanswered = λ counts has.
+      let e = had.early counts has in (
+        read_more count e.then,
+        more e.then e.has,
+        λ all is.
+            unanswered-front all bytes (e.then.all - counts.all) (had.read.front all is).1 (omega (arith, e.all)) reads,
+      );
+}
+
+-- and so where a read failed
+pub to-failure : {D : Type 0} (door : Ghosts D) (before mid after : D) (bytes : List ℕ) (error : AskError)
+    (result : Result Request AskError) → Reading door before mid bytes → Reads bytes (Ok None)
+    → (error ≡ Bytes Memory) ⊎ (error ≡ Connection) → IsErrAnd result (λ given. given ≡ error)
+    → ((counts : ReadCounts) → door.has_read mid counts → error ≡ Connection → door.has_read after counts)
+    → IfSome (read_failed result) (λ failed. ReadsToAnswer door before after failed)
+to-failure door before mid after bytes error (Ok request) had reads which fails more = absurd fails
+to-failure door before mid after bytes error (Err given) had reads (inl memory) fails more =
+    let same : given ≡ Bytes Memory = fails ∙ memory in
+    rw same tt
+to-failure door before mid after bytes error (Err given) had reads (inr line) fails more =
+    let same : given ≡ Connection = fails ∙ line in
+    rw same (record {
+      unanswered = λ counts has.
+          let e = had.early counts has in (
+            e.then,
+            more e.then e.has line,
+            λ all is.
+                unanswered-front all bytes (e.then.all - counts.all) (had.read.front all is).1 (omega (arith, e.all))
+                reads,
+          );
+    })
+
+-- what a call ends with says whether a read failed
+pub heard-by : {D : Type 0} (door : Ghosts D) (after : D) (result : Result Request AskError) (error : AskError)
+    (calls : List DoorCall) → IsErrAnd result (λ given. given ≡ error) → door.heard after (with_failed_read error calls)
+    → MatchResult result (λ request. door.heard after calls) (λ e. door.heard after (with_failed_read e calls))
+heard-by door after (Ok request) error calls fails heard = absurd fails
+heard-by door after (Err given) error calls fails heard =
+    let same : given ≡ error = fails in
+    rw same heard

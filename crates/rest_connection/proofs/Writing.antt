@@ -1,7 +1,7 @@
 -- Bytes that are written on a connection piece by piece.
 use Rattle.std.proofs.Common.{ℕ, ◌≡◌, ◌≤◌, ◌<◌, ◌+◌, ◌-◌, List, [], ◌++◌, length, take, drop, Option, Some, IsSome, arith, refl, ap, sym, ◌∙◌, take-add, length-drop, take-append-drop, take_all}
 use Rattle.pat_outside.proofs.Contents.{slice_rest}
-use Rattle.pat_door.specs.Doors.{DoorFacts, Tells, after_write}
+use Rattle.pat_door.specs.Doors.{DoorCall, DoorFacts, ReadCounts, Tells, after_write}
 use Rattle.pat_door.specs.declared.door.Door.{Ghosts}
 use Rattle.pat_door.proofs.Growing.{after_write-nothing, after_write-twice}
 use Rattle.rest_connection.specs.Answers.{WritesFront}
@@ -15,6 +15,9 @@ pub record Written {D : Type 0} (door : Ghosts D) (before after : D) (bytes : Li
   pub calm : door.door_faults after ≡ door.door_faults before
   pub served : (n : ℕ) → door.serves before n → door.serves after n
   pub room : (n : ℕ) → door.takes before n → length bytes ≤ n → door.takes after (n - at)
+  pub spare : (n : ℕ) → door.has_room before n → door.has_room after (n - at)
+  pub heard : (calls : List DoorCall) → door.heard before calls → door.heard after calls
+  pub counts : (counts : ReadCounts) → door.has_read before counts → door.has_read after counts
 
 pub written-nothing : (before : Option DoorFacts) → Tells before (λ facts. before ≡ Some (after_write [] facts))
 written-nothing before facts is = is ∙ ap Some (sym (after_write-nothing facts))

@@ -1,7 +1,8 @@
 -- What a connection asks, and what a call tells of it.
-use Rattle.std.specs.Prelude.{ℕ, ◌≡◌, ◌≤◌, List, take, Option, Some, None, Result, Ok, Err}
+use Rattle.std.specs.Prelude.{ℕ, ◌≡◌, ◌≤◌, ◌-◌, Bool, true, false, List, [], ◌∷◌, ◌++◌, take, Option, Some, None, Result, Ok, Err}
 use Rattle.pat_outside.specs.Outside.{Known}
-use Rattle.pat_door.specs.Doors.{DoorFacts, after_read}
+use Rattle.pat_door.specs.declared.door.Door.{Ghosts}
+use Rattle.pat_door.specs.Doors.{DoorCall, DoorFacts, Failed, ReadCounts, after_read, bytes_here}
 use Rattle.rest_message.specs.declared.request.Request.{Request}
 use Rattle.rest_request.specs.declared.fault.RequestFault.{RequestFault}
 use Rattle.rest_request.specs.declared.fault.RequestFault.TheVariants.{BadHead, TooLong, BadLength, Memory}
@@ -39,3 +40,33 @@ abbrev pub LeavesRest : ℕ → DoorFacts → Option DoorFacts → Option (Resul
 LeavesRest most facts after told = (count : ℕ) × (count ≤ most) × (after ≡ Some (after_read count facts))
     × Known facts.here
     (λ all. (answer : Result RequestText RequestFault) → told ≡ Some answer → IsRequested (take count all) answer)
+
+-- to these bytes there is no answer yet: more are wanted
+abbrev pub IsUnanswered : List ℕ → Type 0
+IsUnanswered bytes = (begun : Begun) × IsBegun bytes begun × (answer_of bytes begun ≡ Ok None)
+
+-- whether a read failed, in a call that tells it: where memory was wanting nothing is said
+abbrev pub fault_read : RequestFault → Option Bool
+fault_read Memory = None
+fault_read _ = Some false
+
+abbrev pub read_failed : Result Request AskError → Option Bool
+read_failed (Ok request) = Some false
+read_failed (Err (Bytes fault)) = fault_read fault
+read_failed (Err Connection) = Some true
+
+-- how many bytes had been read of a connection before its last read; and where that failed, all of them
+abbrev pub before_last : Bool → ReadCounts → ℕ
+before_last true counts = counts.all
+before_last false counts = counts.before
+
+-- A connection was read no further than its first answer: what had been read of it before the last read had none yet
+pub record ReadsToAnswer {D : Type 0} (door : Ghosts D) (before after : D) (failed : Bool) : Type 0 where
+  pub unanswered : (counts : ReadCounts) → door.has_read before counts
+      → (then : ReadCounts) × door.has_read after then
+      × Known (bytes_here (door.told before)) (λ all. IsUnanswered (take (before_last failed then - counts.all) all))
+
+-- what a door was called for, where a call ended with this error: a read of it failed besides, or none did
+abbrev pub with_failed_read : AskError → List DoorCall → List DoorCall
+with_failed_read (Bytes fault) calls = calls
+with_failed_read Connection calls = calls ++ Failed ∷ []

@@ -1,14 +1,14 @@
 //! What a connection asks.
-ghost use Rattle.std.specs.Prelude.{ℕ, ◌≡◌, ◌≢◌, ◌≤◌, ◌+◌, ◌++◌, ◌⊎◌, ⊤, length, take, Some, Result, Err, IfOk, OnOk, IsErrOf, MatchResult, IsSome};
+ghost use Rattle.std.specs.Prelude.{ℕ, ◌≡◌, ◌≢◌, ◌≤◌, ◌+◌, ◌++◌, ◌⊎◌, ⊤, List, length, take, Some, Result, Err, IfOk, IfSome, OnOk, IsErrOf, MatchResult, IsSome};
 ghost use Rattle.pat_outside.specs.Outside.{Known, Rose};
-ghost use Rattle.pat_door.specs.Doors.{Tells, bytes_here, after_read};
+ghost use Rattle.pat_door.specs.Doors.{DoorCall, ReadCounts, Tells, bytes_here, after_read, read_more};
 ghost use Rattle.rest_request.specs.declared.fault.RequestFault.{RequestFault};
 ghost use Rattle.rest_request.specs.declared.fault.RequestFault.TheVariants as faults;
 ghost use Rattle.rest_request.specs.declared.limits.TheConstants.{HEAD_LIMIT, BODY_LIMIT};
 ghost use Rattle.rest_message.specs.Requests.{RequestText};
 ghost use Rattle.rest_connection.specs.declared.asking.AskError.TheVariants.{Bytes, Connection};
 ghost use Rattle.rest_connection.specs.declared.asking.TheConstants.{PIECE};
-ghost use Rattle.rest_connection.specs.Connections.{IsRequested, LeavesRest, seen};
+ghost use Rattle.rest_connection.specs.Connections.{IsRequested, LeavesRest, ReadsToAnswer, read_failed, seen, with_failed_read};
 
 use pat_door::Door;
 use pat_outside::Failed;
@@ -57,8 +57,8 @@ impl From<Failed> for AskError {
 
 /// The request with which the bytes of the present connection begin, read in as many pieces as it takes (RFC 9112,
 /// section 2.2). Where they end before it is whole the fault is `BadHead`. Nothing depends on how the connection cuts them,
-/// but where there are more than `HEAD_LIMIT` of which the first end within a target (`cuts_change_nothing`). Bytes behind the request may be
-/// read too, and are lost.
+/// but where there are more than `HEAD_LIMIT` of which the first end within a target (`cuts_change_nothing`). No read is begun once the bytes
+/// have an answer, since a client that waits for it may send no more. What the last read brings behind the request is lost.
 pub fn read_request_from<D: Door>(alloc: Global, door: &mut D) -> Result<Request, AskError>
     ensures asked { Known (bytes_here (D.told door.old)) (λ all. (answer : Result RequestText RequestFault) → seen result ≡ Some answer → IsRequested all answer) }
     ensures present { (answer : Result RequestText RequestFault) → seen result ≡ Some answer → Tells (D.told door.old) (λ facts. IsSome facts.here) }
@@ -68,6 +68,9 @@ pub fn read_request_from<D: Door>(alloc: Global, door: &mut D) -> Result<Request
     ensures door { D.door_faults door.new ≡ D.door_faults door.old }
     ensures served { (n : ℕ) → D.serves door.old n → D.serves door.new n }
     ensures reliable { (n : ℕ) → D.takes door.old n → D.takes door.new n × (result ≢ Err Connection) }
+    ensures early { IfSome (read_failed result) (λ failed. ReadsToAnswer D.Door door.old door.new failed) }
+    ensures spare { (n : ℕ) → D.has_room door.old n → D.has_room door.new n }
+    ensures heard { (calls : List DoorCall) → D.heard door.old calls → MatchResult result (λ _. D.heard door.new calls) (λ error. D.heard door.new (with_failed_read error calls)) }
 {
     let mut bytes = Vec::new(alloc);
     loop {
@@ -95,6 +98,10 @@ fn read_more<D: Door>(door: &mut D, bytes: &mut Vec<u8>) -> Result<usize, AskErr
     ensures door { D.door_faults door.new ≡ D.door_faults door.old }
     ensures served { (n : ℕ) → D.serves door.old n → D.serves door.new n }
     ensures reliable { (n : ℕ) → D.takes door.old n → D.takes door.new n × (result ≢ Err Connection) }
+    ensures counts { (counts : ReadCounts) → D.has_read door.old counts
+        → MatchResult result (λ count. D.has_read door.new (read_more count counts)) (λ error. error ≡ Connection → D.has_read door.new counts) }
+    ensures spare { (n : ℕ) → D.has_room door.old n → D.has_room door.new n }
+    ensures heard { (calls : List DoorCall) → D.heard door.old calls → MatchResult result (λ _. D.heard door.new calls) (λ error. D.heard door.new (with_failed_read error calls)) }
 {
     let mut buf = [0u8; PIECE];
     let count = door.read(&mut buf)?;

@@ -1,11 +1,11 @@
 //! What is answered on a connection.
-ghost use Rattle.std.specs.Prelude.{ℕ, ◌≡◌, ◌≢◌, ◌≤◌, ◌<◌, ◌-◌, length, Some, Result, Err, IsOk, IsSome, MatchResult, OnOk, OnErr, IsErrOf};
+ghost use Rattle.std.specs.Prelude.{ℕ, ◌≡◌, ◌≢◌, ◌≤◌, ◌<◌, ◌-◌, ◌++◌, ◌∷◌, [], List, length, Some, Result, Err, IsOk, IsSome, MatchResult, OnOk, OnErr, IsErrOf};
 ghost use Rattle.pat_outside.specs.Outside.{Rose};
-ghost use Rattle.pat_door.specs.Doors.{Tells, after_write};
+ghost use Rattle.pat_door.specs.Doors.{DoorCall, Failed as LineFailed, ReadCounts, Tells, after_write};
 ghost use Rattle.rest_message.specs.Replies.{reply_text};
 ghost use Rattle.rest_reply.specs.Replies.{reply_bytes};
 ghost use Rattle.rest_connection.specs.declared.replying.ReplyError.TheVariants.{Memory, Connection};
-ghost use Rattle.rest_connection.specs.Answers.{WritesFront};
+ghost use Rattle.rest_connection.specs.Answers.{WritesFront, with_failed_write};
 
 use pat_door::Door;
 use pat_outside::Failed;
@@ -59,6 +59,9 @@ pub fn write_reply_to<D: Door>(
     ensures served { (n : ℕ) → D.serves door.old n → D.serves door.new n }
     ensures room { (n : ℕ) → D.takes door.old n → length (reply_bytes (reply_text reply.now) head_only) ≤ n
         → MatchResult result (λ _. D.takes door.new (n - length (reply_bytes (reply_text reply.now) head_only))) (λ error. error ≢ Connection) }
+    ensures spare { (n : ℕ) → D.has_room door.old n → OnOk result (D.has_room door.new (n - length (reply_bytes (reply_text reply.now) head_only))) }
+    ensures heard { (calls : List DoorCall) → D.heard door.old calls → MatchResult result (λ _. D.heard door.new calls) (λ error. D.heard door.new (with_failed_write error calls)) }
+    ensures counts { (counts : ReadCounts) → D.has_read door.old counts → D.has_read door.new counts }
 {
     let bytes = print_reply(alloc, reply, head_only)?;
     write_whole(door, &bytes)?;
@@ -75,6 +78,9 @@ fn write_whole<D: Door>(door: &mut D, bytes: &[u8]) -> Result<(), Failed>
     ensures door { D.door_faults door.new ≡ D.door_faults door.old }
     ensures served { (n : ℕ) → D.serves door.old n → D.serves door.new n }
     ensures room { (n : ℕ) → D.takes door.old n → length bytes.now ≤ n → IsOk result × D.takes door.new (n - length bytes.now) }
+    ensures spare { (n : ℕ) → D.has_room door.old n → OnOk result (D.has_room door.new (n - length bytes.now)) }
+    ensures heard { (calls : List DoorCall) → D.heard door.old calls → MatchResult result (λ _. D.heard door.new calls) (λ _. D.heard door.new (calls ++ LineFailed ∷ [])) }
+    ensures counts { (counts : ReadCounts) → D.has_read door.old counts → D.has_read door.new counts }
 {
     let mut at = 0;
     while at < bytes.len() {

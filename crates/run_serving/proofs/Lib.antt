@@ -1,3 +1,4 @@
+pub mod Apart
 pub mod Closing
 pub mod Received
 pub mod Shown

@@ -1,5 +1,5 @@
 -- A run with connections behind its script: which came, and what was sent on each.
-use Rattle.std.specs.Prelude.{ℕ, ◌≡◌, ◌≢◌, ◌≤◌, false, List, [], ◌∷◌, ◌++◌, length, All, Some, None, Result, Err, IfOk, OnOk, IsErrOf, MatchResult, ◌⊎◌, ◌+◌}
+use Rattle.std.specs.Prelude.{ℕ, ◌≡◌, ◌≢◌, ◌≤◌, false, List, [], ◌∷◌, ◌++◌, length, All, Some, None, Result, Err, IfOk, IsErr, OnOk, IsErrOf, MatchResult, ◌⊎◌, ◌+◌, ◌-◌}
 use Rattle.pat_base.specs.declared.member_id.MemberId.{MemberId}
 use Rattle.pat_outside.specs.declared.outside.Sink.{Ghosts as SinkGhosts}
 use Rattle.pat_outside.specs.Outside.{Grew, Rose}
@@ -9,9 +9,9 @@ use Rattle.cluster_model.specs.Starting.{cluster_of}
 use Rattle.cluster_model.specs.State.{Cluster}
 use Rattle.cluster_model.specs.Steps.{steps_of}
 use Rattle.pat_door.specs.declared.door.Door.{Ghosts as DoorGhosts}
-use Rattle.pat_door.specs.Doors.{DoorFacts, Tells}
+use Rattle.pat_door.specs.Doors.{Accepted, DoorCall, DoorFacts, Tells}
 use Rattle.serve_model.specs.Connections.{Connection, IsSent, Unread, Whole, bytes_due, steps_of_connection}
-use Rattle.pat_serve.specs.Serving.{IsRead}
+use Rattle.pat_serve.specs.Serving.{IsRead, calls_by}
 use Rattle.simulation.specs.Steps.{WorldFacts}
 use Rattle.run_printing.specs.declared.print_error.PrintError.TheVariants as prints
 use Rattle.run_printing.specs.declared.serve_error.ServeError.{ServeError}
@@ -56,6 +56,41 @@ pub record Came {D X : Type 0} (door : DoorGhosts D) (was now : D) (result : Res
   pub grows : door.connection_faults was ≤ door.connection_faults now
   pub serves : (more : ℕ) → door.serves was (count + more)
       → MatchResult result (λ _. door.serves now more) (λ error. error ≢ Door)
+
+-- what a door is called for by connections: each is accepted, and one that isn't whole has a read or a write that fails
+abbrev pub calls_with : List DoorCall → List Connection → List DoorCall
+calls_with calls [] = calls
+calls_with calls (visitor ∷ more) = calls_with (calls_by visitor.course (calls ++ Accepted ∷ [])) more
+
+-- a count of faults that rises from the first number to the second, from one
+-- connection to the next: it rose within each connection that isn't whole
+abbrev pub FailApart : List Connection → ℕ → ℕ → Type 0
+FailApart [] was now = was ≤ now
+FailApart (visitor ∷ more) was now =
+    (mid : ℕ) × (was ≤ mid) × (visitor.course ≢ Whole → Rose was mid) × FailApart more mid now
+
+-- so many bytes are due on connections, one after another, from this cluster on
+abbrev pub due_on : Cluster → MemberId → List Connection → ℕ
+due_on cluster id [] = 0
+due_on cluster id (visitor ∷ more) =
+    length (bytes_due cluster id visitor)
+    + due_on (after_steps cluster (steps_of_connection cluster id visitor)) id more
+
+-- a door was called for this first, and for these connections then; or an error came before that, and it wasn't called
+abbrev pub IsCalledFor : {D X : Type 0} → DoorGhosts D → D → Result X ServeError → List DoorCall → List DoorCall
+    → List Connection → Type 0
+IsCalledFor door now result calls first visitors =
+    door.heard now (calls_with (calls ++ first) visitors) ⊎ (IsErr result × (visitors ≡ []) × door.heard now calls)
+
+-- Of connections to a door each is accepted behind what the door was called for first, and fails for
+-- itself: none does on a door that has room for what is due on all of them
+pub record ComeApart {D X : Type 0} (door : DoorGhosts D) (was now : D) (result : Result X ServeError)
+    (cluster : Cluster) (id : MemberId) (first : List DoorCall) (visitors : List Connection) : Type 0 where
+  pub heard : result ≢ Err Memory → (calls : List DoorCall) → door.heard was calls
+      → IsCalledFor door now result calls first visitors
+  pub apart : FailApart visitors (door.connection_faults was) (door.connection_faults now)
+  pub whole : (n : ℕ) → door.has_room was n → due_on cluster id visitors ≤ n
+      → AreWhole visitors × OnOk result (door.has_room now (n - due_on cluster id visitors))
 
 -- a script was played, and so many connections were to be served
 -- behind it: these were, and the run with them was printed

@@ -1,13 +1,16 @@
 //! Connections served behind a script.
-ghost use Rattle.std.specs.Prelude.{List, ◌≡◌, ◌+◌, ◌*◌, ◌≤◌, length};
+ghost use Rattle.std.specs.Prelude.{List, [], ◌∷◌, ◌≡◌, ◌+◌, ◌*◌, ◌≤◌, length};
 ghost use Rattle.script_model.specs.Script.{IsMember, names_of};
+ghost use Rattle.cluster_model.specs.Starting.{cluster_of};
 ghost use Rattle.cluster_model.specs.Steps.{names_in, steps_of};
+ghost use Rattle.pat_door.specs.Doors.{Opened};
 ghost use Rattle.serve_model.specs.Connections.{Connection, connection_cost};
 ghost use Rattle.simulation.specs.Steps.{HasStepsLeft};
 ghost use Rattle.world_model.specs.Room.{most_steps};
 ghost use Rattle.run_player.specs.Playing.{player_of};
 ghost use Rattle.run_serving.specs.Receiving.{Receives, ReceivesAll};
-ghost use Rattle.run_serving.specs.Served.{Serves};
+ghost use Rattle.run_serving.specs.Served.{ComeApart, Serves};
+ghost use Rattle.run_model.specs.Visits.{after_steps};
 
 use crate::ServeError;
 use pat_base::MemberId;
@@ -45,7 +48,8 @@ pub fn serve<W: Simulation, K: Sink, D: Door>(
 ) -> Result<W, ServeError>
     requires room { length (steps_of script.body) + connection_cost * service.now.count ≤ most_steps }
     requires declared { IsMember (names_of script.head) service.now.member }
-    ensures { (visitors : List Connection) × Serves K.Sink D.Door W.facts out.old out.new door.old door.new result script service.now.member service.now.count visitors }
+    ensures { (visitors : List Connection) × Serves K.Sink D.Door W.facts out.old out.new door.old door.new result script service.now.member service.now.count visitors
+        × ComeApart D.Door door.old door.new result (after_steps (cluster_of script.head) (steps_of script.body)) service.now.member (Opened service.now.address.now ∷ []) visitors }
 {
     let mut player = Player::<W>::new(alloc, script.head())?;
     match receive_all(&mut player, script, service, door, out) {
@@ -68,7 +72,8 @@ fn receive_all<W: Simulation, K: Sink, D: Door>(
     requires room { HasStepsLeft (W.facts player.old.world) (length (steps_of script.body) + connection_cost * service.now.count) }
     requires members { names_in (W.facts player.old.world).cluster.facts.members ≡ names_of script.head }
     requires declared { IsMember (names_of script.head) service.now.member }
-    ensures { (visitors : List Connection) × ReceivesAll K.Sink D.Door (player_of W.facts player.old) (player_of W.facts player.new) out.old out.new door.old door.new result (steps_of script.body) service.now.member service.now.count visitors }
+    ensures { (visitors : List Connection) × ReceivesAll K.Sink D.Door (player_of W.facts player.old) (player_of W.facts player.new) out.old out.new door.old door.new result (steps_of script.body) service.now.member service.now.count visitors
+        × ComeApart D.Door door.old door.new result (after_steps (W.facts player.old.world).cluster (steps_of script.body)) service.now.member (Opened service.now.address.now ∷ []) visitors }
 {
     player.play_body(script, out)?;
     receive(player, service, door, out)?;
@@ -85,7 +90,8 @@ fn receive<W: Simulation, K: Sink, D: Door>(
 ) -> Result<(), ServeError>
     requires room { HasStepsLeft (W.facts player.old.world) (connection_cost * service.now.count) }
     requires declared { IsMember (names_in (W.facts player.old.world).cluster.facts.members) service.now.member }
-    ensures { (visitors : List Connection) × Receives K.Sink D.Door (player_of W.facts player.old) (player_of W.facts player.new) out.old out.new door.old door.new result service.now.member service.now.count visitors }
+    ensures { (visitors : List Connection) × Receives K.Sink D.Door (player_of W.facts player.old) (player_of W.facts player.new) out.old out.new door.old door.new result service.now.member service.now.count visitors
+        × ComeApart D.Door door.old door.new result (W.facts player.old.world).cluster service.now.member (Opened service.now.address.now ∷ []) visitors }
 {
     let Ok(()) = door.open(service.address) else {
         return Err(ServeError::Door);
@@ -105,7 +111,8 @@ fn receive_next<W: Simulation, K: Sink, D: Door>(
 ) -> Result<(), ServeError>
     requires room { HasStepsLeft (W.facts player.old.world) connection_cost }
     requires declared { IsMember (names_in (W.facts player.old.world).cluster.facts.members) member }
-    ensures { (visitors : List Connection) × Receives K.Sink D.Door (player_of W.facts player.old) (player_of W.facts player.new) out.old out.new door.old door.new result member 1 visitors }
+    ensures { (visitors : List Connection) × Receives K.Sink D.Door (player_of W.facts player.old) (player_of W.facts player.new) out.old out.new door.old door.new result member 1 visitors
+        × ComeApart D.Door door.old door.new result (W.facts player.old.world).cluster member [] visitors }
 {
     let Ok(()) = door.accept() else {
         return Err(ServeError::Door);

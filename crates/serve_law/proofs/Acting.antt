@@ -1,5 +1,5 @@
 -- What a connection asks that the agent is to do.
-use Rattle.std.proofs.Common.{ℕ, ◌≡◌, ◌≢◌, true, false, List, [], ◌++◌, slice_get, Option, Some, None, Ok, option_and_then, option_map, refl, ◌∙◌, ap, sym, subst, inl, inr, is_some, cond, Bool}
+use Rattle.std.proofs.Common.{ℕ, ◌≡◌, ◌≢◌, true, false, List, [], ◌++◌, slice_get, Option, Some, None, Ok, option_and_then, option_map, refl, ◌∙◌, ap, sym, subst, inl, inr, is_some, cond, Bool, ◌∷◌, replicate}
 use Rattle.std.proofs.lemmas.Option.{none-some, same_Some}
 use Rattle.std.specs.Option.{option_or}
 use Rattle.std.specs.Prelude.{unwrap_or}
@@ -51,7 +51,7 @@ use Rattle.serve_law.proofs.Apart.{acknowledge-apart, apart-each, apart-silent}
 use Rattle.serve_law.proofs.Asking.{IsDoneAtOnce, acts-alone, told-at-once}
 use Rattle.serve_law.proofs.Owing.{OwedBy, Owes, OwesOf, input-owes, input-told, owed-by, told-either}
 use Rattle.serve_law.proofs.Telling.{each-replied}
-use Rattle.serve_law.proofs.Waiting.{Acknowledged, owed-steps, settles-acknowledged, waited}
+use Rattle.serve_law.proofs.Waiting.{Acknowledged, IsOwedIf, late-if, owed-steps, settles-acknowledged, silent-steps, silent-then, silent-waiting, waited}
 
 -- an agent with its machine
 record IsStanding (agent : Option AgentFacts) (machine : Option Machine) (stands : Outcome) : Type 0 where
@@ -205,31 +205,54 @@ module _ (cluster : Cluster) (id : MemberId) (member : Member) (request : Reques
       (sym (over-append cluster Input (Acknowledged Number id (cluster_over cluster Input))))
       (settles-acknowledged Number id (cluster_over cluster Input) input).owes
 
+  -- nothing is replied in the step, nor in any of the ticks behind it
+  abbrev Silent : Type 0
+  Silent = reply_in id
+      (run_events cluster (steps.Connection id Visited ∷ replicate most_waiting steps.Scheduled)) ≡ None
+
   -- the reply to all of it
   replied-so : (reply : ReplyText) → reply_in id (run_events cluster (replied_steps cluster id Visited)) ≡ Some reply
-      → IsOwed Number id cluster (run_events cluster (replied_steps cluster id Visited)) reply
+      → IsOwedIf Number id Silent cluster (run_events cluster (replied_steps cluster id Visited)) reply
   replied-so reply e =
       let events = next_events cluster (steps.Connection id Visited) in
-      owed-steps Number id cluster (steps.Connection id Visited)
-      (waiting_steps (cluster_over cluster events) id most_waiting) (reply_in id events) refl
+      let later = cluster_over cluster events in
+      let ticks = run_events later (replicate most_waiting steps.Scheduled) in
+      owed-steps Number id Silent cluster (steps.Connection id Visited)
+      (waiting_steps later id most_waiting) (reply_in id events) refl
       (subst (λ (es : List Event). (r : ReplyText) → reply_in id es ≡ Some r → IsTold Number id cluster es r)
       (sym first-events) first-told)
-      (λ none. waited Number id most_waiting (cluster_over cluster events)
+      (λ none given is. late-if Number id later (run_events later (waiting_steps later id most_waiting)) given
+      (λ silent. silent-then Number id events ticks none silent)
+      (waited Number id most_waiting later
       (subst (λ (es : List Event). reply_in id es ≡ None → Owes Number id.number (cluster_over cluster es))
-      (sym first-events) first-owes none))
+      (sym first-events) first-owes none) given is))
       reply e
 
+  late-or-told : (reply : ReplyText)
+      → IsOwedIf Number id Silent cluster (run_events cluster (replied_steps cluster id Visited)) reply
+      → IsOwed Number id cluster Visited (run_events cluster (replied_steps cluster id Visited)) reply
+  late-or-told reply (inl told) = inl told
+  late-or-told reply (inr late) = inr (record { silent = late.0; says = late.1 })
+
   owed-if : (reply : Option ReplyText) → reply_in id (run_events cluster (replied_steps cluster id Visited)) ≡ reply
-      → IsOwed Number id cluster (run_events cluster (replied_steps cluster id Visited))
+      → IsOwed Number id cluster Visited (run_events cluster (replied_steps cluster id Visited))
       (unwrap_or reply (refusal_reply NoResult))
-  owed-if None is = inr refl
-  owed-if (Some reply) is = replied-so reply is
+  owed-if None is =
+      let events = next_events cluster (steps.Connection id Visited) in
+      let later = cluster_over cluster events in
+      inr (record {
+        silent = silent-steps Number id cluster (steps.Connection id Visited) (waiting_steps later id most_waiting)
+            (replicate most_waiting steps.Scheduled) (reply_in id events) refl
+            (silent-waiting Number id most_waiting later) is;
+        says = refl;
+      })
+  owed-if (Some reply) is = late-or-told reply (replied-so reply is)
 
   pub reply-owed : (connection : Connection) → connection.asks ≡ Ok request
-      → IsOwed Number id cluster (run_events cluster (read_steps cluster id connection))
+      → IsOwed Number id cluster (first_visit connection.asks) (run_events cluster (read_steps cluster id connection))
       (reply_to cluster id connection)
   reply-owed connection asks =
-      subst (λ (v : Visit). IsOwed Number id cluster (run_events cluster (replied_steps cluster id v))
+      subst (λ (v : Visit). IsOwed Number id cluster v (run_events cluster (replied_steps cluster id v))
       (unwrap_or (reply_in id (run_events cluster (replied_steps cluster id v))) (refusal_reply NoResult)))
       (sym (ap first_visit asks))
       (owed-if (reply_in id (run_events cluster (replied_steps cluster id Visited))) refl)

@@ -1,5 +1,5 @@
 -- A reply that is waited for, over ticks of the default schedule.
-use Rattle.std.proofs.Common.{ℕ, ◌≡◌, ◌==◌, Bool, true, false, cond, List, [], ◌∷◌, ◌++◌, slice_get, Option, Some, None, zero, suc, refl, ◌∙◌, ap, sym, subst, inl, inr, append-nil, option_map}
+use Rattle.std.proofs.Common.{ℕ, ◌≡◌, ◌⊎◌, ◌==◌, Bool, true, false, cond, List, [], ◌∷◌, ◌++◌, slice_get, Option, Some, None, zero, suc, refl, ◌∙◌, ap, sym, subst, inl, inr, append-nil, option_map, replicate}
 use Rattle.std.proofs.lemmas.Option.{none-some, same_Some}
 use Rattle.std.specs.Map.{keys_of}
 use Rattle.std.specs.Option.{option_or}
@@ -43,7 +43,7 @@ use Rattle.cluster_model.specs.State.{Cluster}
 use Rattle.cluster_model.specs.Ticking.{tick_events}
 use Rattle.serve_model.specs.Connections.{reply_in, unless_replied, waiting_steps}
 use Rattle.serve_model.proofs.Replies.{reply_in-append}
-use Rattle.serve_law.specs.Owing.{IsOwed, IsTold, SaysTo}
+use Rattle.serve_law.specs.Owing.{IsTold, SaysTo}
 use Rattle.serve_law.proofs.Apart.{acknowledge-apart, answer-apart, apart-each, apart-silent, receive-apart, tick-apart}
 use Rattle.serve_law.proofs.Owing.{Owes, OwesOf, SettlesWhereOwed, after-owes, owes-with, settles-apart, settles-each, settles-for_some, settles-if, settles-input, settles-none, settles-then, told-before, told-behind}
 
@@ -212,32 +212,75 @@ module _ (number : ℕ) (id : MemberId) where
       (settles-acknowledged (cluster_over cluster ticks))
 
   -- ---- steps, one after another
-  owed-behind : (cluster : Cluster) (xs ys : List Event) (reply : ReplyText)
-      → IsOwed number id (cluster_over cluster xs) ys reply → IsOwed number id cluster (xs ++ ys) reply
-  owed-behind cluster xs ys reply (inl told) = inl (told-behind number id cluster xs ys reply told)
-  owed-behind cluster xs ys reply (inr late) = inr late
+  -- a reply is what the agent told this request, or says that no result came in time, and this holds
+  abbrev pub IsOwedIf : Type 0 → Cluster → List Event → ReplyText → Type 0
+  IsOwedIf late cluster events reply =
+      IsTold number id cluster events reply ⊎ (late × (reply ≡ refusal_reply refusals.NoResult))
+
+  pub late-if : {late other : Type 0} (cluster : Cluster) (events : List Event) (reply : ReplyText) → (late → other)
+      → IsOwedIf late cluster events reply → IsOwedIf other cluster events reply
+  late-if cluster events reply f (inl told) = inl told
+  late-if cluster events reply f (inr late) = inr (f late.0, late.1)
+
+  owed-behind : (late : Type 0) (cluster : Cluster) (xs ys : List Event) (reply : ReplyText)
+      → IsOwedIf late (cluster_over cluster xs) ys reply → IsOwedIf late cluster (xs ++ ys) reply
+  owed-behind late cluster xs ys reply (inl told) = inl (told-behind number id cluster xs ys reply told)
+  owed-behind late cluster xs ys reply (inr is) = inr is
 
   -- a step, and more steps unless it brought a reply
-  pub owed-steps : (cluster : Cluster) (step : Step) (more : List Step) (found : Option ReplyText)
+  pub owed-steps : (late : Type 0) (cluster : Cluster) (step : Step) (more : List Step) (found : Option ReplyText)
       → reply_in id (next_events cluster step) ≡ found
       → ((reply : ReplyText) → reply_in id (next_events cluster step) ≡ Some reply →
       IsTold number id cluster (next_events cluster step) reply)
       → (found ≡ None → (reply : ReplyText) →
       reply_in id (run_events (cluster_over cluster (next_events cluster step)) more) ≡ Some reply
-      → IsOwed number id (cluster_over cluster (next_events cluster step))
+      → IsOwedIf late (cluster_over cluster (next_events cluster step))
       (run_events (cluster_over cluster (next_events cluster step)) more) reply)
       → (reply : ReplyText) → reply_in id (run_events cluster (step ∷ unless_replied found more)) ≡ Some reply
-      → IsOwed number id cluster (run_events cluster (step ∷ unless_replied found more)) reply
-  owed-steps cluster step more (Some first) is told others reply e =
+      → IsOwedIf late cluster (run_events cluster (step ∷ unless_replied found more)) reply
+  owed-steps late cluster step more (Some first) is told others reply e =
       inl (told-before number id cluster (next_events cluster step) [] reply
       (told reply (ap (reply_in id) (sym (append-nil (next_events cluster step))) ∙ e)))
-  owed-steps cluster step more None is told others reply e =
+  owed-steps late cluster step more None is told others reply e =
       let events = next_events cluster step in
       let later = cluster_over cluster events in
-      owed-behind cluster events (run_events later more) reply
+      owed-behind late cluster events (run_events later more) reply
       (others refl reply
       (ap (λ (r : Option ReplyText). option_or r (reply_in id (run_events later more))) (sym is)
       ∙ (sym (reply_in-append id events (run_events later more)) ∙ e)))
+
+  -- where nothing is replied by some events and by others, nothing is by both
+  pub silent-then : (xs ys : List Event) → reply_in id xs ≡ None → reply_in id ys ≡ None
+      → reply_in id (xs ++ ys) ≡ None
+  silent-then xs ys first then = reply_in-append id xs ys
+      ∙ (ap (λ (r : Option ReplyText). option_or r (reply_in id ys)) first ∙ then)
+
+  -- where nothing is replied by a step and what is to come behind it,
+  -- nothing is by that step and others of which that is so
+  pub silent-steps : (cluster : Cluster) (step : Step) (more others : List Step) (found : Option ReplyText)
+      → reply_in id (next_events cluster step) ≡ found
+      → (reply_in id (run_events (cluster_over cluster (next_events cluster step)) more) ≡ None
+      → reply_in id (run_events (cluster_over cluster (next_events cluster step)) others) ≡ None)
+      → reply_in id (run_events cluster (step ∷ unless_replied found more)) ≡ None
+      → reply_in id (run_events cluster (step ∷ others)) ≡ None
+  silent-steps cluster step more others (Some reply) is so e =
+      absurd (none-some _ (sym e ∙ (ap (reply_in id) (append-nil (next_events cluster step)) ∙ is)))
+  silent-steps cluster step more others None is so e =
+      let events = next_events cluster step in
+      let later = cluster_over cluster events in
+      silent-then events (run_events later others) is
+      (so (ap (λ (r : Option ReplyText). option_or r (reply_in id (run_events later more))) (sym is)
+      ∙ (sym (reply_in-append id events (run_events later more)) ∙ e)))
+
+  pub silent-waiting : (n : ℕ) (cluster : Cluster)
+      → reply_in id (run_events cluster (waiting_steps cluster id n)) ≡ None
+      → reply_in id (run_events cluster (replicate n steps.Scheduled)) ≡ None
+  silent-waiting zero cluster e = refl
+  silent-waiting (suc n) cluster e =
+      let events = next_events cluster steps.Scheduled in
+      let later = cluster_over cluster events in
+      silent-steps cluster steps.Scheduled (waiting_steps later id n) (replicate n steps.Scheduled)
+      (reply_in id events) refl (silent-waiting n later) e
 
   -- the step that says that no result came says that alone
   late-by : (cluster : Cluster) (member : Member) (same : Bool) (reply : ReplyText)
@@ -270,13 +313,18 @@ module _ (number : ℕ) (id : MemberId) where
   -- while a reply is waited for
   pub waited : (n : ℕ) (cluster : Cluster) → Owes number id.number cluster → (reply : ReplyText)
       → reply_in id (run_events cluster (waiting_steps cluster id n)) ≡ Some reply
-      → IsOwed number id cluster (run_events cluster (waiting_steps cluster id n)) reply
+      → IsOwedIf (reply_in id (run_events cluster (replicate n steps.Scheduled)) ≡ None) cluster
+      (run_events cluster (waiting_steps cluster id n)) reply
   waited zero cluster owes reply e =
       let events = next_events cluster (steps.Connection id (visits.Refusal refusals.NoResult)) in
-      inr (late-reply cluster (declared cluster id) reply (ap (reply_in id) (sym (append-nil events)) ∙ e))
+      inr (refl, late-reply cluster (declared cluster id) reply (ap (reply_in id) (sym (append-nil events)) ∙ e))
   waited (suc n) cluster owes reply e =
       let events = next_events cluster steps.Scheduled in
       let later = cluster_over cluster events in
       let settled = settles-tick cluster owes in
-      owed-steps cluster steps.Scheduled (waiting_steps later id n) (reply_in id events) refl settled.told
-      (λ none. waited n later settled.owes) reply e
+      let ticks = run_events later (replicate n steps.Scheduled) in
+      owed-steps (reply_in id (events ++ ticks) ≡ None) cluster steps.Scheduled (waiting_steps later id n)
+      (reply_in id events) refl settled.told
+      (λ none given is. late-if later (run_events later (waiting_steps later id n)) given
+      (λ silent. silent-then events ticks none silent)
+      (waited n later settled.owes given is)) reply e

@@ -1,5 +1,5 @@
 -- Whom a reply is for that an agent gives to an operator.
-use Rattle.std.specs.Prelude.{ℕ, ◌≡◌, ◌⊎◌, List, [], ◌∷◌, ◌++◌, Option, Some, None}
+use Rattle.std.specs.Prelude.{ℕ, ◌≡◌, ◌⊎◌, List, [], ◌∷◌, ◌++◌, Option, Some, None, replicate}
 use Rattle.pat_base.specs.declared.member_id.MemberId.{MemberId}
 use Rattle.event_book.specs.declared.event.AgentEvent.TheVariants as agents
 use Rattle.event_book.specs.declared.event.Event.{Event}
@@ -17,11 +17,15 @@ use Rattle.agent_model.specs.declared.heard.Heard.TheVariants.{Operated, Wake}
 use Rattle.agent_model.specs.declared.operating.Told.{Told}
 use Rattle.agent_model.specs.Agents.{Outcome}
 use Rattle.agent_answers.specs.OperatorAnswers.{told_in}
+use Rattle.cluster_model.specs.declared.step.Step.TheVariants as steps
+use Rattle.cluster_model.specs.declared.step.Visit.{Visit}
 use Rattle.cluster_model.specs.Cluster.{cluster_over}
 use Rattle.cluster_model.specs.Hearing.{heard_from}
 use Rattle.cluster_model.specs.Inputs.{agent_at, outcome_of}
+use Rattle.cluster_model.specs.Next.{run_events}
 use Rattle.cluster_model.specs.Requests.{replying, told_kind}
 use Rattle.cluster_model.specs.State.{Cluster}
+use Rattle.serve_model.specs.Connections.{most_waiting, reply_in}
 
 -- a message that is in flight says this to the agent of a member
 abbrev pub SaysTo : Cluster → Member → Heard → Option InFlightFacts → Type 0
@@ -65,6 +69,14 @@ pub record IsTold (number : ℕ) (id : MemberId) (start : Cluster) (events : Lis
   pub told : Tells number member (cluster_over start before)
       (cluster_over start (before ++ hearing ∷ meanwhile)) hearing.kind answer.kind reply
 
--- a reply is what the agent told this request, or says that no result came in time
-abbrev pub IsOwed : ℕ → MemberId → Cluster → List Event → ReplyText → Type 0
-IsOwed number id start events reply = IsTold number id start events reply ⊎ (reply ≡ refusal_reply NoResult)
+-- nothing was replied in the step in which a connection brought this, nor in any of the 600 ticks of
+-- the default schedule that came behind it, and the reply says that no result came in time
+pub record IsLate (id : MemberId) (start : Cluster) (visit : Visit) (reply : ReplyText) : Type 0 where
+  pub silent : reply_in id
+      (run_events start (steps.Connection id visit ∷ replicate most_waiting steps.Scheduled)) ≡ None
+  pub says : reply ≡ refusal_reply NoResult
+
+-- a reply to what a connection brought is what the agent told this
+-- request, or says that no result came in time, and none did
+abbrev pub IsOwed : ℕ → MemberId → Cluster → Visit → List Event → ReplyText → Type 0
+IsOwed number id start visit events reply = IsTold number id start events reply ⊎ IsLate id start visit reply

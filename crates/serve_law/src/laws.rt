@@ -16,7 +16,7 @@ ghost use Rattle.rest_answer.specs.Refusals.{refusal_reply};
 ghost use Rattle.rest_message.specs.declared.request.Request.{Request};
 ghost use Rattle.rest_message.specs.Replies.{ReplyText};
 ghost use Rattle.rest_message.specs.Requests.{request_text};
-ghost use Rattle.serve_model.specs.Connections.{Connection, read_steps, reply_to};
+ghost use Rattle.serve_model.specs.Connections.{Connection, first_visit, read_steps, reply_to};
 ghost use Rattle.serve_law.specs.Owing.{IsOwed};
 
 /// Of a connection to a declared member: bytes that are no request are replied to by what they are; a request to an agent that doesn't run or
@@ -32,9 +32,9 @@ pub fn replies_are_those_of_the_table()
 {}
 
 /// What a connection asks that the agent is to do, as a switchover, is replied to by what the agent tells that very request, whatever else
-/// waits or comes meanwhile; or by 503 `No result in time`, where nothing was told for 600 ticks.
+/// waits or comes meanwhile; or by 503 `No result in time`, where nothing was replied for 600 ticks.
 pub fn a_waiting_reply_is_owed()
     ensures { (cluster : Cluster) (id : MemberId) (member : Member) (connection : Connection) (request : Request) (process : AgentProcess) (stands : Outcome) (asked : OperatorRequest) → declared cluster id ≡ Some member → member.id.number ≡ id.number
         → connection.asks ≡ Ok request → slice_get cluster.facts.processes member.id.number ≡ Some process → may_act process ≡ true → standing_of cluster member ≡ Some stands
-        → answer_at (moment_of cluster) stands (request_text request) ≡ Acts asked → IsOwed (action_of stands asked).request id cluster (run_events cluster (read_steps cluster id connection)) (reply_to cluster id connection) }
+        → answer_at (moment_of cluster) stands (request_text request) ≡ Acts asked → IsOwed (action_of stands asked).request id cluster (first_visit connection.asks) (run_events cluster (read_steps cluster id connection)) (reply_to cluster id connection) }
 {}

@@ -1,6 +1,6 @@
 //! What rows are asked of: a key store, and what an agent shows over a read of it.
 use crate::stop::{Stop, known};
-use crate::words::{name, number, position_or_none, ticks, ticks_or_none, words_of};
+use crate::words::{name, number, position_or_none, ticks, ticks_or_none};
 use cluster_config::ConfigText;
 use cluster_view::{AgentView, RoleWord, Snapshot};
 use lease_store::Store;
@@ -56,7 +56,7 @@ impl Bench {
                 self.now = ticks(rest)?;
                 Ok(())
             }
-            "shows" => self.set_shown(alloc, rest),
+            "shows" => self.set_shown(rest),
             _ => Err(Stop::Unknown),
         }
     }
@@ -72,18 +72,16 @@ impl Bench {
         Ok(())
     }
 
-    fn set_shown(&mut self, alloc: Global, rest: &str) -> Result<(), Stop> {
-        let words = words_of(alloc, rest)?;
-        let shows = name(known(words.first().copied())?)?;
+    fn set_shown(&mut self, rest: &str) -> Result<(), Stop> {
+        let mut words = rest.split(' ');
+        let shows = name(known(words.next())?)?;
         let mut shown = first_shown(self.scope, shows);
         shown.me = known(self.place_of(shows))?;
         self.has_read = true;
-        for word in words.iter().skip(1) {
-            let (option, value) = known(word.split_once('='))?;
-            if option == "read" && value == "never" {
-                self.has_read = false;
-            } else {
-                set_option(&mut shown, option, value)?;
+        for word in words {
+            match known(word.split_once('='))? {
+                ("read", "never") => self.has_read = false,
+                (option, value) => set_option(&mut shown, option, value)?,
             }
         }
         self.shown = shown;

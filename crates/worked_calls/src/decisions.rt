@@ -2,8 +2,7 @@
 use crate::bench::{TAGS, set_tag};
 use crate::stop::{Stop, known};
 use crate::words::{
-    first_word, letter, letters, member, members, moment, position_or_none, ticks, words_of,
-    yes_or_no,
+    first_word, letter, letters, member, members, moment, position_or_none, ticks, yes_or_no,
 };
 use cluster_view::{AgentView, LeaderView, Snapshot};
 use failsafe::{Ask, may_hold};
@@ -131,10 +130,10 @@ fn plan_text(alloc: Global, plan: Plan) -> Result<String, AllocError> {
 
 /// When all had acknowledged, by answers as `b:yes:303`, in the order in which they were heard.
 fn acknowledged(alloc: Global, rest: &str) -> Result<String, Stop> {
-    let words = words_of(alloc, rest)?;
-    let asked = members(known(words.first().copied())?)?;
-    let mut ask = Ask::new(asked, ticks(known(words.get(1).copied())?)?);
-    for word in words.iter().skip(2) {
+    let mut words = rest.split(' ');
+    let asked = members(known(words.next())?)?;
+    let mut ask = Ask::new(asked, ticks(known(words.next())?)?);
+    for word in words {
         let mut parts = word.split(':');
         let from = member(known(parts.next())?)?;
         let accepted = known(parts.next())? == "yes";

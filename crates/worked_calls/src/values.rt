@@ -1,12 +1,11 @@
 //! Plain types as text: positions, sizes, names, members and their sets.
 use crate::stop::{Stop, known};
 use crate::words::{
-    first_word, letter_or_none, letters, member, members, number, number_or_none, words_of,
-    yes_or_no,
+    first_word, letter_or_none, letters, member, members, number, number_or_none, yes_or_no,
 };
 use pat_base::{Lsn, MemberId, MemberSet, Name, ServerId, Size};
 use pat_cases::{Case, CaseTable};
-use std::alloc::{AllocError, Global};
+use std::alloc::Global;
 
 /// What a value comes to.
 pub fn told(alloc: Global, asked: &str) -> Result<String, Stop> {
@@ -35,14 +34,10 @@ pub fn told(alloc: Global, asked: &str) -> Result<String, Stop> {
 
 /// The answer of a table of two cases, each as `1,1,200`, to facts.
 fn answered_case(alloc: Global, rest: &str) -> Result<String, Stop> {
-    let words = words_of(alloc, rest)?;
-    let [first, second, facts] = words.as_slice() else {
-        return Err(Stop::Unknown);
-    };
-    let table = CaseTable {
-        rows: [case(first)?, case(second)?],
-    };
-    let answer = table.first(known(facts.parse().ok())?);
+    let (first, rest) = first_word(rest);
+    let (second, facts) = first_word(rest);
+    let rows = [case(first)?, case(second)?];
+    let answer = CaseTable { rows }.first(known(facts.parse().ok())?);
     Ok(number_or_none(alloc, answer.map(u64::from))?)
 }
 
@@ -55,30 +50,26 @@ fn case(word: &str) -> Result<Case, Stop> {
     })
 }
 
-/// What sets come to, each of which is a word.
+/// What sets come to.
 fn told_of_sets(alloc: Global, asked: &str, rest: &str) -> Result<String, Stop> {
-    let words = words_of(alloc, rest)?;
-    match (asked, words.as_slice()) {
-        ("union", [one, other]) => Ok(letters(alloc, members(one)?.union(members(other)?))?),
-        ("intersection", [one, other]) => {
-            let both = members(one)?.intersection(members(other)?);
-            Ok(letters(alloc, both)?)
-        }
-        ("without", [one, left]) => Ok(letters(alloc, members(one)?.without(member(left)?))?),
-        ("contains", [one, asked]) => Ok(yes_or_no(alloc, members(one)?.contains(member(asked)?))?),
-        ("is-subset", [one, other]) => Ok(yes_or_no(
-            alloc,
-            members(one)?.is_subset(members(other)?),
-        )?),
-        _ => Ok(told_of_one(alloc, asked, members(rest)?)?),
+    let (set, other) = first_word(rest);
+    let set = members(set)?;
+    match asked {
+        "first" => Ok(letter_or_none(alloc, set.first())?),
+        "len" => Ok(number_or_none(alloc, Some(u64::from(set.len())))?),
+        "empty" => Ok(yes_or_no(alloc, set.is_empty())?),
+        "contains" => Ok(yes_or_no(alloc, set.contains(member(other)?))?),
+        "is-subset" => Ok(yes_or_no(alloc, set.is_subset(members(other)?))?),
+        _ => Ok(letters(alloc, combined(asked, set, other)?)?),
     }
 }
 
-/// What a set comes to.
-fn told_of_one(alloc: Global, asked: &str, set: MemberSet) -> Result<String, AllocError> {
+/// The set that a set and another word come to.
+fn combined(asked: &str, set: MemberSet, other: &str) -> Result<MemberSet, Stop> {
     match asked {
-        "first" => letter_or_none(alloc, set.first()),
-        "len" => format!(in alloc; "{}", set.len()),
-        _ => yes_or_no(alloc, set.is_empty()),
+        "union" => Ok(set.union(members(other)?)),
+        "intersection" => Ok(set.intersection(members(other)?)),
+        "without" => Ok(set.without(member(other)?)),
+        _ => Err(Stop::Unknown),
     }
 }

@@ -54,15 +54,6 @@ pub fn members(word: &str) -> Result<MemberSet, Stop> {
     Ok(set)
 }
 
-/// The words between which a blank stands.
-pub fn words_of<'a>(alloc: Global, text: &'a str) -> Result<Vec<&'a str>, AllocError> {
-    let mut words = Vec::new(alloc);
-    for word in text.split(' ') {
-        words.push(word)?;
-    }
-    Ok(words)
-}
-
 /// The first word, and the rest.
 pub fn first_word(text: &str) -> (&str, &str) {
     match text.split_once(' ') {

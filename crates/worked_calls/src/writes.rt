@@ -6,7 +6,7 @@ use crate::bench::{Bench, TAGS};
 use crate::stop::{Stop, known};
 use crate::words::{
     first_word, letter, letter_or_none, member, members, moment, number, position,
-    position_or_none, ticks, words_of,
+    position_or_none, ticks,
 };
 use cluster_config::ConfigText;
 use lease_store::StoreRefusal;
@@ -104,14 +104,13 @@ fn span(txn: &Txn) -> Ticks
 /// The transaction of these words, by a member.
 fn transaction(alloc: Global, bench: &Bench, by: MemberId, rest: &str) -> Result<Txn, Stop> {
     let (kind, rest) = first_word(rest);
-    let words = words_of(alloc, rest)?;
     match kind {
         "touch" => {
-            let info = info(bench, by, &words)?;
+            let info = info(bench, by, rest)?;
             Ok(Txn::Touch { info, ttl: TTL })
         }
         "create" => {
-            let info = info(bench, by, &words)?;
+            let info = info(bench, by, rest)?;
             Ok(Txn::Create {
                 info,
                 ttl: TTL,
@@ -119,47 +118,49 @@ fn transaction(alloc: Global, bench: &Bench, by: MemberId, rest: &str) -> Result
                 sync: None,
             })
         }
-        "renew" => renewal(bench, by, &words),
-        "configure" => {
-            let (revision, config) = first_word(rest);
-            let config = known(ConfigValue::read(alloc, config.as_bytes()).ok())?;
-            Ok(Txn::SetConfig {
-                revision: number(revision)?,
-                config,
-            })
-        }
-        _ => short_transaction(kind, &words),
+        "renew" => renewal(bench, by, rest),
+        "hand-over" => hand_over(rest),
+        "configure" => configuration(alloc, rest),
+        _ => under_leader_key(kind, rest),
     }
 }
 
-/// A transaction that tells nothing of its member.
-fn short_transaction(kind: &str, words: &[&str]) -> Result<Txn, Stop> {
-    match (kind, words) {
-        ("release", [revision]) => Ok(Txn::Release {
-            revision: number(revision)?,
-        }),
-        ("claim", [revision, sync]) => Ok(Txn::Claim {
-            revision: number(revision)?,
+fn hand_over(rest: &str) -> Result<Txn, Stop> {
+    let (leader, candidate) = first_word(rest);
+    let failover = FailoverKey {
+        leader: Some(member(leader)?),
+        candidate: Some(member(candidate)?),
+    };
+    Ok(Txn::SetFailover { failover, ttl: TTL })
+}
+
+fn configuration(alloc: Global, rest: &str) -> Result<Txn, Stop> {
+    let (revision, config) = first_word(rest);
+    let revision = number(revision)?;
+    let config = known(ConfigValue::read(alloc, config.as_bytes()).ok())?;
+    Ok(Txn::SetConfig { revision, config })
+}
+
+/// A transaction that compares the leader key with the revision that comes first, and tells nothing of its member.
+fn under_leader_key(kind: &str, rest: &str) -> Result<Txn, Stop> {
+    let (revision, rest) = first_word(rest);
+    let (sync, standbys) = first_word(rest);
+    let revision = number(revision)?;
+    match kind {
+        "release" => Ok(Txn::Release { revision }),
+        "drop-failover" => Ok(Txn::DropFailover { revision }),
+        "claim" => Ok(Txn::Claim {
+            revision,
             sync: expected(sync)?,
         }),
-        ("publish", [revision, sync, standbys]) => Ok(Txn::SetSync {
-            revision: number(revision)?,
+        "publish" => Ok(Txn::SetSync {
+            revision,
             sync: expected(sync)?,
             standbys: members(standbys)?,
         }),
-        ("withdraw", [revision, sync]) => Ok(Txn::DropSync {
-            revision: number(revision)?,
+        "withdraw" => Ok(Txn::DropSync {
+            revision,
             sync: number(sync)?,
-        }),
-        ("hand-over", [leader, candidate]) => Ok(Txn::SetFailover {
-            failover: FailoverKey {
-                leader: Some(member(leader)?),
-                candidate: Some(member(candidate)?),
-            },
-            ttl: TTL,
-        }),
-        ("drop-failover", [revision]) => Ok(Txn::DropFailover {
-            revision: number(revision)?,
         }),
         _ => Err(Stop::Unknown),
     }
@@ -173,10 +174,11 @@ fn expected(word: &str) -> Result<Expected, Stop> {
     Ok(Expected::Revision(number(word)?))
 }
 
-/// A renewal, by its options.
-fn renewal(bench: &Bench, by: MemberId, words: &[&str]) -> Result<Txn, Stop> {
+/// A renewal, by the revision that comes first and its options.
+fn renewal(bench: &Bench, by: MemberId, rest: &str) -> Result<Txn, Stop> {
+    let (revision, options) = first_word(rest);
     let (mut status, mut row, mut failsafe) = (None, None, None);
-    for word in words.iter().skip(1) {
+    for word in options.split(' ') {
         match word.split_once('=') {
             Some(("status", value)) => status = position_or_none(value)?,
             Some(("row", value)) => row = Some(history_row(value)?),
@@ -185,8 +187,8 @@ fn renewal(bench: &Bench, by: MemberId, words: &[&str]) -> Result<Txn, Stop> {
         }
     }
     Ok(Txn::Renew {
-        revision: number(known(words.first().copied())?)?,
-        info: info(bench, by, words)?,
+        revision: number(revision)?,
+        info: info(bench, by, options)?,
         ttl: TTL,
         status,
         row,
@@ -205,8 +207,8 @@ fn history_row(value: &str) -> Result<HistoryRow, Stop> {
     })
 }
 
-/// What a member tells of itself: that it runs, and what options say besides.
-fn info(bench: &Bench, by: MemberId, words: &[&str]) -> Result<MemberInfo, Stop> {
+/// What a member tells of itself: that it runs, and what options say besides, among which those of a renewal may stand.
+fn info(bench: &Bench, by: MemberId, options: &str) -> Result<MemberInfo, Stop> {
     let mut info = MemberInfo {
         host: known(bench.members().get(usize::from(by.number)))?.1,
         tags: TAGS,
@@ -215,13 +217,15 @@ fn info(bench: &Bench, by: MemberId, words: &[&str]) -> Result<MemberInfo, Stop>
         timeline: None,
         end: None,
     };
-    for word in words {
+    for word in options.split(' ') {
         match word.split_once('=') {
             Some(("state", "streaming")) => info.state = Word::Streaming,
             Some(("state", "stopped")) => info.state = Word::Stopped,
             Some(("timeline", value)) => info.timeline = Some(number(value)?),
             Some(("end", value)) => info.end = position_or_none(value)?,
-            _ => {}
+            Some(("status" | "row" | "failsafe", _)) => {}
+            None if word.is_empty() => {}
+            _ => return Err(Stop::Unknown),
         }
     }
     Ok(info)

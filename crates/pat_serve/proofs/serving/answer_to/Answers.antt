@@ -4,7 +4,7 @@ use Rattle.simulation.proofs.Stepping.{steps-left-fewer}
 use Rattle.rest_message.specs.Replies.{reply_text}
 use Rattle.rest_reply.specs.Replies.{reply_bytes}
 use Rattle.serve_model.specs.Connections.{Whole, connection_cost, most_waiting, read_steps, replied_steps}
-use Rattle.pat_serve.proofs.Answering.{answers-front, answers-whole, connection_of, due-is, not-written, sent-so}
+use Rattle.pat_serve.proofs.Answering.{answers-front, answers-whole, connection_of, due-is, heard-so, not-written, sent-so}
 use Rattle.pat_serve.proofs.Bringing.{brings-declared, brings-so, none-brought, room-behind}
 use Rattle.pat_serve.proofs.Waiting.{read-few}
 use Rattle.pat_serve.proofs.serving.answer_to.Goals as goal
@@ -52,7 +52,10 @@ returns-then-branch-clause-answers g c =
           (brings-so (ap (replied_steps cluster c.args.member) c.first_visit-visit.ensures)
           c.in_ok-reply.ensures.brings)
           (sent-so (g.D.Door.told c.args.door.now)
-          (g.D.Door.told c.is_written.new.door) bytes c.if-branch.true c.in_ok-is_written.ensures.sent),
+          (g.D.Door.told c.is_written.new.door) bytes c.if-branch.true c.in_ok-is_written.ensures.sent)
+          (λ n can. c.in_ok-is_written.ensures.spare n can c.if-branch.true)
+          (λ calls had. heard-so g.D.Door _ calls c.if-branch.true (c.in_ok-is_written.ensures.heard calls had))
+          c.is_written.ensures.counts,
     )
 
 pub returns-clause-answers : goal.returns-clause-answers
@@ -75,6 +78,8 @@ returns-clause-answers g c =
           (g.D.Door.told c.is_written.new.door) bytes c.if-branch.false c.in_ok-is_written.ensures.sent)
           (c.in_ok-is_written.ensures.failed c.if-branch.false)
           (not-written g.D.Door.takes c.args.door.now (length bytes) c.is_written.result
-          c.in_ok-is_written.field-0 c.in_ok-is_written.was c.if-branch.false c.is_written.ensures.room),
+          c.in_ok-is_written.field-0 c.in_ok-is_written.was c.if-branch.false c.is_written.ensures.room)
+          (λ calls had. heard-so g.D.Door _ calls c.if-branch.false (c.in_ok-is_written.ensures.heard calls had))
+          c.is_written.ensures.counts,
     ))
     c.fail.ensures

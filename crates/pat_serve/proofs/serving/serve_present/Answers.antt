@@ -1,9 +1,10 @@
 use Rattle.std.proofs.Common.{Ok, arith, ap}
+use Rattle.std.specs.Prelude.{is_none}
 use Rattle.std.proofs.lemmas.Result.{err_from_is_err_and, on_ok_weaker}
 use Rattle.simulation.proofs.Stepping.{steps-left-fewer}
 use Rattle.serve_model.specs.Connections.{connection_cost}
 use Rattle.pat_serve.specs.Serving.{course_of}
-use Rattle.pat_serve.proofs.Answering.{connection_of, of-some, serves-answered, serves-unread, unread}
+use Rattle.pat_serve.proofs.Answering.{connection_of, early-so, match-none, match-some, of-some, serves-answered, serves-unread, unread}
 use Rattle.pat_serve.proofs.Bringing.{none-brought}
 use Rattle.pat_serve.proofs.serving.serve_present.Goals as goal
 
@@ -27,7 +28,10 @@ returns-in-Some-clause-serves g c =
           (g.W.Simulation.facts c.args.world.now)
           (g.W.Simulation.facts c.answer_to.new.world) _ _ c.args.member c.in-Some.asks a.0
           known c.in_ok-asks.ensures.left c.in_ok-asks.ensures.grows
-          (λ n takes. (c.in_ok-asks.ensures.reliable n takes).0) a.1,
+          (λ n takes. (c.in_ok-asks.ensures.reliable n takes).0)
+          (early-so g.D.Door _ _ (ap is_none c.in-Some.is) c.in_ok-asks.ensures.early) c.asked_on.ensures.spare
+          (λ calls had. match-some c.in_ok-asks.field-0 c.in-Some.asks _ _ c.in-Some.is
+          (c.in_ok-asks.ensures.heard calls had)) a.1,
     ))
     c.answer_to.ensures.answers
 
@@ -40,6 +44,8 @@ returns-in-None-clause-serves g c =
       serves-unread g.D.Door c.args.door.now c.asked_on.new.door
           (g.W.Simulation.facts c.args.world.now).cluster c.args.member
           c.in_ok-asks.ensures.left (c.in_ok-asks.ensures.failed c.in-None.is)
-          (λ n takes. (c.in_ok-asks.ensures.reliable n takes).1 (ap Ok c.in-None.is)),
+          (λ n takes. (c.in_ok-asks.ensures.reliable n takes).1 (ap Ok c.in-None.is))
+          (early-so g.D.Door _ _ (ap is_none c.in-None.is) c.in_ok-asks.ensures.early)
+          (λ calls had. match-none c.in_ok-asks.field-0 _ _ c.in-None.is (c.in_ok-asks.ensures.heard calls had)),
     ))
     c.fail.ensures

@@ -1,5 +1,5 @@
-use Rattle.std.proofs.Common.{length, arith, Ok, Some}
-use Rattle.rest_connection.proofs.Pieces.{asked-early, asked-by-fault, asked-at-end, unseen, answered-some, fault-answered-some, left-at-end, left-fault, left-request, left-untold, present-before, reading-more, still-wanted}
+use Rattle.std.proofs.Common.{length, arith, refl, Ok, Some}
+use Rattle.rest_connection.proofs.Pieces.{asked-early, asked-by-fault, asked-at-end, unseen, answered-some, fault-answered-some, heard-by, left-at-end, left-fault, left-request, left-untold, present-before, reading-more, reading-starts, still-wanted, to-answer, to-end, to-failure, to-fault}
 use Rattle.rest_connection.proofs.asking.read_request_from.Goals as goal
 
 pub returns-in_err-request-clause-asked : goal.returns-in_err-request-clause-asked
@@ -85,6 +85,7 @@ pub loop-bytes-preserved : goal.loop-bytes-preserved
 loop-bytes-preserved g c =
     reading-more g.D.Door _ _ _ c.loop-bytes.bytes.items _ c.in_ok-read_more.field-0 c.loop-bytes.invariant
     (still-wanted c.loop-bytes.bytes.items (rw (c.deref.ensures.value, c.in_default.is) at c.in_ok-request.ensures))
+    (rw (c.deref.ensures.value, c.in_default.is) at c.in_ok-request.ensures)
     (record {
       within = c.in_ok-read_more.ensures.within;
       added = c.in_ok-read_more.ensures.added;
@@ -95,4 +96,43 @@ loop-bytes-preserved g c =
       calm = c.read_more.ensures.door;
       served = c.read_more.ensures.served;
       reliable = λ n takes. (c.read_more.ensures.reliable n takes).0;
+      spare = c.read_more.ensures.spare;
+      heard = c.in_ok-read_more.ensures.heard;
+      counts = c.in_ok-read_more.ensures.counts;
     })
+
+pub loop-bytes-init : goal.loop-bytes-init
+loop-bytes-init g c = reading-starts g.D.Door c.args.door.now _ c.new-bytes.ensures.items
+
+pub returns-in_err-request-clause-early : goal.returns-in_err-request-clause-early
+returns-in_err-request-clause-early g c =
+    to-fault g.D.Door _ _ c.loop-bytes.bytes.items c.in_err-request.field-0.0 c.from_residual.result
+    c.loop-bytes.invariant (rw c.deref.ensures.value at c.in_err-request.ensures) c.from_residual.ensures.1
+
+pub returns-in-Some-clause-early : goal.returns-in-Some-clause-early
+returns-in-Some-clause-early g c =
+    to-answer g.D.Door _ _ c.loop-bytes.bytes.items c.loop-bytes.invariant
+    (answered-some c.loop-bytes.bytes.items (Ok (Some c.in-Some.request)) _
+    (rw (c.deref.ensures.value, c.in-Some.is) at c.in_ok-request.ensures) refl)
+
+pub returns-in_err-read_more-clause-early : goal.returns-in_err-read_more-clause-early
+returns-in_err-read_more-clause-early g c =
+    to-failure g.D.Door _ _ _ c.loop-bytes.bytes.items c.in_err-read_more.field-0.0
+    c.from_residual-in_err-read_more.result c.loop-bytes.invariant
+    (rw (c.deref.ensures.value, c.in_default.is) at c.in_ok-request.ensures)
+    c.in_err-read_more.ensures.errors c.from_residual-in_err-read_more.ensures.1 c.in_err-read_more.ensures.counts
+
+pub returns-then-branch-eq0-clause-early : goal.returns-then-branch-eq0-clause-early
+returns-then-branch-eq0-clause-early g c =
+    to-end g.D.Door _ _ _ c.loop-bytes.bytes.items c.in_ok-read_more.field-0 c.loop-bytes.invariant
+    (rw (c.deref.ensures.value, c.in_default.is) at c.in_ok-request.ensures) c.in_ok-read_more.ensures.counts
+
+pub returns-in_err-request-clause-heard : goal.returns-in_err-request-clause-heard
+returns-in_err-request-clause-heard g c calls had =
+    heard-by g.D.Door _ c.from_residual.result _ calls c.from_residual.ensures.1
+    (c.loop-bytes.invariant.heard calls had)
+
+pub returns-in_err-read_more-clause-heard : goal.returns-in_err-read_more-clause-heard
+returns-in_err-read_more-clause-heard g c calls had =
+    heard-by g.D.Door _ c.from_residual-in_err-read_more.result _ calls c.from_residual-in_err-read_more.ensures.1
+    (c.in_err-read_more.ensures.heard calls (c.loop-bytes.invariant.heard calls had))

@@ -17,6 +17,11 @@ loop-at-init g c =
       room = λ n takes fits.
           let e : n - 0 ≡ n = omega arith in
           rw e takes;
+      spare = λ n has.
+          let e : n - 0 ≡ n = omega arith in
+          rw e has;
+      heard = λ calls had. had;
+      counts = λ counts had. had;
     }
 
 pub returns-in_err-at-clause-front : goal.returns-in_err-at-clause-front
@@ -39,6 +44,12 @@ loop-at-preserved g c = record {
       (rest-fits c.args.bytes.now c.loop-at.at n all) in
       let e : (n - c.loop-at.at) - c.in_ok-at.field-0 ≡ n - (c.loop-at.at + c.in_ok-at.field-0) = omega arith in
       rw (← e) taken;
+  spare = λ n has.
+      let left = c.in_ok-at.ensures.spare (n - c.loop-at.at) (c.loop-at.invariant.spare n has) in
+      let e : (n - c.loop-at.at) - c.in_ok-at.field-0 ≡ n - (c.loop-at.at + c.in_ok-at.field-0) = omega arith in
+      rw (← e) left;
+  heard = λ calls had. c.in_ok-at.ensures.heard calls (c.loop-at.invariant.heard calls had);
+  counts = λ counts had. c.write.ensures.counts counts (c.loop-at.invariant.counts counts had);
 }
 
 pub returns-clause-written : goal.returns-clause-written

@@ -1,9 +1,11 @@
-use Rattle.std.proofs.Common.{◌+◌, ◌*◌, ◌∙◌, Err, length, arith, ap, refl, []}
+use Rattle.std.proofs.Common.{◌+◌, ◌*◌, ◌∷◌, ◌∙◌, Err, length, arith, ap, refl, []}
 use Rattle.std.proofs.lemmas.Result.{err_from_is_err_and}
 use Rattle.cluster_model.specs.Steps.{steps_of}
 use Rattle.serve_model.specs.Connections.{connection_cost}
 use Rattle.simulation.proofs.Stepping.{steps-left-behind, steps-left-fewer}
 use Rattle.run_player.specs.Playing.{player_of}
+use Rattle.pat_door.specs.Doors.{Opened}
+use Rattle.run_serving.proofs.Apart.{apart-closing, apart-none, apart-so, apart-stop}
 use Rattle.run_serving.proofs.Closing.{closes-all, plays-declared, stops-in-closing, stops-in-script, stops-in-serving}
 use Rattle.run_serving.proofs.serving.receive_all.Goals as goal
 
@@ -21,6 +23,10 @@ returns-in_err-play_body g c =
           c.args.door.now (steps_of c.args.script.body) c.args.service.now.member c.args.service.now.count
           (player_of g.W.Simulation.facts c.play_body.new.self) c.play_body.new.out _ c.from_residual.result
           c.in_err-play_body.ensures (p.1 ∙ ap Err p.2),
+      apart-stop g.D.Door c.args.door.now c.args.door.now _ c.from_residual.result _ c.args.service.now.member
+          (Opened c.args.service.now.address.now ∷ []) [] (p.1 ∙ ap Err p.2)
+          (apart-none {X = Unit {0}} g.D.Door c.args.door.now _ _ c.args.service.now.member
+          (Opened c.args.service.now.address.now ∷ [])),
     )
 
 pub receive-requires-clause-room : goal.receive-requires-clause-room
@@ -43,6 +49,9 @@ returns-in_err-receive g c =
           (player_of g.W.Simulation.facts c.play_body.new.self)
           (player_of g.W.Simulation.facts c.receive.new.player) c.play_body.new.out c.receive.new.out c.receive.new.door
           r.0 c.in_ok-play_body.ensures _ c.from_residual-in_err-receive.result r.1 (p.1 ∙ ap Err p.2),
+      apart-stop g.D.Door c.args.door.now c.receive.new.door _ c.from_residual-in_err-receive.result _
+          c.args.service.now.member (Opened c.args.service.now.address.now ∷ []) r.0 (p.1 ∙ ap Err p.2)
+          (apart-so c.in_ok-play_body.ensures.world r.2),
     )
 
 pub returns-in_err-print_closing : goal.returns-in_err-print_closing
@@ -58,6 +67,9 @@ returns-in_err-print_closing g c =
           c.print_closing.new.out c.receive.new.door r.0 c.in_ok-play_body.ensures r.1
           c.closing.result _ final c.closing.ensures c.in_err-print_closing.ensures.printed
           c.in_err-print_closing.ensures.memory (p.1 ∙ ap Err p.2),
+      apart-closing g.D.Door c.args.door.now c.receive.new.door tt _ final _ c.args.service.now.member
+          (Opened c.args.service.now.address.now ∷ []) r.0 (p.1 ∙ ap Err p.2)
+          (apart-so c.in_ok-play_body.ensures.world r.2),
     )
 
 pub returns : goal.returns
@@ -70,4 +82,5 @@ returns g c =
           (player_of g.W.Simulation.facts c.receive.new.player) c.play_body.new.out c.receive.new.out
           c.print_closing.new.out c.receive.new.door r.0 c.in_ok-play_body.ensures r.1
           c.closing.result refl c.closing.ensures c.in_ok-print_closing.ensures.printed,
+      apart-so c.in_ok-play_body.ensures.world r.2,
     )

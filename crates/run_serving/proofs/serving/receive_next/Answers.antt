@@ -5,6 +5,7 @@ use Rattle.std.proofs.lemmas.Result.{err_from_is_err_and}
 use Rattle.run_printing.specs.declared.serve_error.ServeError.TheVariants.{Door, Memory}
 use Rattle.run_player.specs.Playing.{PlayerFacts, player_of}
 use Rattle.run_serving.proofs.Received.{Receives-none, accepted, all-traced, door-is-no-write, err-is-not-ok, memory-is-no-write, no-plays, not-door, ok-is-no-door, plays-visit, prints-part, prints-visit, receives-one, shows-so}
+use Rattle.run_serving.proofs.Apart.{apart-none-since, apart-one, apart-refused, apart-stop}
 use Rattle.run_serving.proofs.Visiting.{Came-none-since, Came-refused}
 use Rattle.run_serving.proofs.serving.receive_next.Goals as goal
 
@@ -19,6 +20,8 @@ returns-in_default g c =
           (player_of g.W.Simulation.facts c.args.player.now).world.cluster c.args.member 1 e.same e.failed
           e.grows e.line
           (λ more serves. err-is-not-ok (Unit {0}) c.in_default.field-0 (e.served (1 + more) serves (omega arith)).0)),
+      apart-refused g.D.Door c.args.door.now c.accept.new.self Door
+          (player_of g.W.Simulation.facts c.args.player.now).world.cluster c.args.member [] e.line e.heard,
     )
 
 pub returns-in_err-serve_one : goal.returns-in_err-serve_one
@@ -33,6 +36,11 @@ returns-in_err-serve_one g c =
           (Came-none-since g.D.Door c.args.door.now c.serve_one.new.door
           (player_of g.W.Simulation.facts c.args.player.now).world.cluster c.args.member 1
           (omega (arith, a.grows, s.door)) (omega (arith, a.line, s.grows))),
+      apart-stop g.D.Door c.args.door.now c.serve_one.new.door Memory c.from_residual.result
+          (player_of g.W.Simulation.facts c.args.player.now).world.cluster c.args.member [] [] (p.1 ∙ ap Err p.2)
+          (apart-none-since {X = Unit {0}} g.D.Door c.args.door.now c.serve_one.new.door
+          (player_of g.W.Simulation.facts c.args.player.now).world.cluster c.args.member []
+          (omega (arith, a.line, s.grows))),
     )
 
 pub show-requires : goal.show-requires
@@ -69,6 +77,9 @@ returns-in_err-show g c =
           c.args.member s.serves.0 _ _ c.in_err-show.field-0.0 final c.new-brought.ensures.items s.serves.1
           (shows-so (λ v. v.items) c.deref.ensures.value c.in_err-show.ensures) (p.1 ∙ ap Err p.2))
           (no-plays final _ (p.1 ∙ ap Err p.2)) come,
+      apart-one g.D.Door c.args.door.now c.accept.new.self c.serve_one.new.door
+          (player_of g.W.Simulation.facts c.args.player.now).world.cluster c.args.member s.serves.0 final a.line
+          s.grows a.heard a.spare s.serves.2,
     )
 
 pub returns : goal.returns
@@ -93,4 +104,7 @@ returns g c =
           c.show.new.out c.args.member s.serves.0 _ _ c.new-brought.ensures.items s.serves.1 refl
           (shows-so (λ v. v.items) c.deref.ensures.value c.in_ok-show.ensures))
           come,
+      apart-one g.D.Door c.args.door.now c.accept.new.self c.serve_one.new.door
+          (player_of g.W.Simulation.facts c.args.player.now).world.cluster c.args.member s.serves.0 (Ok tt) a.line
+          s.grows a.heard a.spare s.serves.2,
     )

@@ -1,4 +1,4 @@
-use Rattle.std.proofs.Common.{◌+◌, ◌*◌, ◌∙◌, Err, length, ap, []}
+use Rattle.std.proofs.Common.{◌+◌, ◌*◌, ◌∷◌, ◌∙◌, Err, length, ap, refl, []}
 use Rattle.std.proofs.lemmas.Result.{err_from_is_err_and}
 use Rattle.cluster_model.specs.Starting.{cluster_of}
 use Rattle.cluster_model.specs.State.{Cluster}
@@ -8,6 +8,10 @@ use Rattle.simulation.proofs.Stepping.{steps-left-fewer}
 use Rattle.world_model.proofs.Declaring.{names-start}
 use Rattle.world_model.specs.Room.{most_steps}
 use Rattle.run_player.specs.Playing.{player_of}
+use Rattle.pat_door.specs.Doors.{Opened}
+use Rattle.run_printing.specs.declared.serve_error.ServeError.TheVariants.{Memory}
+use Rattle.run_model.specs.Visits.{after_steps}
+use Rattle.run_serving.proofs.Apart.{apart-all, apart-none, apart-so, apart-stop}
 use Rattle.run_serving.proofs.Closing.{serves-all, serves-none, serves-part}
 use Rattle.run_serving.proofs.serving.serve.Goals as goal
 use Rattle.run_model.specs.Watches.{first_summary}
@@ -18,6 +22,10 @@ returns-in_err-player g c =
       [],
       serves-none g.K.Sink g.D.Door g.W.Simulation.facts c.args.out.now c.args.door.now c.from_residual.result
           c.args.script c.args.service.now.member c.args.service.now.count (p.1 ∙ ap Err p.2),
+      apart-stop g.D.Door c.args.door.now c.args.door.now Memory c.from_residual.result _ c.args.service.now.member
+          (Opened c.args.service.now.address.now ∷ []) [] (p.1 ∙ ap Err p.2)
+          (apart-none {X = Unit {0}} g.D.Door c.args.door.now Memory _ c.args.service.now.member
+          (Opened c.args.service.now.address.now ∷ [])),
     )
 
 pub receive_all-requires-clause-room : goal.receive_all-requires-clause-room
@@ -45,6 +53,10 @@ returns-in-Ok g c =
           (first.summary ∙ ap (λ h. first_summary h) c.head.ensures.value)
           c.into_world.result first.steps first.room first.counted c.requires.room
           (ap g.W.Simulation.facts c.into_world.ensures) r.1,
+      apart-all g.D.Door c.args.door.now c.receive_all.new.door tt c.into_world.result _ c.args.service.now.member
+          (Opened c.args.service.now.address.now ∷ []) r.0
+          (apart-so (ap (λ w. after_steps w (steps_of c.args.script.body))
+          (first.world ∙ ap (λ h. cluster_of h) c.head.ensures.value)) r.2),
     )
 
 pub returns-in-Err : goal.returns-in-Err
@@ -59,4 +71,8 @@ returns-in-Err g c =
           (first.world ∙ ap (λ h. cluster_of h) c.head.ensures.value) first.trace
           (first.summary ∙ ap (λ h. first_summary h) c.head.ensures.value)
           c.in-Err.error r.1,
+      apart-stop g.D.Door c.args.door.now c.receive_all.new.door c.in-Err.error (Err c.in-Err.error) _
+          c.args.service.now.member (Opened c.args.service.now.address.now ∷ []) r.0 refl
+          (apart-so (ap (λ w. after_steps w (steps_of c.args.script.body))
+          (first.world ∙ ap (λ h. cluster_of h) c.head.ensures.value)) r.2),
     )
