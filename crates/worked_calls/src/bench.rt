@@ -179,7 +179,13 @@ pub fn set_tag(tags: &mut Tags, option: &str, value: &str) -> Result<(), Stop> {
     match option {
         "nofailover" => tags.nofailover = value == "yes",
         "noloadbalance" => tags.noloadbalance = value == "yes",
-        "priority" => tags.failover_priority = known(value.parse().ok())?,
+        "priority" => {
+            let priority: i64 = known(value.parse().ok())?;
+            if priority < -1000 || priority > 1000 {
+                return Err(Stop::Unknown);
+            }
+            tags.failover_priority = priority;
+        }
         _ => return Err(Stop::Unknown),
     }
     Ok(())

@@ -61,10 +61,16 @@ fn agrees<R: Files + AllocGlobal + Print>(rt: &R, name: &str) -> io::Result<bool
             None => agreeing = agreeing.saturating_add(u64::from(line.is_row())),
             Some(told) => {
                 all_agree = false;
-                println!(rt; "{name}: {} => {told}", line.asked())?;
+                tell(rt, name, line.asked(), told.as_str())?;
             }
         }
     }
     println!(rt; "{name}: {agreeing} rows agree")?;
     Ok(all_agree)
+}
+
+/// Prints a row of a table that doesn't agree, and what it is told.
+fn tell<R: Print>(rt: &R, name: &str, asked: &str, told: &str) -> io::Result<()> {
+    println!(rt; "{name}: {asked} => {told}")?;
+    Ok(())
 }
