@@ -1,9 +1,7 @@
 //! What a script tells the run to do.
-ghost use Rattle.std.specs.Prelude.{◌≡◌, IfOk};
 
 use crate::{CommitSize, Delay, LineBytes, RequestWords};
 use pat_base::{MemberId, Shared};
-use std::alloc::AllocError;
 
 /// One end of a link: a member, or the key store.
 #[derive(Clone, Copy, PartialEq, Eq)]
@@ -67,36 +65,6 @@ pub enum Command {
     Trace(bool),
 }
 
-impl Command {
-    /// The same command. It fails only for want of memory.
-    pub fn try_clone(&self) -> Result<Command, AllocError>
-        ensures { IfOk result (λ command. command ≡ self.now) }
-    {
-        let command = match self {
-            Command::Turn(member) => Command::Turn(*member),
-            Command::Deliver(number) => Command::Deliver(*number),
-            Command::Lose(number) => Command::Lose(*number),
-            Command::Suspend(member) => Command::Suspend(*member),
-            Command::Resume(member) => Command::Resume(*member),
-            Command::Kill(member) => Command::Kill(*member),
-            Command::StartAgent(member) => Command::StartAgent(*member),
-            Command::Promote(member) => Command::Promote(*member),
-            Command::Crash(member) => Command::Crash(*member),
-            Command::Commit(member, size) => Command::Commit(*member, *size),
-            Command::Stream(member, most) => Command::Stream(*member, *most),
-            Command::Freeze(member) => Command::Freeze(*member),
-            Command::Thaw(member) => Command::Thaw(*member),
-            Command::Slow(member, slowed, delay) => Command::Slow(*member, *slowed, *delay),
-            Command::Cut(first, second) => Command::Cut(*first, *second),
-            Command::Join(first, second) => Command::Join(*first, *second),
-            Command::Rest(member, request) => Command::Rest(*member, request.try_clone()?),
-            Command::Ctl(said) => Command::Ctl(said.try_clone()?),
-            Command::Trace(on) => Command::Trace(*on),
-        };
-        Ok(command)
-    }
-}
-
 /// A line of a script's body. A line of ticks may ask for any number below 2^64, of 100 ms each.
 #[derive(Drop)]
 pub enum Line {
@@ -106,17 +74,4 @@ pub enum Line {
     Tick(u64),
     /// Any other line.
     Command(Command),
-}
-
-impl Line {
-    /// The same line. It fails only for want of memory.
-    pub fn try_clone(&self) -> Result<Line, AllocError>
-        ensures { IfOk result (λ line. line ≡ self.now) }
-    {
-        match self {
-            Line::Run(count) => Ok(Line::Run(*count)),
-            Line::Tick(count) => Ok(Line::Tick(*count)),
-            Line::Command(command) => Ok(Line::Command(command.try_clone()?)),
-        }
-    }
 }

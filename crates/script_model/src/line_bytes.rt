@@ -49,13 +49,4 @@ impl LineBytes {
             Err(_) => unreachable!(),
         }
     }
-
-    /// One more owner, at no cost of their number. It fails only where the owners can't be counted any more.
-    pub fn try_clone(&self) -> Result<LineBytes, AllocError>
-        ensures { IfOk result (λ owned. owned ≡ self.now) }
-    {
-        Ok(LineBytes {
-            bytes: self.bytes.try_clone()?,
-        })
-    }
 }

@@ -1,9 +1,7 @@
 //! Transactions.
-ghost use Rattle.std.specs.Prelude.{◌≡◌, IfOk};
 
 use crate::{ConfigValue, FailoverKey, HistoryRow, MemberInfo};
 use pat_base::{Lsn, MemberSet, Ticks};
-use std::alloc::AllocError;
 use std::fmt;
 
 /// What a transaction expects at a key, or what was found there.
@@ -94,76 +92,4 @@ pub enum Txn {
         revision: u64,
         config: ConfigValue,
     },
-}
-
-impl Txn {
-    /// The same transaction once more. It fails only for want of memory.
-    pub fn try_clone(&self) -> Result<Txn, AllocError>
-        ensures { IfOk result (λ txn. txn ≡ self.now) }
-    {
-        let copy = match self {
-            Txn::Touch { info, ttl } => Txn::Touch {
-                info: *info,
-                ttl: *ttl,
-            },
-            Txn::Create {
-                info,
-                ttl,
-                failsafe,
-                sync,
-            } => Txn::Create {
-                info: *info,
-                ttl: *ttl,
-                failsafe: *failsafe,
-                sync: *sync,
-            },
-            Txn::Renew {
-                revision,
-                info,
-                ttl,
-                status,
-                row,
-                failsafe,
-            } => Txn::Renew {
-                revision: *revision,
-                info: *info,
-                ttl: *ttl,
-                status: *status,
-                row: *row,
-                failsafe: *failsafe,
-            },
-            Txn::Release { revision } => Txn::Release {
-                revision: *revision,
-            },
-            Txn::Claim { revision, sync } => Txn::Claim {
-                revision: *revision,
-                sync: *sync,
-            },
-            Txn::SetSync {
-                revision,
-                sync,
-                standbys,
-            } => Txn::SetSync {
-                revision: *revision,
-                sync: *sync,
-                standbys: *standbys,
-            },
-            Txn::DropSync { revision, sync } => Txn::DropSync {
-                revision: *revision,
-                sync: *sync,
-            },
-            Txn::SetFailover { failover, ttl } => Txn::SetFailover {
-                failover: *failover,
-                ttl: *ttl,
-            },
-            Txn::DropFailover { revision } => Txn::DropFailover {
-                revision: *revision,
-            },
-            Txn::SetConfig { revision, config } => Txn::SetConfig {
-                revision: *revision,
-                config: config.try_clone()?,
-            },
-        };
-        Ok(copy)
-    }
 }

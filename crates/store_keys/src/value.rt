@@ -122,16 +122,3 @@ impl Value {
         }
     }
 }
-
-impl KeyEntry {
-    /// The same once more, with its revision and its expiry. It fails only for want of memory.
-    pub fn try_clone(&self) -> Result<KeyEntry, AllocError>
-        ensures { IfOk result (λ stored. stored ≡ self.now) }
-    {
-        Ok(KeyEntry {
-            value: self.value.try_clone()?,
-            revision: self.revision,
-            expiry: self.expiry,
-        })
-    }
-}

@@ -3,7 +3,6 @@
 
 mod closing;
 mod head;
-mod losses;
 mod noting;
 mod sighting;
 mod summary;
@@ -11,6 +10,5 @@ mod watch;
 mod writers;
 
 pub use closing::closing_text;
-pub use losses::may_lose;
 pub use summary::Summary;
 pub use watch::Watch;
