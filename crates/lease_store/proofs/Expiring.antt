@@ -48,7 +48,7 @@ and-false true = refl
 and-false false = refl
 
 -- ---- the order
-expiries_total : IsTotalOrder expiry_cmp
+pub expiries_total : IsTotalOrder expiry_cmp
 expiries_total =
     then_total (on_total (λ (e : Ticks × Key). e.0.0) nat_cmp_total) (on_total (λ (e : Ticks × Key). e.1) keys_total)
 

@@ -6,3 +6,4 @@ pub mod KeyLaws
 pub mod Keeping
 pub mod OneKey
 pub mod Placing
+pub mod Renewing

@@ -23,9 +23,9 @@ pub record Passed (key : Key) (pairs : List (Key × KeyEntry)) (at : ℕ) : Type
   pub finds : find key_cmp key (drop at pairs) ≡ find key_cmp key pairs
   pub order : IsTrue (is_sorted key_cmp pairs) → IsTrue (is_sorted key_cmp (drop at pairs))
 
-rest : (pairs : List (Key × KeyEntry)) (at : ℕ) (pair : Key × KeyEntry) → at < length pairs
-    → pair ≡ slice_index_or pairs at pair → drop at pairs ≡ pair ∷ drop (at + 1) pairs
-rest pairs at pair h is = rw (add-one) (drop-cons pairs at pair h ∙ ap (λ p. p ∷ drop (suc at) pairs) (sym is))
+pub rest : {X : Type 0} (xs : List X) (at : ℕ) (x : X) → at < length xs → x ≡ slice_index_or xs at x
+    → drop at xs ≡ x ∷ drop (at + 1) xs
+rest xs at x h is = rw (add-one) (drop-cons xs at x h ∙ ap (λ y. y ∷ drop (suc at) xs) (sym is))
 
 put-less : (key : Key) (stored : KeyEntry) (es : List (Key × KeyEntry)) (e : Key × KeyEntry)
     (left : List (Key × KeyEntry)) → es ≡ e ∷ left → key_cmp key e.0 ≡ Less

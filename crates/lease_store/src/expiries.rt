@@ -59,6 +59,39 @@ fn place_of(expiries: &[(Ticks, Key)], key: Key) -> Option<usize>
     None
 }
 
+/// Puts one over that at this place, behind those that stood behind it and come before the new one.
+fn put_over(expiries: &mut [(Ticks, Key)], at: usize, added: (Ticks, Key))
+    requires { at < length expiries.old }
+    ensures { expiries.new ≡ take at expiries.old ++ expiries_with added (drop (at + 1) expiries.old) }
+{
+    let mut gap = at;
+    while gap + 1 < expiries.len() {
+        let next = expiries[gap + 1];
+        if compare_expiries(added, next).is_lt() {
+            break;
+        }
+        expiries[gap] = next;
+        gap += 1;
+    }
+    expiries[gap] = added;
+}
+
+/// Takes that at this place out and adds another one. Mostly a lease is renewed and then ends later: no other is moved but those between.
+fn replace(expiries: &mut Expiries, at: usize, added: (Ticks, Key))
+    requires within { at < vec_len expiries.old }
+    requires rise { IsStrictlySortedBy expiry_cmp expiries.old.items }
+    ensures expiries { expiries.new.items ≡ expiries_with added (take at expiries.old.items ++ drop (at + 1) expiries.old.items) }
+    ensures len { vec_len expiries.new ≡ vec_len expiries.old }
+    ensures room { vec_capacity expiries.old ≤ vec_capacity expiries.new }
+{
+    if expiries[at].0 < added.0 {
+        put_over(expiries, at, added);
+    } else {
+        expiries.remove(at);
+        add(expiries, added);
+    }
+}
+
 /// Takes that of a key out.
 fn take_out(expiries: &mut Expiries, key: Key)
     ensures expiries { expiries.new.items ≡ expiries_without key expiries.old.items }
@@ -82,10 +115,12 @@ pub fn exchange(expiries: &mut Expiries, key: Key, expiry: Option<Ticks>)
     ensures len { vec_len expiries.new ≤ vec_len expiries.old + 1 }
     ensures room { vec_capacity expiries.old ≤ vec_capacity expiries.new }
 {
-    take_out(expiries, key);
     match expiry {
-        None => {}
-        Some(expiry) => add(expiries, (expiry, key)),
+        None => take_out(expiries, key),
+        Some(expiry) => match place_of(expiries, key) {
+            None => add(expiries, (expiry, key)),
+            Some(at) => replace(expiries, at, (expiry, key)),
+        },
     }
 }
 
