@@ -129,11 +129,11 @@ impl World {
     /// One step of a run with these members, into an empty list. The premises: fewer than 2^30 steps were taken, a command names
     /// declared members only, and a connection comes to a declared member. On Ok the events are those that come next, whether messages are
     /// traced in the list stays, and the world is what the events leave: a world that stood for a book stands for that book with them at its
-    /// end. No commit is left that may be acknowledged. On Err, want of memory, the list is empty again, and the world is spent: each further
-    /// step answers Err too.
+    /// end. No commit is left that may be acknowledged. On Err, want of memory, the list is empty again, and the world is spent: whatever
+    /// further step is asked of it, it answers Err again.
     pub fn step(&mut self, step: &Step, events: &mut EventList) -> Result<(), AllocError>
-        requires room { HasStepsLeft self.old 1 }
-        requires declared { IsStep self.old.cluster.facts.members step.now }
+        requires room { self.old.spent ≡ false → HasStepsLeft self.old 1 }
+        requires declared { self.old.spent ≡ false → IsStep self.old.cluster.facts.members step.now }
         requires empty { events.old.items ≡ [] }
         ensures emits { OnOk result (Emits self.old.cluster self.new.cluster events.old events.new (next_events self.old.cluster step.now) step_cost) }
         ensures taken { OnOk result (TookSteps self.old self.new 1) }
@@ -150,7 +150,7 @@ impl World {
         ensures acknowledged { OnOk result (AreAcknowledged self.new.cluster.facts.members self.new.cluster.facts.servers) }
         ensures refused { OnErr result (events.new.items ≡ events.old.items) }
         ensures spent { self.new.spent ≡ is_err result }
-        // Whoever steps a world after an error gets that answer again.
+        // Whoever steps a spent world gets that answer again, and needs no premise but the empty list.
         ensures again { IsTrue self.old.spent → IsErr result }
     {
         if self.spent {
@@ -165,9 +165,10 @@ impl World {
 
     /// Takes so many steps of one kind at once as are known to bring nothing but their ticks, at most as many as wanted, and
     /// answers how many. 0 where the next one may bring more, for a command and for a connection, and where memory ran out in a step
-    /// before. It costs the same however many they are. The premise: with as many as wanted, at most 2^30 steps are taken.
+    /// before. It costs the same however many they are. The premise, of a world that isn't spent: with as many as wanted, at most 2^30 steps are
+    /// taken.
     pub fn idle_for(&mut self, step: &Step, most: u64) -> u64
-        requires { self.old.steps + most ≤ most_steps }
+        requires { self.old.spent ≡ false → self.old.steps + most ≤ most_steps }
         ensures most { result ≤ most }
         ensures ticks { BringsTicks self.old.cluster step.now result }
         ensures world { self.new.cluster ≡ cluster_over self.old.cluster (run_events self.old.cluster (replicate result step.now)) }

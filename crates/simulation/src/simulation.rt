@@ -32,10 +32,11 @@ pub trait Simulation {
     fn close(self);
 
     /// One step of a run with these members, into an empty list. On Ok the events are those that come next, whether messages are traced in
-    /// the list stays, and the cluster is what they leave. On Err, want of memory, it is spent: each further step answers Err too.
+    /// the list stays, and the cluster is what they leave. On Err, want of memory, it is spent: whatever further step is asked of it, it
+    /// answers Err again.
     fn step(&mut self, step: &Step, events: &mut EventList) -> Result<(), AllocError>
-        requires room { HasStepsLeft (facts self.old) 1 }
-        requires declared { IsStep (facts self.old).cluster.facts.members step.now }
+        requires room { (facts self.old).spent ≡ false → HasStepsLeft (facts self.old) 1 }
+        requires declared { (facts self.old).spent ≡ false → IsStep (facts self.old).cluster.facts.members step.now }
         requires empty { events.old.items ≡ [] }
         ensures emits { OnOk result (Emits (facts self.old).cluster (facts self.new).cluster events.old events.new (next_events (facts self.old).cluster step.now) step_cost) }
         ensures taken { OnOk result (TookSteps (facts self.old) (facts self.new) 1) }
@@ -43,9 +44,9 @@ pub trait Simulation {
         ensures again { IsTrue (facts self.old).spent → IsErr result };
 
     /// Takes so many steps of one kind at once as are known to bring nothing but their ticks, at most as many as wanted, and answers how
-    /// many: none where memory ran out in a step before.
+    /// many; none where memory ran out in a step before.
     fn idle_for(&mut self, step: &Step, most: u64) -> u64
-        requires { (facts self.old).steps + most ≤ most_steps }
+        requires { (facts self.old).spent ≡ false → (facts self.old).steps + most ≤ most_steps }
         ensures most { result ≤ most }
         ensures ticks { BringsTicks (facts self.old).cluster step.now result }
         ensures world { (facts self.new).cluster ≡ cluster_over (facts self.old).cluster (run_events (facts self.old).cluster (replicate result step.now)) }

@@ -1,4 +1,6 @@
+use Rattle.std.proofs.Common.{ap, sym, ◌∙◌}
 use Rattle.std.proofs.lemmas.Result.{on_ok_weaker}
+use Rattle.simulation.specs.Steps.{WorldFacts}
 use Rattle.world_model.specs.Room.{step_cost}
 use Rattle.pat_world.proofs.Fenced.{step-fenced}
 use Rattle.pat_world.proofs.KeptCommits.{step-keeps-commits}
@@ -44,6 +46,7 @@ returns-else-is_err-clause-fenced c =
 pub returns-else-is_err-clause-taken : goal.returns-else-is_err-clause-taken
 returns-else-is_err-clause-taken c =
     on_ok_weaker c.attempt-taken.result
-    (λ took. TookSteps-step c.args.self.now c.attempt-taken.new.self c.args.events.now
-    c.attempt-taken.new.events _ c.requires.room c.attempt-taken.ensures.steps took)
+    (λ took. TookSteps-step c.args.self.now c.attempt-taken.new.self c.args.events.now c.attempt-taken.new.events _
+    (c.requires.room (ap (λ (w : WorldFacts). w.spent) (sym c.self.view_is) ∙ c.if-self.false))
+    c.attempt-taken.ensures.steps took)
     c.attempt-taken.ensures.emits
