@@ -32,7 +32,8 @@ pub const MOST_WAITING: u64 = 600;
 /// messages traced: its request, then ticks of the default schedule until the agent replies, for at most 600, and a failure of a read or a
 /// write. A request to an agent that doesn't run or is suspended is answered 503 `No agent`, one that isn't replied to in time 503
 /// `No result in time`, and bytes that are no request 400. Where a write fails, a front of the reply was answered, and where a read does,
-/// nothing. On Err, want of memory, the world isn't to be used any more.
+/// nothing. On Err, want of memory, the world may have taken steps whose events aren't in the list; where memory ran out in one of them, each
+/// further step answers Err again.
 pub fn serve_one<W: Simulation, D: Door>(
     alloc: Global,
     world: &mut W,

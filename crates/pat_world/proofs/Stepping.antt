@@ -16,10 +16,12 @@ use Rattle.world_model.proofs.Starting.{steps-room}
 use Rattle.pat_world.proofs.IdleTicks.{room-passed}
 
 -- before the first step a world may take all of them
-pub steps-left-first : (head : HeadText) (cluster : Cluster) → cluster ≡ cluster_of head
-    → HasStepsLeft (record { cluster = cluster; steps = 0 }) most_steps
-steps-left-first head cluster is =
-    record { room = subst (λ (c : Cluster). HasRoomFor c most_steps) (sym is) (steps-room head); steps = omega arith }
+pub steps-left-first : (head : HeadText) (world : WorldFacts) → world.cluster ≡ cluster_of head → world.steps ≡ 0
+    → HasStepsLeft world most_steps
+steps-left-first head world is none = record {
+  room = subst (λ (c : Cluster). HasRoomFor c most_steps) (sym is) (steps-room head);
+  steps = omega (arith, none);
+}
 
 -- and nothing is counted farther
 pub is-counted-first : (head : HeadText) (cluster : Cluster) → cluster ≡ cluster_of head
@@ -40,21 +42,21 @@ TookSteps-step before after had has events left one took = record {
       (counted-step before.cluster after.cluster before.steps left.steps took.room counted);
 }
 
-idle-counted : (world : WorldFacts) (later : Cluster) (steps count : ℕ)
-    → later ≡ at_moment world.cluster (world.cluster.facts.clock + count) → steps ≡ world.steps + count
-    → IsCounted world → AreCounted later (counted_by steps)
-idle-counted world later steps count is took counted =
+idle-counted : (world after : WorldFacts) (count : ℕ)
+    → after.cluster ≡ at_moment world.cluster (world.cluster.facts.clock + count)
+    → after.steps ≡ world.steps + count → IsCounted world → IsCounted after
+idle-counted world after count is took counted =
     let passed = counted-passed world.cluster (counted_by world.steps) (counted_by (world.steps + count))
     (world.cluster.facts.clock + count) (omega arith) (omega (arith, counted.clock)) counted in
-    subst (λ (n : ℕ). AreCounted later (counted_by n)) (sym took)
+    subst (λ (n : ℕ). AreCounted after.cluster (counted_by n)) (sym took)
     (subst (λ (c : Cluster). AreCounted c (counted_by (world.steps + count))) (sym is) passed)
 
 -- so many were taken at once, in which nothing but time passed
-pub TookSteps-idle : (world : WorldFacts) (later : Cluster) (steps count : ℕ)
-    → later ≡ at_moment world.cluster (world.cluster.facts.clock + count) → steps ≡ world.steps + count
-    → TookSteps world (record { cluster = later; steps = steps }) count
-TookSteps-idle world later steps count is took = record {
+pub TookSteps-idle : (world after : WorldFacts) (count : ℕ)
+    → after.cluster ≡ at_moment world.cluster (world.cluster.facts.clock + count)
+    → after.steps ≡ world.steps + count → TookSteps world after count
+TookSteps-idle world after count is took = record {
   steps = took;
   room = λ more has. subst (λ (c : Cluster). HasRoomFor c more) (sym is) (room-passed world.cluster count more has);
-  counted = idle-counted world later steps count is took;
+  counted = idle-counted world after count is took;
 }

@@ -1,5 +1,5 @@
 //! The world: it takes the steps of a run and hands out what happens.
-ghost use Rattle.std.specs.Prelude.{ℕ, List, ◌≡◌, ◌<◌, ◌≤◌, ◌+◌, ◌^◌, ◌++◌, [], OnOk, OnErr, IfOk, is_some, replicate};
+ghost use Rattle.std.specs.Prelude.{ℕ, List, ◌≡◌, ◌<◌, ◌≤◌, ◌+◌, ◌^◌, ◌++◌, [], false, is_err, is_some, replicate, IfOk, IsErr, IsTrue, OnErr, OnOk};
 ghost use Rattle.script_model.specs.Script.{HeadText, IsHead};
 ghost use Rattle.event_book.specs.declared.event.Event.{Event};
 ghost use Rattle.event_book.specs.declared.event.EventKind.TheVariants as kinds;
@@ -45,6 +45,8 @@ pub struct World {
     stage: Stage,
     /// How many steps were taken.
     steps: u64,
+    /// Whether memory ran out in a step: what the stage is then isn't known, so no more are taken.
+    spent: bool,
     /// Before this moment steps of the default schedule bring nothing but their ticks; 0 where nothing is known of that.
     idle_before: u64,
     /// Before this moment plain ticks bring nothing but themselves, whatever agents have to do; 0 where nothing is known of that.
@@ -61,7 +63,7 @@ impl Model for World {
 
     ghost Value = { WorldFacts };
 
-    ghost view = { λ w. record { cluster = w.stage; steps = w.steps } };
+    ghost view = { λ w. record { cluster = w.stage; steps = w.steps; spent = w.spent } };
 
     ghost invariant = { λ w. IsIdleBefore Scheduled w.idle_before w.stage × IsIdleBefore Tick w.ticks_idle_before w.stage × IsLull w.lull w.stage };
 }
@@ -75,11 +77,13 @@ impl World {
         ensures book { IfOk result (λ world. StandsFor (cluster_of head.now) [] world.cluster) }
         ensures room { IfOk result (λ world. HasStepsLeft world most_steps) }
         ensures counted { IfOk result IsCounted }
+        ensures unspent { IfOk result (λ world. world.spent ≡ false) }
     {
         let stage = Stage::new(alloc, head)?;
         Ok(World {
             stage,
             steps: 0,
+            spent: false,
             idle_before: 0,
             ticks_idle_before: 0,
             lull: Lull::unknown(),
@@ -91,6 +95,7 @@ impl World {
         let World {
             stage,
             steps: _,
+            spent: _,
             idle_before: _,
             ticks_idle_before: _,
             lull: _,
@@ -124,11 +129,11 @@ impl World {
     /// One step of a run with these members, into an empty list. The premises: fewer than 2^30 steps were taken, a command names
     /// declared members only, and a connection comes to a declared member. On Ok the events are those that come next, whether messages are
     /// traced in the list stays, and the world is what the events leave: a world that stood for a book stands for that book with them at its
-    /// end. No commit is left that may be acknowledged. On Err, want of memory, the list is empty again, and the world isn't to be used any
-    /// more.
+    /// end. No commit is left that may be acknowledged. On Err, want of memory, the list is empty again, and the world is spent: whatever
+    /// further step is asked of it, it answers Err again.
     pub fn step(&mut self, step: &Step, events: &mut EventList) -> Result<(), AllocError>
-        requires room { HasStepsLeft self.old 1 }
-        requires declared { IsStep self.old.cluster.facts.members step.now }
+        requires room { self.old.spent ≡ false → HasStepsLeft self.old 1 }
+        requires declared { self.old.spent ≡ false → IsStep self.old.cluster.facts.members step.now }
         requires empty { events.old.items ≡ [] }
         ensures emits { OnOk result (Emits self.old.cluster self.new.cluster events.old events.new (next_events self.old.cluster step.now) step_cost) }
         ensures taken { OnOk result (TookSteps self.old self.new 1) }
@@ -144,8 +149,14 @@ impl World {
         ensures fenced { OnOk result (KeepsFencing self.old.cluster events.new.items) }
         ensures acknowledged { OnOk result (AreAcknowledged self.new.cluster.facts.members self.new.cluster.facts.servers) }
         ensures refused { OnErr result (events.new.items ≡ events.old.items) }
+        ensures spent { self.new.spent ≡ is_err result }
+        // Whoever steps a spent world gets that answer again, and needs no premise but the empty list.
+        ensures again { IsTrue self.old.spent → IsErr result }
     {
-        let taken = self.tick_or_take(step, events);
+        if self.spent {
+            return Err(AllocError);
+        }
+        let taken = self.attempt(step, events);
         if taken.is_err() {
             events.clear();
         }
@@ -153,10 +164,11 @@ impl World {
     }
 
     /// Takes so many steps of one kind at once as are known to bring nothing but their ticks, at most as many as wanted, and
-    /// answers how many. 0 where the next one may bring more, for a command and for a connection. It costs the same however many they are. The premise:
-    /// with as many as wanted, at most 2^30 steps are taken.
+    /// answers how many. 0 where the next one may bring more, for a command and for a connection, and where memory ran out in a step
+    /// before. It costs the same however many they are. The premise, of a world that isn't spent: with as many as wanted, at most 2^30 steps are
+    /// taken.
     pub fn idle_for(&mut self, step: &Step, most: u64) -> u64
-        requires { self.old.steps + most ≤ most_steps }
+        requires { self.old.spent ≡ false → self.old.steps + most ≤ most_steps }
         ensures most { result ≤ most }
         ensures ticks { BringsTicks self.old.cluster step.now result }
         ensures world { self.new.cluster ≡ cluster_over self.old.cluster (run_events self.old.cluster (replicate result step.now)) }
@@ -167,11 +179,28 @@ impl World {
         ensures one_primary { KeepsOnePrimary self.old.cluster (run_events self.old.cluster (replicate result step.now)) }
         ensures commits { KeepsAcknowledged self.old.cluster (run_events self.old.cluster (replicate result step.now)) }
         ensures acknowledged { 0 < result → AreAcknowledged self.new.cluster.facts.members self.new.cluster.facts.servers }
+        ensures spent { self.new.spent ≡ self.old.spent }
+        ensures none { IsTrue self.old.spent → result ≡ 0 }
     {
         let ticks = self.idle_ticks(step, most);
         self.steps += ticks;
         self.stage.pass(ticks);
         ticks
+    }
+
+    /// A step, and whether memory ran out in it.
+    fn attempt(&mut self, step: &Step, events: &mut EventList) -> Result<(), AllocError>
+        requires room { HasStepsLeft self.old 1 }
+        requires declared { IsStep self.old.cluster.facts.members step.now }
+        requires empty { events.old.items ≡ [] }
+        ensures emits { OnOk result (Emits self.old.cluster self.new.cluster events.old events.new (next_events self.old.cluster step.now) step_cost) }
+        ensures steps { self.new.steps ≡ self.old.steps + 1 }
+        ensures acknowledged { OnOk result (AreAcknowledged self.new.cluster.facts.members self.new.cluster.facts.servers) }
+        ensures spent { self.new.spent ≡ is_err result }
+    {
+        let taken = self.tick_or_take(step, events);
+        self.spent = taken.is_err();
+        taken
     }
 
     /// A step: a tick that is known to bring nothing else, or any other one.
@@ -224,13 +253,17 @@ impl World {
         Ok(())
     }
 
-    /// How many of the next steps of one kind are known to bring nothing but their ticks, at most as many as wanted.
+    /// How many of the next steps of one kind are known to bring nothing but their ticks, at most as many as wanted; 0 where memory ran out.
     fn idle_ticks(&self, step: &Step, most: u64) -> u64
         ensures most { result ≤ most }
         ensures fits { self.now.cluster.facts.clock + result < 2 ^ 64 }
         ensures idle { 0 < result → IsIdleIn step.now (self.now.cluster.facts.clock + result) self.now.cluster }
+        ensures none { IsTrue self.now.spent → result ≡ 0 }
     {
         let clock = self.stage.clock().0;
+        if self.spent {
+            return 0;
+        }
         let before = self.steps_idle_before(step);
         if before <= clock {
             return 0;

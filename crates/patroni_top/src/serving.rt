@@ -21,7 +21,7 @@ use pat_world::World;
 use std::alloc::{AllocError, Global};
 
 /// Serves the present connection of a door by the agent of a declared member of a world, and ends it: as `serve_one` does, with what every run
-/// keeps said of the run behind which the connection comes. On Err, want of memory, the world isn't to be used any more.
+/// keeps said of the run behind which the connection comes. On Err, want of memory, it is with the world as there.
 pub fn serve_world<D: Door>(
     alloc: Global,
     world: &mut World,

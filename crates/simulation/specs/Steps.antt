@@ -1,13 +1,15 @@
 -- A world, and the steps that it took.
-use Rattle.std.specs.Prelude.{ℕ, ◌≡◌, ◌+◌, ◌≤◌}
+use Rattle.std.specs.Prelude.{Bool, ℕ, ◌≡◌, ◌+◌, ◌≤◌}
 use Rattle.cluster_model.specs.State.{Cluster}
 use Rattle.world_model.specs.Counted.{AreCounted, counted_by}
 use Rattle.world_model.specs.Room.{HasRoomFor, most_steps}
 
--- a cluster at a moment, and how many steps a world took up to there
+-- a cluster at a moment, how many steps a world took up to there, and
+-- whether it is spent: memory ran out in a step, so it takes no more of them
 pub record WorldFacts : Type 0 where
   pub cluster : Cluster
   pub steps : ℕ
+  pub spent : Bool
 
 -- a world may take so many steps more: they bring no counter to its
 -- end, and with those that it took they are no more than a world takes

@@ -42,11 +42,13 @@ returns c =
       most = c.idle_ticks-ticks.ensures.most;
       ticks = brings-ticks step old (old.facts.clock + n) n (omega arith) idle;
       world = left;
-      taken = TookSteps-idle world c.pass.new.self (c.self.inside.steps + n) n new took;
+      taken = TookSteps-idle world _ n new took;
       book = λ start book stands. steps-stand start book old c.pass.new.self (replicate n step) left stands;
       one_writer = steps-keep old (replicate n step);
       one_primary = one-primary old (run_events old (replicate n step)) (steps-keep old (replicate n step));
       commits = steps-keep-commits old (replicate n step);
       acknowledged = λ some. subst (λ (s : Cluster). AreAcknowledged s.facts.members s.facts.servers)
           (sym new) (idle-commits step old (old.facts.clock + n) (idle some));
+      spent = ap (λ (w : WorldFacts). w.spent) c.self.view_is;
+      none = c.idle_ticks-ticks.ensures.none;
     }

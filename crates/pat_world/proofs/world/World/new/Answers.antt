@@ -1,4 +1,4 @@
-use Rattle.std.proofs.Common.{[]}
+use Rattle.std.proofs.Common.{[], refl}
 use Rattle.cluster_model.specs.declared.step.Step.TheVariants as steps
 use Rattle.cluster_model.specs.Starting.{cluster_of}
 use Rattle.simulation.proofs.Standing.{is-stands}
@@ -17,7 +17,7 @@ pub returns-clause-book : goal.returns-clause-book
 returns-clause-book c = is-stands (cluster_of c.args.head.now) [] c.in_ok-stage.stage c.in_ok-stage.ensures
 
 pub returns-clause-room : goal.returns-clause-room
-returns-clause-room c = steps-left-first c.args.head.now c.in_ok-stage.stage c.in_ok-stage.ensures
+returns-clause-room c = steps-left-first c.args.head.now _ c.in_ok-stage.ensures refl
 
 pub returns-clause-counted : goal.returns-clause-counted
 returns-clause-counted c = is-counted-first c.args.head.now c.in_ok-stage.stage c.in_ok-stage.ensures
