@@ -13,7 +13,8 @@ use Rattle.lease_store.specs.KeyOrder.{key_cmp}
 use Rattle.lease_store.proofs.Expiring.{Expiries, expiries_total}
 use Rattle.lease_store.proofs.Placing.{rest}
 
--- at this place is nothing of the set any more: with the new one it is those in front of there, and those behind with the new one
+-- at this place is nothing of the set any more: with the new one it is those in front of there, and those behind with
+-- the new one
 pub record HasGap (added : Ticks × Key) (at : ℕ) (before expiries : Expiries) (gap : ℕ) : Type 0 where
   pub within : gap < length expiries
   pub whole : take at before ++ expiries_with added (drop (at + 1) before)
