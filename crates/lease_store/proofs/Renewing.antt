@@ -22,7 +22,7 @@ pub record HasGap (added : Ticks × Key) (at : ℕ) (before expiries : Expiries)
 
 pub gap_at-first : (added : Ticks × Key) (at : ℕ) (expiries : Expiries) → at < length expiries
     → HasGap added at expiries expiries at
-gap_at-first added at expiries h = record { within = h; whole = refl; }
+gap_at-first added at expiries h = record { within = h; whole = refl }
 
 with-passed : (added next : Ticks × Key) (es left : Expiries) → es ≡ next ∷ left
     → is_lt (expiry_cmp added next) ≡ false → expiries_with added es ≡ next ∷ expiries_with added left

@@ -7,7 +7,7 @@ ghost use Rattle.lease_store.specs.Expiries.{AreExpiriesOf, has_come};
 ghost use Rattle.lease_store.specs.KeyOrder.{key_cmp};
 
 use crate::expiries::has_come;
-use crate::walks::copies_of_present;
+use crate::walks::{copies_of, copies_of_present};
 use pat_base::{Shared, Ticks};
 use std::alloc::{AllocError, Global};
 use store_keys::{Key, KeyEntry};
@@ -33,25 +33,23 @@ pub fn told(
     if has_come(expiries, now) {
         return Shared::new(alloc, copies_of_present(alloc, entries, now)?);
     }
-    told_again(alloc, entries, copies, now)
+    told_again(alloc, entries, copies)
 }
 
-/// Copies of all pairs, none of whose keys is absent at this moment.
+/// Copies of all pairs.
 fn told_again(
     alloc: Global,
     entries: &[(Key, Shared<KeyEntry>)],
     copies: &mut Option<Copies>,
-    now: Ticks,
 ) -> Result<Copies, AllocError>
-    requires present { present_pairs now.0 entries.now ≡ entries.now }
     requires copies { AreCopies entries.now copies.old }
-    ensures told { IfOk result (λ told. told.items ≡ present_pairs now.0 entries.now) }
+    ensures told { IfOk result (λ told. told.items ≡ entries.now) }
     ensures kept { AreCopies entries.now copies.new }
 {
     if let Some(told) = copies {
         return told.try_clone();
     }
-    let told = Shared::new(alloc, copies_of_present(alloc, entries, now)?)?;
+    let told = Shared::new(alloc, copies_of(alloc, entries)?)?;
     *copies = Some(told.try_clone()?);
     Ok(told)
 }

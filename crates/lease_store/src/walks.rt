@@ -40,3 +40,17 @@ pub fn copies_of_present(
     }
     Ok(copies)
 }
+
+/// All pairs, with the same entries. It fails only for want of memory.
+pub fn copies_of(
+    alloc: Global,
+    entries: &[(Key, Shared<KeyEntry>)],
+) -> Result<Vec<(Key, Shared<KeyEntry>)>, AllocError>
+    ensures { IfOk result (λ copies. copies.items ≡ entries.now) }
+{
+    let mut copies = Vec::with_capacity(alloc, entries.len())?;
+    for (key, stored) in entries {
+        copies.push((*key, stored.try_clone()?))?;
+    }
+    Ok(copies)
+}
