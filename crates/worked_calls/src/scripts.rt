@@ -1,6 +1,6 @@
 //! Scripts as text. In the text of a row `\n` stands for the end of a line.
 use crate::stop::{Stop, known};
-use crate::words::{first_word, yes_or_no};
+use crate::words::first_word;
 use cluster_script::{ScriptLines, limit_passed, read};
 use generator_model::MOST_GENERATED;
 use script_generator::generate;
@@ -9,15 +9,14 @@ use script_printing::print;
 use std::alloc::{AllocError, Global};
 use worked_cases::bytes_of;
 
-/// What scripts come to. `printed TEXT` is a script that is read and printed, `refused TEXT` its fault, `copied TEXT` its first line once more; `limit TICKS TEXT` and `limit-of-lines TICKS TEXT` tell which limit it passes with so many ticks beside it;
-/// `drawn SEED LINES` prints one that is generated.
+/// What scripts come to. `printed TEXT` is a script that is read and printed, `refused TEXT` its fault; `limit TICKS TEXT` and
+/// `limit-of-lines TICKS TEXT` tell which limit it passes with so many ticks beside it; `drawn SEED LINES` prints one that is generated.
 pub fn told(alloc: Global, asked: &str) -> Result<String, Stop> {
     let (word, rest) = first_word(asked);
     let (number, text) = first_word(rest);
     match word {
         "printed" => printed(alloc, &bytes_of(alloc, rest)?),
         "refused" => refused(alloc, &bytes_of(alloc, rest)?),
-        "copied" => copied(alloc, &bytes_of(alloc, rest)?),
         "limit" => {
             let passed = limit_passed(&bytes_of(alloc, text)?, known(number.parse().ok())?);
             Ok(limit_text(alloc, passed)?)
@@ -39,17 +38,6 @@ pub fn told(alloc: Global, asked: &str) -> Result<String, Stop> {
 fn printed(alloc: Global, bytes: &[u8]) -> Result<String, Stop> {
     match read(alloc, bytes) {
         Ok(script) => Ok(print(alloc, &script)?),
-        Err(_) => Err(Stop::Unknown),
-    }
-}
-
-/// Whether the first line is there, and can be copied.
-fn copied(alloc: Global, bytes: &[u8]) -> Result<String, Stop> {
-    match read(alloc, bytes) {
-        Ok(script) => {
-            let is_copied = script.get(0).is_some_and(|line| line.try_clone().is_ok());
-            Ok(yes_or_no(alloc, is_copied)?)
-        }
         Err(_) => Err(Stop::Unknown),
     }
 }
