@@ -20,6 +20,7 @@ use Rattle.leading_parts.specs.Ticked.{FiresPast}
 use Rattle.leading_runs.proofs.Stages.{Decides, Grants, IsDue, Mail, OlderMail, OnlyMail, Reads, Renews, Seen, Shows, Sleeps, Stage, Stands, Syncs, Turns, mail_rank, next_seen, rank_of}
 use Rattle.leading_runs.proofs.Commands.{run}
 use Rattle.leading_runs.proofs.Walking.{Goes, Within}
+use Rattle.leading_runs.specs.Lasting.{LeadOn, LeadsOnOver}
 use Rattle.leading_runs.specs.Schedule.{KeepSchedule}
 use Rattle.leading_runs.specs.Steady.{IsSteady}
 use Rattle.lease_book.proofs.Machines.{writes-in}
@@ -197,7 +198,7 @@ module _ (head : HeadText) (is : IsHead head) (before later : List Step) (member
         later keep First
         Start bridged (asleep head member Start steady) (record { meets = met-so; alone = alone })
 
-    pub stays-steady : IsSteady member (cluster_over Start Later)
+    stays-steady : IsSteady member (cluster_over Start Later)
     stays-steady =
         let phase = goes.within.1 in
         awake member (cluster_over Start Later) phase.seen phase.stands phase.stage phase.ranked phase.only phase.older
@@ -212,7 +213,7 @@ module _ (head : HeadText) (is : IsHead head) (before later : List Step) (member
         ∙ bridged.matched.machines.writes member.id.number
         ∙ primary-writes (slice_get Start.facts.servers member.id.number) steady.primary
 
-    pub writes-throughout : (front rest : List Event) → front ++ rest ≡ Later
+    writes-throughout : (front rest : List Event) → front ++ rest ≡ Later
         → AcceptsWrites (First ++ front) member.id.number
     writes-throughout front rest whole =
         ap (λ (w : ℕ → Bool). w member.id.number) (over-both (λ n. false) First front)
@@ -220,3 +221,11 @@ module _ (head : HeadText) (is : IsHead head) (before later : List Step) (member
         (all-front (ServesOn member.id.number) front rest
         (subst (AllAre (ServesOn member.id.number)) (sym whole) goes.serves))
         began-writing
+
+    pub leads-on-over : LeadsOnOver head before later member
+    leads-on-over = record { steady = stays-steady; writes = writes-throughout }
+
+-- so it is of a run, wherever that is cut
+pub leads-on : (head : HeadText) → IsHead head → (steps : List Step) → LeadOn head steps
+leads-on head is steps before later rest member cut keep steady alone met =
+    leads-on-over head is before later member keep steady alone met

@@ -1,3 +1,4 @@
 pub mod Joining
 pub mod Schedule
 pub mod Steady
+pub mod Lasting
