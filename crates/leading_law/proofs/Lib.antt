@@ -1,0 +1,5 @@
+pub mod Turns
+pub mod Dropping
+pub mod Sending
+pub mod Outputs
+pub mod Inputs

@@ -1,0 +1,19 @@
+use Rattle.leading_law.proofs.Inputs.{bridged-ask, bridged-failsafe, drops-it, drops-peers, goes-on, leads-on-at, settles-granted, settles-refused, sleeps-on, takes-turn, waits-on}
+use Rattle.leading_law.proofs.laws.a_leaders_inputs_in_the_cluster.Goals as goal
+
+pub returns : goal.returns
+returns c = record {
+  turns = takes-turn;
+  sleeps = sleeps-on;
+  waits = waits-on;
+  renews = goes-on;
+  feeds = leads-on-at;
+  drops = drops-it;
+  peers = drops-peers;
+  syncs = settles-granted;
+  unsynced = settles-refused;
+  answers = λ head book member cluster process o number carried good found stands leads flies to.
+      bridged-ask head book member cluster process o number carried good found stands leads flies to;
+  refuses = λ head book member cluster process o number carried good found stands leads flies to.
+      bridged-failsafe head book member cluster process o number carried good found stands leads flies to;
+}

@@ -1,0 +1,10 @@
+pub mod Frames
+pub mod Others
+pub mod Ticked
+pub mod Entry
+pub mod Askers
+pub mod Arrivals
+pub mod Answering
+pub mod Settings
+pub mod Aside
+pub mod Parts

@@ -1,0 +1,4 @@
+pub mod Joining
+pub mod Schedule
+pub mod Steady
+pub mod Lasting
