@@ -21,6 +21,7 @@ use Rattle.summary_law.proofs.Guarding.{commits-guarded}
 use Rattle.summary_law.proofs.Listing.{named-first}
 use Rattle.summary_law.proofs.Steps.{steps-guarded, steps-told}
 use Rattle.rest_law.proofs.Found.{one-found}
+use Rattle.leading_runs.proofs.Leading.{leads-on}
 use Rattle.lease_runs.proofs.EveryRun.{runs-one}
 use Rattle.lease_runs.proofs.MeasuredRuns.{runs-measured}
 use Rattle.lease_runs.proofs.NamedRuns.{runs-name}
@@ -105,6 +106,7 @@ module _ (played : Played) (is : IsHead played.head) where
   keeps-promises = record {
     one_writer = one-writer;
     one_primary = λ front rest parts met. one-found played.head front (one-writer front rest parts met);
+    leads_on = leads-on played.head is played.steps;
     kept_commits = keeps-commits;
     sync_order = runs-in-order played.head is played.steps;
     own_grants = runs-feed played.head is played.steps;

@@ -6,6 +6,7 @@ use Rattle.summary_model.specs.Claims.{AreCommitsGuarded, IsGuarded, IsSummaryOf
 use Rattle.summary_model.specs.Listed.{AreNamed}
 use Rattle.rest_law.specs.Finding.{FindsOne}
 use Rattle.lease_parts.specs.Kept.{WhereMet}
+use Rattle.leading_runs.specs.Lasting.{LeadOn}
 use Rattle.commit_runs.specs.Runs.{KeepsCommitsIn, KeepsOrderIn, first_logs}
 use Rattle.premise_law.specs.Feeding.{FeedOnTheirGrants}
 use Rattle.premise_law.specs.Passing.{PassOutside}
@@ -20,6 +21,10 @@ pub record KeepsPromises (played : Played) : Type 0 where
   -- At most one member answers 200 on `/`, `/primary` and `/read-write` at each of these moments, whoever
   -- is asked (Patroni, "Health check endpoints"): a load balancer sends nobody's writes to two servers.
   pub one_primary : WhereMet played.head (run_of played) (FindsOne played.head)
+  -- A healthy primary is never demoted for another's fault: wherever the run is cut, who is a steady leader there
+  -- is one over what follows, and its server accepts writes, as long as nothing happens to its own machine and
+  -- to its messages with the key store, no operator asks for a change, and the premises are met.
+  pub leads_on : LeadOn played.head played.steps
   -- With synchronous mode on from the beginning each server that accepts writes has each commit that a
   -- client was told of, at each moment of the run up to which the premises are met and the mode stays on.
   pub kept_commits : KeepsCommitsIn played.head (run_of played)
