@@ -19,7 +19,6 @@ use Rattle.agent_model.specs.declared.heard.Heard.{Heard}
 use Rattle.agent_model.specs.declared.heard.Heard.TheVariants as heards
 use Rattle.agent_model.specs.declared.heard.Heard.TheVariants.{Wake}
 use Rattle.agent_model.specs.declared.knowledge.PendingQuestion.{PendingQuestion}
-use Rattle.agent_model.specs.declared.knowledge.Question.{Question}
 use Rattle.agent_model.specs.declared.knowledge.Settling.{Settling}
 use Rattle.agent_model.specs.declared.knowledge.Question.TheVariants.{Reading, Renewing, Syncing}
 use Rattle.agent_model.specs.declared.output.Output.{Output}

@@ -1,6 +1,6 @@
 -- What an input of a leader leaves in the cluster: its agent, its
 -- question in flight, its watchdog, and all else as it was.
-use Rattle.std.specs.Prelude.{ℕ, ◌≡◌, ◌≢◌, ◌+◌, ◌<◌, true, List, Option, Some, None, length, option_map, slice_get}
+use Rattle.std.specs.Prelude.{ℕ, ◌≡◌, ◌≢◌, ◌+◌, ◌<◌, Option, Some, None, length, option_map, slice_get}
 use Rattle.pat_base.specs.declared.ticks.Ticks.{Ticks}
 use Rattle.store_keys.specs.declared.config.Config.{Config}
 use Rattle.store_keys.specs.declared.txn.Txn.{Txn}
@@ -18,7 +18,7 @@ use Rattle.agent_model.specs.declared.knowledge.PendingQuestion.{PendingQuestion
 use Rattle.agent_model.specs.declared.knowledge.Question.TheVariants.{Syncing}
 use Rattle.agent_model.specs.declared.knowledge.Settling.{Settling}
 use Rattle.agent_model.specs.Acting.{deadline_after, seconds_after}
-use Rattle.agent_model.specs.Agents.{AgentFacts, Outcome}
+use Rattle.agent_model.specs.Agents.{Outcome}
 use Rattle.cluster_model.specs.Inputs.{agent_at, moment_of}
 use Rattle.cluster_model.specs.Limits.{most_in_flight}
 use Rattle.cluster_model.specs.Messages.{agent_message}
