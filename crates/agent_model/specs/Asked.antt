@@ -5,6 +5,7 @@ use Rattle.event_book.specs.declared.message.Body.{Body}
 use Rattle.event_book.specs.declared.message.Body.TheVariants as bodies
 use Rattle.agent_model.specs.declared.output.Output.{Output}
 use Rattle.agent_model.specs.declared.output.Output.TheVariants as outputs
+use Rattle.agent_model.specs.declared.output.Outgoing.TheVariants as outgoing
 
 -- what an agent asks: the key store for leases that it can write, and other members
 abbrev pub IsAsked : Body → Type 0
@@ -16,5 +17,5 @@ IsAsked _ = ⊥
 
 -- so does an output
 abbrev pub AsksShortly : Output → Type 0
-AsksShortly (outputs.Send to sequence body) = IsAsked body
+AsksShortly (outputs.Message (outgoing.Send to sequence body)) = IsAsked body
 AsksShortly _ = Unit {0}

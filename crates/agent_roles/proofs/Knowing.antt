@@ -18,6 +18,7 @@ use Rattle.agent_model.specs.declared.heard.Heard.TheVariants.{Wake, ReadAnswere
 use Rattle.agent_model.specs.declared.knowledge.PendingQuestion.{PendingQuestion}
 use Rattle.agent_model.specs.declared.output.Output.{Output}
 use Rattle.agent_model.specs.declared.output.Output.TheVariants as outputs
+use Rattle.agent_model.specs.declared.output.Noting.TheVariants as notings
 use Rattle.agent_model.specs.declared.why.Why.{Why}
 use Rattle.agent_model.specs.declared.why.Why.TheVariants.{HandOver, Lost}
 use Rattle.agent_model.specs.Acting.{disarming, arming, ending_server, requiring, shutting_down, touching, starting_replica, following_server, is_refusing, waiting_no_more}
@@ -462,7 +463,7 @@ arms-onward : (now ttl : Ticks) (revision : ℕ) (snapshot : SnapshotFacts) (o :
     → Onward (Some snapshot) o (arms now ttl revision (Told snapshot o))
 arms-onward now ttl revision snapshot o =
     let back : Outcome = gives_back revision
-    (record (Told snapshot o) { outputs = with_output (outputs.Note agent_notes.CannotArm) o.outputs }) in
+    (record (Told snapshot o) { outputs = with_output (outputs.Note (notings.Agent agent_notes.CannotArm)) o.outputs }) in
     let arm : Outcome = arming now ttl (Told snapshot o) in
     if-cases (Onward (Some snapshot) o) (is_refusing o.machine.watchdog.mode o.machine.watchdog.works) back
     (begins_or_claims now revision arm)

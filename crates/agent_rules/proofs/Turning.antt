@@ -12,6 +12,7 @@ use Rattle.agent_model.specs.declared.knowledge.Question.{Question}
 use Rattle.agent_model.specs.declared.knowledge.Question.TheVariants.{Reading, ComparingPositions, Creating, Renewing, Claiming, Syncing, FindingCandidate, StayingPrimary}
 use Rattle.agent_model.specs.declared.knowledge.PendingQuestion.{PendingQuestion}
 use Rattle.agent_model.specs.declared.output.Output.TheVariants as outputs
+use Rattle.agent_model.specs.declared.output.Outgoing.TheVariants as outgoing
 use Rattle.agent_model.specs.declared.output.Target.TheVariants as targets
 use Rattle.agent_model.specs.declared.why.Why.{Why}
 use Rattle.agent_model.specs.declared.why.Why.TheVariants.{HandOver, Lost}
@@ -62,7 +63,7 @@ reads-turn now o x t = record {
   waited = _;
   waits = refl;
   asks = refl;
-  sends = Contains-push x.outputs (outputs.Send targets.Store (x.knows.sequence + 1) bodies.Read);
+  sends = Contains-push x.outputs (outputs.Message (outgoing.Send targets.Store (x.knows.sequence + 1) bodies.Read));
   later = later-by-one o.knows.sequence x.knows.sequence t.counted;
   newest = refl;
   sent = refl;

@@ -39,6 +39,7 @@ use Rattle.agent_model.specs.declared.knowledge.PendingQuestion.{PendingQuestion
 use Rattle.agent_model.specs.declared.knowledge.SyncRead.{SyncRead}
 use Rattle.agent_model.specs.declared.output.Output.{Output}
 use Rattle.agent_model.specs.declared.output.Output.TheVariants as outputs
+use Rattle.agent_model.specs.declared.output.Outgoing.TheVariants as outgoing
 use Rattle.agent_model.specs.declared.output.Target.TheVariants as targets
 use Rattle.agent_model.specs.declared.heard.Heard.TheVariants.{Wake}
 use Rattle.agent_model.specs.declared.who.Who.{Who}
@@ -202,17 +203,17 @@ ask-keeps : (who : Who) (sequence : ℕ) (member : Option MemberId) (outs : List
 ask-keeps who sequence None outs output among = among
 ask-keeps who sequence (Some member) outs output among =
     if-cases (λ (l : List Output). Contains l output) (is_other who member)
-    (with_output (outputs.Send (targets.Member member) sequence bodies.Ask) outs) outs
-    (λ _. Contains-append_left outs (outputs.Send (targets.Member member) sequence bodies.Ask ∷ []) output among)
+    (with_output (outputs.Message (outgoing.Send (targets.Member member) sequence bodies.Ask)) outs) outs
+    (λ _. Contains-append_left outs (outputs.Message (outgoing.Send (targets.Member member) sequence bodies.Ask) ∷ []) output among)
     (λ _. among)
 
 ask-sent : (who : Who) (sequence : ℕ) (member : MemberId) (outs : List Output) → is_other who member ≡ true
-    → Contains (asking_one who sequence (Some member) outs) (outputs.Send (targets.Member member) sequence bodies.Ask)
+    → Contains (asking_one who sequence (Some member) outs) (outputs.Message (outgoing.Send (targets.Member member) sequence bodies.Ask))
 ask-sent who sequence member outs other =
-    subst (λ (l : List Output). Contains l (outputs.Send (targets.Member member) sequence bodies.Ask))
+    subst (λ (l : List Output). Contains l (outputs.Message (outgoing.Send (targets.Member member) sequence bodies.Ask)))
     (sym (if-true (is_other who member)
-    (with_output (outputs.Send (targets.Member member) sequence bodies.Ask) outs) outs other))
-    (Contains-push outs (outputs.Send (targets.Member member) sequence bodies.Ask))
+    (with_output (outputs.Message (outgoing.Send (targets.Member member) sequence bodies.Ask)) outs) outs other))
+    (Contains-push outs (outputs.Message (outgoing.Send (targets.Member member) sequence bodies.Ask)))
 
 below-or : (a n : ℕ) → a < suc n → (a < n) ⊎ (a ≡ n)
 below-or a n less = grind (arith, less)
@@ -220,15 +221,15 @@ below-or a n less = grind (arith, less)
 -- each other member is asked
 each-asked : (who : Who) (sequence count : ℕ) (member : MemberId) (outs : List Output)
     → is_other who member ≡ true → member.number < count
-    → Contains (asking_first who sequence count outs) (outputs.Send (targets.Member member) sequence bodies.Ask)
+    → Contains (asking_first who sequence count outs) (outputs.Message (outgoing.Send (targets.Member member) sequence bodies.Ask))
 each-asked who sequence zero member outs other less = absurd (omega (arith, less))
 each-asked who sequence (suc count) member outs other less = elim (below-or member.number count less) [
   | inl before-it ↦ ask-keeps who sequence (member_of count) (asking_first who sequence count outs)
-      (outputs.Send (targets.Member member) sequence bodies.Ask)
+      (outputs.Message (outgoing.Send (targets.Member member) sequence bodies.Ask))
       (each-asked who sequence count member outs other before-it)
   | inr here ↦
       subst (λ (m : Option MemberId). Contains (asking_one who sequence m (asking_first who sequence count outs))
-      (outputs.Send (targets.Member member) sequence bodies.Ask))
+      (outputs.Message (outgoing.Send (targets.Member member) sequence bodies.Ask)))
       (sym (member_of-number member) ∙ ap (λ (n : ℕ). member_of n) here)
       (ask-sent who sequence member (asking_first who sequence count outs) other)
 ]

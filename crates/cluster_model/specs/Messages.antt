@@ -3,6 +3,7 @@ use Rattle.std.specs.Prelude.{ℕ, ◌+◌, nat_le, Bool, true, false, if◌then
 use Rattle.store_keys.specs.declared.action.OperatorAction.{OperatorAction}
 use Rattle.store_keys.specs.declared.txn.Txn.{Txn}
 use Rattle.store_keys.specs.declared.txn.Txn.TheVariants as txns
+use Rattle.store_keys.specs.declared.txn.SyncTxn.TheVariants as sync_txns
 use Rattle.lease_store.specs.Decision.{Decision, Grant, Refusal, decision_on}
 use Rattle.store_keys.specs.TxnKinds.{txn_kind_of}
 use Rattle.pat_base.specs.declared.name.Name.{Name}
@@ -34,6 +35,11 @@ use Rattle.agent_model.specs.declared.heard.Heard.{Heard}
 use Rattle.agent_model.specs.declared.heard.Heard.TheVariants.{Wake, Operated as HearsOperator}
 use Rattle.agent_model.specs.declared.output.Output.{Output}
 use Rattle.agent_model.specs.declared.output.Output.TheVariants as outputs
+use Rattle.agent_model.specs.declared.output.Feeding.TheVariants as feedings
+use Rattle.agent_model.specs.declared.output.Noting.TheVariants as notings
+use Rattle.agent_model.specs.declared.output.Outgoing.TheVariants as outgoing
+use Rattle.agent_model.specs.declared.output.ServerOrder.TheVariants as orders
+use Rattle.agent_model.specs.declared.output.Telling.TheVariants as tellings
 use Rattle.agent_model.specs.declared.output.Repair.{Repair}
 use Rattle.agent_model.specs.declared.output.Target.{Target}
 use Rattle.agent_model.specs.declared.output.Target.TheVariants as targets
@@ -123,40 +129,40 @@ server_order_events cluster member order =
 
 -- what an output of the agent of a member comes to, on the message that it heard
 abbrev pub output_events : Member → HeardMessage → Cluster → Output → List Event
-output_events member heard cluster (outputs.Send to sequence body) = sending_events cluster member
+output_events member heard cluster (outputs.Message (outgoing.Send to sequence body)) = sending_events cluster member
     (slice_get cluster.facts.processes member.id.number) (receiver_of cluster.facts.members to) sequence body
-output_events member heard cluster (outputs.Answer to incarnation sequence answer) = replying_events cluster member
+output_events member heard cluster (outputs.Message (outgoing.Answer to incarnation sequence answer)) = replying_events cluster member
     (receiver_of cluster.facts.members (targets.Member to)) incarnation sequence (bodies.Answer answer)
-output_events member heard cluster (outputs.FailsafeAnswer to incarnation sequence accepted) =
+output_events member heard cluster (outputs.Message (outgoing.FailsafeAnswer to incarnation sequence accepted)) =
     replying_events cluster member (receiver_of cluster.facts.members (targets.Member to)) incarnation sequence
     (bodies.FailsafeAnswer accepted)
-output_events member heard cluster outputs.Begin = begin_events cluster member
-output_events member heard cluster (outputs.StartReplica leader) =
+output_events member heard cluster (outputs.Server orders.Begin) = begin_events cluster member
+output_events member heard cluster (outputs.Server (orders.StartReplica leader)) =
     replica_start_events cluster member (declared_member cluster.facts.members leader)
-output_events member heard cluster (outputs.Stop reason) = stop_events cluster member reason
-output_events member heard cluster outputs.ShutDown = server_order_events cluster member (stop_of member)
-output_events member heard cluster (outputs.Restart as_primary) = server_restart_events cluster member
-output_events member heard cluster outputs.Wipe = server_order_events cluster member (wipe_of member)
-output_events member heard cluster (outputs.Follow leader) =
+output_events member heard cluster (outputs.Server (orders.Stop reason)) = stop_events cluster member reason
+output_events member heard cluster (outputs.Server orders.ShutDown) = server_order_events cluster member (stop_of member)
+output_events member heard cluster (outputs.Server (orders.Restart as_primary)) = server_restart_events cluster member
+output_events member heard cluster (outputs.Server orders.Wipe) = server_order_events cluster member (wipe_of member)
+output_events member heard cluster (outputs.Server (orders.Follow leader)) =
     server_order_events cluster member (upstream_of member (slice_get cluster.facts.members leader.number))
-output_events member heard cluster (outputs.Repair leader repair) =
+output_events member heard cluster (outputs.Server (orders.Repair leader repair)) =
     repair_events cluster member repair (slice_get cluster.facts.members leader.number)
 output_events member heard cluster (outputs.Require required) =
     server_order_events cluster member (require_of cluster.facts.members member required)
-output_events member heard cluster (outputs.Armed until) =
+output_events member heard cluster (outputs.Watchdog (feedings.Armed until)) =
     events_of cluster (feed_kinds member heard.sent (arming member until heard))
-output_events member heard cluster (outputs.Fed until) =
+output_events member heard cluster (outputs.Watchdog (feedings.Fed until)) =
     events_of cluster (feed_kinds member heard.sent (feeding member until heard))
-output_events member heard cluster (outputs.FedByFailsafe until members sequence since) =
+output_events member heard cluster (outputs.Watchdog (feedings.FedByFailsafe until members sequence since)) =
     events_of cluster (feed_kinds member since (failsafe_feeding member until members sequence))
-output_events member heard cluster outputs.StaysByFailsafe = event_of cluster (kinds.Note (StaysByFailsafe member))
-output_events member heard cluster outputs.Disarmed = event_of cluster (kinds.Watchdog (Disarmed member))
-output_events member heard cluster (outputs.Note note) =
+output_events member heard cluster (outputs.Note notings.StaysByFailsafe) = event_of cluster (kinds.Note (StaysByFailsafe member))
+output_events member heard cluster (outputs.Watchdog feedings.Disarmed) = event_of cluster (kinds.Watchdog (Disarmed member))
+output_events member heard cluster (outputs.Note (notings.Agent note)) =
     event_of cluster (agent_noting cluster.facts.members member note)
-output_events member heard cluster outputs.ClaimsOutsideSync = event_of cluster (kinds.Agent (Passed member))
-output_events member heard cluster (outputs.Told request told) =
+output_events member heard cluster (outputs.Tell tellings.ClaimsOutsideSync) = event_of cluster (kinds.Agent (Passed member))
+output_events member heard cluster (outputs.Tell (tellings.Told request told)) =
     events_of cluster (kinds_of (told_kind member (agent_at cluster.agents member.id.number) told))
-output_events member heard cluster (outputs.HoldTaken until from sequence) = events_of cluster
+output_events member heard cluster (outputs.Tell (tellings.HoldTaken until from sequence)) = events_of cluster
     (kinds_of (option_map (hold_taken member until heard.incarnation sequence)
     (slice_get cluster.facts.members from.number)))
 
@@ -240,7 +246,7 @@ visit_events cluster visits.Failure member = event_of cluster (kinds.Note Connec
 
 -- the names of the standbys that a request publishes
 abbrev pub published_names : List Member → Txn → List Name
-published_names members (txns.SetSync revision sync standbys) = names_of standbys members
+published_names members (txns.Sync (sync_txns.SetSync revision sync standbys)) = names_of standbys members
 published_names members _ = []
 
 -- the key store's decision on the request that a message carries, as an event, among these members

@@ -19,6 +19,11 @@ use Rattle.agent_model.specs.declared.operating.Told.{Told}
 use Rattle.agent_model.specs.declared.operating.Told.TheVariants as tolds
 use Rattle.agent_model.specs.declared.output.Output.{Output}
 use Rattle.agent_model.specs.declared.output.Output.TheVariants as outputs
+use Rattle.agent_model.specs.declared.output.Feeding.TheVariants as feedings
+use Rattle.agent_model.specs.declared.output.Noting.TheVariants as notings
+use Rattle.agent_model.specs.declared.output.Outgoing.TheVariants as outgoing
+use Rattle.agent_model.specs.declared.output.ServerOrder.TheVariants as orders
+use Rattle.agent_model.specs.declared.output.Telling.TheVariants as tellings
 use Rattle.agent_model.specs.declared.output.Repair.{Repair}
 use Rattle.agent_model.specs.declared.output.Target.TheVariants as targets
 use Rattle.agent_model.specs.Agents.{AgentFacts}
@@ -194,19 +199,19 @@ module _ (setup : Setup) (member : Member) where
     output-moves : (past : Past) (cluster : Cluster) (output : Output)
         → Fits past cluster.facts (volatile_of cluster) → IsOfTable output → StandsAlone output → AnswersNone output
         → Moves setup past cluster (output_events member message cluster output)
-    output-moves past cluster (outputs.Send targets.Store sequence body) fits table alone answers =
+    output-moves past cluster (outputs.Message (outgoing.Send targets.Store sequence body)) fits table alone answers =
         question-moves setup member past cluster
         (slice_get cluster.facts.processes member.id.number) sequence body fits alone
-    output-moves past cluster (outputs.Send (targets.Member id) sequence body) fits table alone answers =
+    output-moves past cluster (outputs.Message (outgoing.Send (targets.Member id) sequence body)) fits table alone answers =
         member-moves setup member past cluster (slice_get cluster.facts.processes member.id.number)
         (slice_get cluster.facts.members id.number) sequence body fits table
-    output-moves past cluster (outputs.Answer to incarnation sequence answer) fits table alone answers = absurd answers
-    output-moves past cluster outputs.Begin fits table alone answers = absurd alone
-    output-moves past cluster (outputs.StartReplica leader) fits table alone answers =
+    output-moves past cluster (outputs.Message (outgoing.Answer to incarnation sequence answer)) fits table alone answers = absurd answers
+    output-moves past cluster (outputs.Server orders.Begin) fits table alone answers = absurd alone
+    output-moves past cluster (outputs.Server (orders.StartReplica leader)) fits table alone answers =
         starts-moves past cluster (declared_member cluster.facts.members leader) (server_at cluster member) fits
-    output-moves past cluster (outputs.Stop reason) fits table alone answers =
+    output-moves past cluster (outputs.Server (orders.Stop reason)) fits table alone answers =
         stops-moves past cluster reason (server_at cluster member) refl fits
-    output-moves past cluster (outputs.Follow leader) fits table alone answers =
+    output-moves past cluster (outputs.Server (orders.Follow leader)) fits table alone answers =
         let kind : Option EventKind = option_and_then
         (upstream_of member (slice_get cluster.facts.members leader.number)) (server_at cluster member) in
         free-moves past cluster (kinds_of kind) fits
@@ -215,38 +220,38 @@ module _ (setup : Setup) (member : Member) where
         (server_at cluster member)
         (λ s. upstream-free member (slice_get cluster.facts.members leader.number) (is_replica s.state))))
     output-moves past cluster (outputs.Require required) fits table alone answers = absurd alone
-    output-moves past cluster (outputs.Armed until) fits table alone answers =
+    output-moves past cluster (outputs.Watchdog (feedings.Armed until)) fits table alone answers =
         free-moves past cluster (feed_kinds member message.sent (arming member until message)) fits (tt, (tt, tt))
-    output-moves past cluster (outputs.Fed until) fits table alone answers =
+    output-moves past cluster (outputs.Watchdog (feedings.Fed until)) fits table alone answers =
         free-moves past cluster (feed_kinds member message.sent (feeding member until message)) fits (tt, (tt, tt))
-    output-moves past cluster outputs.Disarmed fits table alone answers =
+    output-moves past cluster (outputs.Watchdog feedings.Disarmed) fits table alone answers =
         free-moves past cluster (kinds.Watchdog (watchdogs.Disarmed member) ∷ []) fits (tt, tt)
-    output-moves past cluster (outputs.Note note) fits table alone answers =
+    output-moves past cluster (outputs.Note (notings.Agent note)) fits table alone answers =
         free-moves past cluster (agent_noting cluster.facts.members member note ∷ []) fits (tt, tt)
-    output-moves past cluster outputs.ClaimsOutsideSync fits table alone answers = absurd alone
-    output-moves past cluster outputs.ShutDown fits table alone answers =
+    output-moves past cluster (outputs.Tell tellings.ClaimsOutsideSync) fits table alone answers = absurd alone
+    output-moves past cluster (outputs.Server orders.ShutDown) fits table alone answers =
         shuts-moves past cluster (server_at cluster member) refl fits
-    output-moves past cluster (outputs.Repair leader repair) fits table alone answers =
+    output-moves past cluster (outputs.Server (orders.Repair leader repair)) fits table alone answers =
         repair-moves past cluster repair (slice_get cluster.facts.members leader.number) fits
-    output-moves past cluster (outputs.HoldTaken until from sequence) fits table alone answers =
+    output-moves past cluster (outputs.Tell (tellings.HoldTaken until from sequence)) fits table alone answers =
         let kind : Option EventKind = option_map (hold_taken member until message.incarnation sequence)
         (slice_get cluster.facts.members from.number) in
         free-moves past cluster (kinds_of kind) fits
         (one-kind IsFree kind
         (held-free member until message.incarnation sequence (slice_get cluster.facts.members from.number)))
-    output-moves past cluster (outputs.FailsafeAnswer to incarnation sequence accepted) fits table alone answers =
+    output-moves past cluster (outputs.Message (outgoing.FailsafeAnswer to incarnation sequence accepted)) fits table alone answers =
         failsafe-moves setup member past cluster
         (slice_get cluster.facts.members to.number) incarnation sequence accepted fits
-    output-moves past cluster (outputs.FedByFailsafe until members sequence since) fits table alone answers =
+    output-moves past cluster (outputs.Watchdog (feedings.FedByFailsafe until members sequence since)) fits table alone answers =
         free-moves past cluster
         (feed_kinds member since (failsafe_feeding member until members sequence)) fits (tt, (tt, tt))
-    output-moves past cluster outputs.StaysByFailsafe fits table alone answers =
+    output-moves past cluster (outputs.Note notings.StaysByFailsafe) fits table alone answers =
         free-moves past cluster (kinds.Note (notes.StaysByFailsafe member) ∷ []) fits (tt, tt)
-    output-moves past cluster (outputs.Restart as_primary) fits table alone answers =
+    output-moves past cluster (outputs.Server (orders.Restart as_primary)) fits table alone answers =
         restarts-moves past cluster (server_at cluster member) refl fits
-    output-moves past cluster outputs.Wipe fits table alone answers =
+    output-moves past cluster (outputs.Server orders.Wipe) fits table alone answers =
         wipes-moves past cluster (server_at cluster member) refl fits
-    output-moves past cluster (outputs.Told request told) fits table alone answers =
+    output-moves past cluster (outputs.Tell (tellings.Told request told)) fits table alone answers =
         let kind : Option EventKind = told_kind member (agent_at cluster.agents member.id.number) told in
         free-moves past cluster (kinds_of kind) fits
         (one-kind IsFree kind (told-free member (agent_at cluster.agents member.id.number) told))

@@ -25,6 +25,10 @@ use Rattle.event_book.specs.Members.{server_of}
 use Rattle.agent_model.specs.declared.heard.Heard.TheVariants.{Operated as HearsOperator, Wake}
 use Rattle.agent_model.specs.declared.output.Output.{Output}
 use Rattle.agent_model.specs.declared.output.Output.TheVariants as outputs
+use Rattle.agent_model.specs.declared.output.Feeding.TheVariants as feedings
+use Rattle.agent_model.specs.declared.output.Outgoing.TheVariants as outgoing
+use Rattle.agent_model.specs.declared.output.ServerOrder.TheVariants as orders
+use Rattle.agent_model.specs.declared.output.Telling.TheVariants as tellings
 use Rattle.agent_model.specs.declared.output.Target.TheVariants as targets
 use Rattle.agent_model.specs.Agents.{Outcome}
 use Rattle.cluster_model.specs.declared.beginning.Beginning.{Beginning}
@@ -160,43 +164,43 @@ module _ (head : HeadText) where
   -- an output
   upholds-output : (member : Member) (heard : HeardMessage) (output : Output)
       → UpholdsAlways (losses_told head) (λ cluster. output_events member heard cluster output)
-  upholds-output member heard (outputs.Send to sequence body) book cluster good =
+  upholds-output member heard (outputs.Message (outgoing.Send to sequence body)) book cluster good =
       upheld-loseless head book cluster _ good
       (sending-none cluster member (slice_get cluster.facts.processes member.id.number)
       (receiver_of cluster.facts.members to) sequence body)
-  upholds-output member heard (outputs.Answer to incarnation sequence answer) book cluster good =
+  upholds-output member heard (outputs.Message (outgoing.Answer to incarnation sequence answer)) book cluster good =
       upheld-loseless head book cluster _ good
       (replying-none cluster member
       (receiver_of cluster.facts.members (targets.Member to)) incarnation sequence (bodies.Answer answer))
-  upholds-output member heard (outputs.FailsafeAnswer to incarnation sequence accepted) book cluster good =
+  upholds-output member heard (outputs.Message (outgoing.FailsafeAnswer to incarnation sequence accepted)) book cluster good =
       upheld-loseless head book cluster _ good
       (replying-none cluster member (receiver_of cluster.facts.members (targets.Member to)) incarnation sequence
       (bodies.FailsafeAnswer accepted))
-  upholds-output member heard outputs.Begin book cluster good =
+  upholds-output member heard (outputs.Server orders.Begin) book cluster good =
       upheld-for_some (losses_told head) (composable head) book cluster (server_at cluster member) _ good
       (λ s is. begins-upheld book cluster member s (beginning_of s) good is)
-  upholds-output member heard (outputs.StartReplica leader) book cluster good =
+  upholds-output member heard (outputs.Server (orders.StartReplica leader)) book cluster good =
       upheld-for_some (losses_told head) (composable head) book cluster (server_at cluster member)
       (λ s. events_of cluster (replica_start_kinds member (declared_member cluster.facts.members leader) s)) good
       (λ s is. upheld-loseless head book cluster _ good
       (started-none cluster member (declared_member cluster.facts.members leader) (is_down s.state)))
-  upholds-output member heard (outputs.Stop reason) book cluster good =
+  upholds-output member heard (outputs.Server (orders.Stop reason)) book cluster good =
       upheld-for_some (losses_told head) (composable head) book cluster (server_at cluster member)
       (λ s. events_of cluster (stop_kinds member reason s)) good
       (λ s is. upheld-loseless head book cluster _ good (tt, none-if _ (stop_of member s) (stop-none member s)))
-  upholds-output member heard outputs.ShutDown book cluster good =
+  upholds-output member heard (outputs.Server orders.ShutDown) book cluster good =
       upheld-loseless head book cluster _ good (order-none cluster member (stop_of member) (stop-none member))
-  upholds-output member heard (outputs.Restart as_primary) book cluster good =
+  upholds-output member heard (outputs.Server (orders.Restart as_primary)) book cluster good =
       upheld-for_some (losses_told head) (composable head) book cluster (server_at cluster member) _ good
       (λ s is. again-upheld book cluster member s s.state good is)
-  upholds-output member heard outputs.Wipe book cluster good =
+  upholds-output member heard (outputs.Server orders.Wipe) book cluster good =
       wiped-upheld book cluster member (server_at cluster member) good refl
-  upholds-output member heard (outputs.Follow leader) book cluster good =
+  upholds-output member heard (outputs.Server (orders.Follow leader)) book cluster good =
       let found = slice_get cluster.facts.members leader.number in
       upheld-loseless head book cluster _ good
       (order-none cluster member (upstream_of member found)
       (λ s. holds-cond (is_replica s.state) (following_of member found) None (follow-none member found) tt))
-  upholds-output member heard (outputs.Repair leader repair) book cluster good =
+  upholds-output member heard (outputs.Server (orders.Repair leader repair)) book cluster good =
       let found = slice_get cluster.facts.members leader.number in
       repaired-upheld book cluster
       (option_and_then (repair_over cluster.facts.cuts cluster.facts.servers member repair) found) good
@@ -207,17 +211,17 @@ module _ (head : HeadText) where
       upheld-loseless head book cluster _ good
       (order-none cluster member (require_of cluster.facts.members member required)
       (λ s. holds-cond (is_same_required s.required required) None _ tt tt))
-  upholds-output member heard (outputs.Armed until) book cluster good =
+  upholds-output member heard (outputs.Watchdog (feedings.Armed until)) book cluster good =
       upheld-loseless head book cluster _ good (tt, (tt, tt))
-  upholds-output member heard (outputs.Fed until) book cluster good =
+  upholds-output member heard (outputs.Watchdog (feedings.Fed until)) book cluster good =
       upheld-loseless head book cluster _ good (tt, (tt, tt))
-  upholds-output member heard (outputs.FedByFailsafe until members sequence since) book cluster good =
+  upholds-output member heard (outputs.Watchdog (feedings.FedByFailsafe until members sequence since)) book cluster good =
       upheld-loseless head book cluster _ good (tt, (tt, tt))
-  upholds-output member heard (outputs.Told request told) book cluster good =
+  upholds-output member heard (outputs.Tell (tellings.Told request told)) book cluster good =
       let agent = agent_at cluster.agents member.id.number in
       upheld-loseless head book cluster _ good
       (none-if cluster (told_kind member agent told) (told-holds LosesNone member agent told (λ reply. tt)))
-  upholds-output member heard (outputs.HoldTaken until from sequence) book cluster good =
+  upholds-output member heard (outputs.Tell (tellings.HoldTaken until from sequence)) book cluster good =
       let found = slice_get cluster.facts.members from.number in
       let hold = hold_taken member until heard.incarnation sequence in
       upheld-loseless head book cluster _ good

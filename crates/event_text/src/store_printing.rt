@@ -9,7 +9,7 @@ use crate::named_line::write_named_line;
 use event_book::{Member, Names, StoreEvent};
 use pat_base::{Name, Ticks};
 use std::alloc::AllocError;
-use store_keys::Txn;
+use store_keys::{LeaseTxn, OperatorTxn, SyncTxn, Txn};
 
 /// Appends the line of what happens at the key store, if it has one. It fails only for want of memory.
 pub fn write_store_line(
@@ -58,14 +58,14 @@ fn write_granted_line(
 {
     let name = by.name;
     match txn {
-        Txn::Create { .. } => write_named_line(line, tick, name, " takes the leader key\n"),
-        Txn::Release { .. } => write_named_line(line, tick, name, " releases the leader key\n"),
-        Txn::Claim { .. } => write_named_line(line, tick, name, " claims the sync key\n"),
-        Txn::SetSync { .. } => {
+        Txn::Lease(LeaseTxn::Create { .. }) => write_named_line(line, tick, name, " takes the leader key\n"),
+        Txn::Lease(LeaseTxn::Release { .. }) => write_named_line(line, tick, name, " releases the leader key\n"),
+        Txn::Sync(SyncTxn::Claim { .. }) => write_named_line(line, tick, name, " claims the sync key\n"),
+        Txn::Sync(SyncTxn::SetSync { .. }) => {
             write!(line, "{tick} {name} publishes sync standbys ")?;
             end_by_list(line, "none", standbys.as_slice())
         }
-        Txn::DropSync { .. } => write_named_line(line, tick, name, " removes the sync key\n"),
+        Txn::Sync(SyncTxn::DropSync { .. }) => write_named_line(line, tick, name, " removes the sync key\n"),
         other => write_request_line(line, tick, name, other),
     }
 }
@@ -80,14 +80,14 @@ fn write_request_line(
     ensures { OnOk result (string_bytes line.new ≡ string_bytes line.old ++ bytes_or_none (request_line tick.0 (name_bytes name) txn.now)) }
 {
     match txn {
-        Txn::SetFailover { .. } => write_named_line(line, tick, name, " writes the failover key\n"),
-        Txn::DropFailover { .. } => write_named_line(
+        Txn::Operators(OperatorTxn::SetFailover { .. }) => write_named_line(line, tick, name, " writes the failover key\n"),
+        Txn::Operators(OperatorTxn::DropFailover { .. }) => write_named_line(
             line,
             tick,
             name,
             " clears the failover key\n",
         ),
-        Txn::SetConfig { .. } => write_named_line(line, tick, name, " changes the configuration\n"),
+        Txn::Operators(OperatorTxn::SetConfig { .. }) => write_named_line(line, tick, name, " changes the configuration\n"),
         _ => Ok(()),
     }
 }

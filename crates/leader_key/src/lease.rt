@@ -10,7 +10,7 @@ ghost use Rattle.pat_base.specs.Moments.{latest};
 use crate::Watchdog;
 use lease_store::Granted;
 use pat_base::{State, Ticks};
-use store_keys::Txn;
+use store_keys::{LeaseTxn, Txn};
 
 /// The leader key was granted to this member. It must be spent.
 pub struct Lease {
@@ -74,7 +74,7 @@ impl Lease {
         ensures { result ≡ Txn.Release (lease_revision self) }
     {
         let Lease { revision } = self;
-        Txn::Release { revision }
+        Txn::Lease(LeaseTxn::Release { revision })
     }
 
     /// The key was lost: the lease is spent, and nothing is asked.

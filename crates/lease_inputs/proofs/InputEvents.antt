@@ -24,6 +24,11 @@ use Rattle.event_book.specs.declared.reason.Reason.{Reason}
 use Rattle.event_book.specs.Members.{server_of}
 use Rattle.agent_model.specs.declared.output.Output.{Output}
 use Rattle.agent_model.specs.declared.output.Output.TheVariants as outputs
+use Rattle.agent_model.specs.declared.output.Feeding.TheVariants as feedings
+use Rattle.agent_model.specs.declared.output.Noting.TheVariants as notings
+use Rattle.agent_model.specs.declared.output.Outgoing.TheVariants as outgoing
+use Rattle.agent_model.specs.declared.output.ServerOrder.TheVariants as orders
+use Rattle.agent_model.specs.declared.output.Telling.TheVariants as tellings
 use Rattle.agent_model.specs.declared.output.Target.TheVariants as targets
 use Rattle.agent_outputs.specs.Orders.{IsOfTable}
 use Rattle.agent_roles.specs.Asks.{IsAsk}
@@ -132,7 +137,7 @@ module _ (member : Member) (incarnation heard : ℕ) (Q : Output → Type 0) whe
 
   sends-mine : (cluster : Cluster) (sequence : ℕ) (body : Body) (found : Option AgentProcess)
       → ((process : AgentProcess) → found ≡ Some process → process.incarnation ≡ incarnation)
-      → Q (outputs.Send targets.Store sequence body)
+      → Q (outputs.Message (outgoing.Send targets.Store sequence body))
       → AllAre Mine (sending_events cluster member found (Some ends.Store) sequence body)
   sends-mine cluster sequence body None runs is = tt
   sends-mine cluster sequence body (Some process) runs is =
@@ -151,7 +156,7 @@ module _ (member : Member) (incarnation heard : ℕ) (Q : Output → Type 0) whe
   asks-mine : (cluster : Cluster) (id : MemberId) (sequence : ℕ) (body : Body) (found : Option AgentProcess)
       (peer : Option Member) → IsAsk body
       → ((process : AgentProcess) → found ≡ Some process → process.incarnation ≡ incarnation)
-      → Q (outputs.Send (targets.Member id) sequence body)
+      → Q (outputs.Message (outgoing.Send (targets.Member id) sequence body))
       → AllAre Mine
       (sending_events cluster member found (option_map (λ (m : Member). ends.Member m) peer) sequence body)
   asks-mine cluster id sequence body None peer ask runs is = tt
@@ -167,7 +172,7 @@ module _ (member : Member) (incarnation heard : ℕ) (Q : Output → Type 0) whe
       )
 
   replies-mine : (cluster : Cluster) (id : MemberId) (asked sequence : ℕ) (answer : PeerAnswer) (peer : Option Member)
-      → Q (outputs.Answer id asked sequence answer)
+      → Q (outputs.Message (outgoing.Answer id asked sequence answer))
       → AllAre Mine
       (replying_events cluster member (option_map (λ (m : Member). ends.Member m) peer) asked sequence
       (bodies.Answer answer))
@@ -183,7 +188,7 @@ module _ (member : Member) (incarnation heard : ℕ) (Q : Output → Type 0) whe
 
   says-mine : (cluster : Cluster) (id : MemberId) (asked sequence : ℕ) (accepted : Bool) (peer : Option Member)
       → ((found : Member) → peer ≡ Some found → found.id.number ≡ id.number)
-      → Q (outputs.FailsafeAnswer id asked sequence accepted)
+      → Q (outputs.Message (outgoing.FailsafeAnswer id asked sequence accepted))
       → AllAre Mine
       (replying_events cluster member (option_map (λ (m : Member). ends.Member m) peer) asked sequence
       (bodies.FailsafeAnswer accepted))
@@ -198,7 +203,7 @@ module _ (member : Member) (incarnation heard : ℕ) (Q : Output → Type 0) whe
       )
 
   holds-mine : (until : Ticks) (run sequence : ℕ) (id : MemberId) (peer : Option Member)
-      → ((found : Member) → peer ≡ Some found → found.id.number ≡ id.number) → Q (outputs.HoldTaken until id sequence)
+      → ((found : Member) → peer ≡ Some found → found.id.number ≡ id.number) → Q (outputs.Tell (tellings.HoldTaken until id sequence))
       → HoldsIf Mine (option_map (hold_taken member until run sequence) peer)
   holds-mine until run sequence id None at is = tt
   holds-mine until run sequence id (Some peer) at is = (refl, record { id = id; at = at peer refl; by = is })
@@ -215,31 +220,31 @@ module _ (member : Member) (incarnation heard : ℕ) (Q : Output → Type 0) whe
   pub output-mine : (cluster : Cluster) (message : HeardMessage) → message.number ≡ heard
       → RunsAmong member incarnation cluster.facts
       → (output : Output) → IsOfTable output → Q output → AllAre Mine (output_events member message cluster output)
-  output-mine cluster message at runs (outputs.Send targets.Store sequence body) table is =
+  output-mine cluster message at runs (outputs.Message (outgoing.Send targets.Store sequence body)) table is =
       sends-mine cluster sequence body (slice_get cluster.facts.processes member.id.number) runs.process is
-  output-mine cluster message at runs (outputs.Send (targets.Member id) sequence body) table is =
+  output-mine cluster message at runs (outputs.Message (outgoing.Send (targets.Member id) sequence body)) table is =
       asks-mine cluster id sequence body (slice_get cluster.facts.processes member.id.number)
       (slice_get cluster.facts.members id.number) table runs.process is
-  output-mine cluster message at runs (outputs.Answer to asked sequence answer) table is =
+  output-mine cluster message at runs (outputs.Message (outgoing.Answer to asked sequence answer)) table is =
       replies-mine cluster to asked sequence answer (slice_get cluster.facts.members to.number) is
-  output-mine cluster message at runs outputs.Begin table is = begins-mine cluster (server_at cluster member) (inl is)
-  output-mine cluster message at runs (outputs.StartReplica leader) table is =
+  output-mine cluster message at runs (outputs.Server orders.Begin) table is = begins-mine cluster (server_at cluster member) (inl is)
+  output-mine cluster message at runs (outputs.Server (orders.StartReplica leader)) table is =
       starts-mine cluster (declared_member cluster.facts.members leader) (server_at cluster member)
-  output-mine cluster message at runs (outputs.Stop reason) table is =
+  output-mine cluster message at runs (outputs.Server (orders.Stop reason)) table is =
       stops-mine cluster reason (server_at cluster member)
-  output-mine cluster message at runs outputs.ShutDown table is =
+  output-mine cluster message at runs (outputs.Server orders.ShutDown) table is =
       server-order-mine cluster (stop_of member)
       (λ s. holds-if Mine (is_up s.state) (stop_kind member s.state s.stop_delay)
       (stop-mine (is_primary s.state && s.stop_delay.0 == 0)))
-  output-mine cluster message at runs (outputs.Restart as_primary) table is =
+  output-mine cluster message at runs (outputs.Server (orders.Restart as_primary)) table is =
       restarts-mine cluster (server_at cluster member) (inr (as_primary, is))
-  output-mine cluster message at runs outputs.Wipe table is =
+  output-mine cluster message at runs (outputs.Server orders.Wipe) table is =
       server-order-mine cluster (wipe_of member)
       (λ s. unless-mine (kinds.Log (logs.Wiped (server_of member))) (is_creating s.state || live s.state) refl)
-  output-mine cluster message at runs (outputs.Follow leader) table is =
+  output-mine cluster message at runs (outputs.Server (orders.Follow leader)) table is =
       let found = slice_get cluster.facts.members leader.number in
       server-order-mine cluster (upstream_of member found) (λ s. upstream-mine found (is_replica s.state))
-  output-mine cluster message at runs (outputs.Repair leader repair) table is =
+  output-mine cluster message at runs (outputs.Server (orders.Repair leader repair)) table is =
       let found = slice_get cluster.facts.members leader.number in
       kinds-mine cluster (option_and_then (repair_over cluster.facts.cuts cluster.facts.servers member repair) found)
       (repaired-holds Mine cluster.facts.cuts cluster.facts.servers member repair found (λ other r. refl)
@@ -250,24 +255,24 @@ module _ (member : Member) (incarnation heard : ℕ) (Q : Output → Type 0) whe
       unless-mine (kinds.Replication (replications.RequiredSet (server_of member) required
       (required_names cluster.facts.members required)))
       (is_same_required s.required required) refl)
-  output-mine cluster message at runs (outputs.Armed until) table is =
+  output-mine cluster message at runs (outputs.Watchdog (feedings.Armed until)) table is =
       all-kinds Mine cluster (feed_kinds member message.sent (arming member until message)) (refl, ((refl, at, is), tt))
-  output-mine cluster message at runs (outputs.Fed until) table is =
+  output-mine cluster message at runs (outputs.Watchdog (feedings.Fed until)) table is =
       all-kinds Mine cluster (feed_kinds member message.sent (feeding member until message))
       (refl, ((refl, ByGrant (ap (λ (n : ℕ). bases.Grant n) at) is), tt))
-  output-mine cluster message at runs (outputs.FedByFailsafe until members sequence since) table is =
+  output-mine cluster message at runs (outputs.Watchdog (feedings.FedByFailsafe until members sequence since)) table is =
       all-kinds Mine cluster (feed_kinds member since (failsafe_feeding member until members sequence))
       (refl, ((refl, ByFailsafe members sequence since refl is), tt))
-  output-mine cluster message at runs outputs.StaysByFailsafe table is = (tt, tt)
-  output-mine cluster message at runs outputs.Disarmed table is = (refl, tt)
-  output-mine cluster message at runs (outputs.Note note) table is = (tt, tt)
-  output-mine cluster message at runs outputs.ClaimsOutsideSync table is = ((refl, is), tt)
-  output-mine cluster message at runs (outputs.Told request told) table is =
+  output-mine cluster message at runs (outputs.Note notings.StaysByFailsafe) table is = (tt, tt)
+  output-mine cluster message at runs (outputs.Watchdog feedings.Disarmed) table is = (refl, tt)
+  output-mine cluster message at runs (outputs.Note (notings.Agent note)) table is = (tt, tt)
+  output-mine cluster message at runs (outputs.Tell tellings.ClaimsOutsideSync) table is = ((refl, is), tt)
+  output-mine cluster message at runs (outputs.Tell (tellings.Told request told)) table is =
       let agent = agent_at cluster.agents member.id.number in
       kinds-mine cluster (told_kind member agent told) (told-holds Mine member agent told (λ reply. tt))
-  output-mine cluster message at runs (outputs.FailsafeAnswer to asked sequence accepted) table is = says-mine cluster
+  output-mine cluster message at runs (outputs.Message (outgoing.FailsafeAnswer to asked sequence accepted)) table is = says-mine cluster
       to asked sequence accepted (slice_get cluster.facts.members to.number) (runs.numbered to.number) is
-  output-mine cluster message at runs (outputs.HoldTaken until from sequence) table is =
+  output-mine cluster message at runs (outputs.Tell (tellings.HoldTaken until from sequence)) table is =
       kinds-mine cluster
       (option_map (hold_taken member until message.incarnation sequence) (slice_get cluster.facts.members from.number))
       (holds-mine until message.incarnation sequence from (slice_get cluster.facts.members from.number)

@@ -31,6 +31,9 @@ use Rattle.event_book.specs.Writers.{BeginsKind}
 use Rattle.agent_model.specs.declared.machine.Machine.{Machine}
 use Rattle.agent_model.specs.declared.output.Output.{Output}
 use Rattle.agent_model.specs.declared.output.Output.TheVariants as outputs
+use Rattle.agent_model.specs.declared.output.Feeding.TheVariants as feedings
+use Rattle.agent_model.specs.declared.output.Outgoing.TheVariants as outgoing
+use Rattle.agent_model.specs.declared.output.ServerOrder.TheVariants as orders
 use Rattle.agent_model.specs.declared.output.Repair.{Repair}
 use Rattle.agent_model.specs.declared.output.Target.TheVariants as targets
 use Rattle.agent_model.specs.Acting.{upstream_of}
@@ -64,8 +67,8 @@ use Rattle.lease_inputs.proofs.InputNumbers.{no-sent, no_message, numbered-both,
 
 -- an output with which a server may come to accept writes has this
 abbrev MayBegin : Type 0 → Output → Type 0
-MayBegin X outputs.Begin = X
-MayBegin X (outputs.Restart as_primary) = X
+MayBegin X (outputs.Server orders.Begin) = X
+MayBegin X (outputs.Server (orders.Restart as_primary)) = X
 MayBegin X _ = Unit {0}
 
 -- a message that is sent goes between these members and the key store
@@ -76,7 +79,7 @@ GoesBetween members _ = Unit {0}
 
 -- no server starts again by this output
 abbrev RestartsNone : Output → Type 0
-RestartsNone (outputs.Restart as_primary) = ⊥
+RestartsNone (outputs.Server (orders.Restart as_primary)) = ⊥
 RestartsNone _ = Unit {0}
 
 -- ---- the outputs
@@ -143,11 +146,11 @@ module _ (member : Member) (incarnation : ℕ) (message : HeardMessage) where
 
   pub output-numbered : (cluster : Cluster) (output : Output) → Runs cluster.facts → IsOfTable output
       → AreNumberedAbove cluster.facts.sent (Brings cluster output)
-  output-numbered cluster (outputs.Send to sequence body) runs table = send-numbered cluster
+  output-numbered cluster (outputs.Message (outgoing.Send to sequence body)) runs table = send-numbered cluster
       (receiver_of cluster.facts.members to) sequence body (slice_get cluster.facts.processes member.id.number)
-  output-numbered cluster (outputs.Answer to asked sequence answer) runs table = reply-numbered cluster
+  output-numbered cluster (outputs.Message (outgoing.Answer to asked sequence answer)) runs table = reply-numbered cluster
       (receiver_of cluster.facts.members (targets.Member to)) asked sequence (bodies.Answer answer)
-  output-numbered cluster (outputs.FailsafeAnswer to asked sequence accepted) runs table = reply-numbered cluster
+  output-numbered cluster (outputs.Message (outgoing.FailsafeAnswer to asked sequence accepted)) runs table = reply-numbered cluster
       (receiver_of cluster.facts.members (targets.Member to)) asked sequence (bodies.FailsafeAnswer accepted)
   output-numbered cluster output runs table = other-numbered cluster output runs table tt
 
@@ -232,18 +235,18 @@ module _ (member : Member) (incarnation : ℕ) (message : HeardMessage) where
   output-between : (cluster : Cluster) (output : Output)
       → slice_get cluster.facts.members member.id.number ≡ Some member → Runs cluster.facts → IsOfTable output
       → AllAre (GoesBetween cluster.facts.members) (Brings cluster output)
-  output-between cluster (outputs.Send targets.Store sequence body) mine runs table =
+  output-between cluster (outputs.Message (outgoing.Send targets.Store sequence body)) mine runs table =
       send-between cluster mine (Some ends.Store) (known-store cluster.facts.members) sequence body
       (slice_get cluster.facts.processes member.id.number)
-  output-between cluster (outputs.Send (targets.Member to) sequence body) mine runs table =
+  output-between cluster (outputs.Message (outgoing.Send (targets.Member to) sequence body)) mine runs table =
       send-between cluster mine (receiver_of cluster.facts.members (targets.Member to))
       (known-peer cluster.facts.members runs.numbered to.number (slice_get cluster.facts.members to.number) refl)
       sequence body (slice_get cluster.facts.processes member.id.number)
-  output-between cluster (outputs.Answer to asked sequence answer) mine runs table =
+  output-between cluster (outputs.Message (outgoing.Answer to asked sequence answer)) mine runs table =
       reply-between cluster mine (receiver_of cluster.facts.members (targets.Member to))
       (known-peer cluster.facts.members runs.numbered to.number (slice_get cluster.facts.members to.number) refl)
       asked sequence (bodies.Answer answer)
-  output-between cluster (outputs.FailsafeAnswer to asked sequence accepted) mine runs table =
+  output-between cluster (outputs.Message (outgoing.FailsafeAnswer to asked sequence accepted)) mine runs table =
       reply-between cluster mine (receiver_of cluster.facts.members (targets.Member to))
       (known-peer cluster.facts.members runs.numbered to.number (slice_get cluster.facts.members to.number) refl)
       asked sequence (bodies.FailsafeAnswer accepted)
@@ -268,15 +271,15 @@ module _ (member : Member) (incarnation : ℕ) (message : HeardMessage) where
   last-resembles : (cluster : Cluster) (machine : Machine) (leader : MemberId) (repair : Repair) (more : List Output)
       → more ≡ [] → Mirrors cluster member.id.number machine
       → Resembles (cluster_over cluster
-      (each (output_events member message) cluster (outputs.Repair leader repair ∷ more)))
+      (each (output_events member message) cluster (outputs.Server (orders.Repair leader repair) ∷ more)))
       member.id.number machine
   last-resembles cluster machine leader repair more none old =
       subst (λ (l : List Output).
-      Resembles (cluster_over cluster (each (output_events member message) cluster (outputs.Repair leader repair ∷ l)))
+      Resembles (cluster_over cluster (each (output_events member message) cluster (outputs.Server (orders.Repair leader repair) ∷ l)))
       member.id.number machine)
       (sym none)
       (subst (λ (c : Cluster). Resembles c member.id.number machine)
-      (sym (over-append cluster (Brings cluster (outputs.Repair leader repair)) []))
+      (sym (over-append cluster (Brings cluster (outputs.Server (orders.Repair leader repair))) []))
       (repair-resembles cluster member message machine leader repair (mirrored cluster member.id.number machine old)))
 
   -- one output is carried out, and then the others
@@ -306,8 +309,8 @@ module _ (member : Member) (incarnation : ℕ) (message : HeardMessage) where
 
   repairs-none : (output : Output) (later : List Output) → EndsRepairing output later
       → RepairsNone output
-      ⊎ ((leader : MemberId) × ((repair : Repair) × ((output ≡ outputs.Repair leader repair) × (later ≡ []))))
-  repairs-none (outputs.Repair leader repair) later ends = inr (leader, (repair, (refl, ends)))
+      ⊎ ((leader : MemberId) × ((repair : Repair) × ((output ≡ outputs.Server (orders.Repair leader repair)) × (later ≡ []))))
+  repairs-none (outputs.Server (orders.Repair leader repair)) later ends = inr (leader, (repair, (refl, ends)))
   repairs-none _ later ends = inl tt
 
   pub each-resembles : (now : Ticks) (cluster : Cluster) (machine : Machine) (outs : List Output)
@@ -330,7 +333,7 @@ module _ (member : Member) (incarnation : ℕ) (message : HeardMessage) where
             member.id.number (machine_after_outputs now (machine_after_output now machine x) more))
             (sym ends.1.1.0)
             (subst (λ (l : List Output). Resembles
-            (cluster_over cluster (each (output_events member message) cluster (outputs.Repair ends.0 ends.1.0 ∷ more)))
+            (cluster_over cluster (each (output_events member message) cluster (outputs.Server (orders.Repair ends.0 ends.1.0) ∷ more)))
             member.id.number (machine_after_outputs now machine l))
             (sym ends.1.1.1)
             (last-resembles cluster machine ends.0 ends.1.0 more ends.1.1.1 old))
@@ -425,7 +428,7 @@ module _ (member : Member) (incarnation : ℕ) (message : HeardMessage) where
   -- an arming is told
   arming-told : (cluster : Cluster) (output : Output) (before : List Event) → Keeps before
       → is_arming output ≡ true → ArmedIn (before ++ Brings cluster output)
-  arming-told cluster (outputs.Armed until) before kept e = record {
+  arming-told cluster (outputs.Watchdog (feedings.Armed until)) before kept e = record {
     front = before ++ measured cluster ∷ [];
     event = record {
       tick = record { 0 = cluster.facts.clock };
@@ -436,15 +439,15 @@ module _ (member : Member) (incarnation : ℕ) (message : HeardMessage) where
     aside = all-both (KeepsMomentOf message.number) before (measured cluster ∷ []) kept (tt, tt);
     fed = (refl, refl);
   }
-  arming-told cluster outputs.Begin before kept e = absurd (no-way e)
+  arming-told cluster (outputs.Server orders.Begin) before kept e = absurd (no-way e)
     where
       no-way : false ≡ true → ⊥
       no-way e = cc
-  arming-told cluster (outputs.Send to sequence body) before kept e = absurd (no-way e)
+  arming-told cluster (outputs.Message (outgoing.Send to sequence body)) before kept e = absurd (no-way e)
     where
       no-way : false ≡ true → ⊥
       no-way e = cc
-  arming-told cluster (outputs.StartReplica leader) before kept e = absurd (no-way e)
+  arming-told cluster (outputs.Server (orders.StartReplica leader)) before kept e = absurd (no-way e)
     where
       no-way : false ≡ true → ⊥
       no-way e = cc
@@ -479,13 +482,13 @@ module _ (member : Member) (incarnation : ℕ) (message : HeardMessage) where
 
   -- in those of any output: it begins by the order to, or was live before
   may-begin : (X : Type 0) (output : Output) → RestartsNone output → BeginsOnly X output → MayBegin X output
-  may-begin X outputs.Begin none is = is
-  may-begin X (outputs.Restart as_primary) none is = absurd none
+  may-begin X (outputs.Server orders.Begin) none is = is
+  may-begin X (outputs.Server (orders.Restart as_primary)) none is = absurd none
   may-begin X _ none is = tt
 
   restarts-none : (output : Output)
-      → RestartsNone output ⊎ ((as_primary : Bool) × (output ≡ outputs.Restart as_primary))
-  restarts-none (outputs.Restart as_primary) = inr (as_primary, refl)
+      → RestartsNone output ⊎ ((as_primary : Bool) × (output ≡ outputs.Server (orders.Restart as_primary)))
+  restarts-none (outputs.Server (orders.Restart as_primary)) = inr (as_primary, refl)
   restarts-none _ = inl tt
 
   brings-begin : (P : List Output → Type 0) (R : List Event → ℕ → Type 0)
@@ -506,14 +509,14 @@ module _ (member : Member) (incarnation : ℕ) (message : HeardMessage) where
   lives-on : {Y : Type 0} (now : Ticks) (machine : Machine) (X : Type 0) (output : Output)
       → BeginsOnly X output → (X → Y) → (live machine.server.state ≡ true → Y)
       → live (machine_after_output now machine output).server.state ≡ true → Y
-  lives-on now machine X outputs.Begin begin may lives e = may begin
-  lives-on now machine X (outputs.StartReplica leader) begin may lives e =
+  lives-on now machine X (outputs.Server orders.Begin) begin may lives e = may begin
+  lives-on now machine X (outputs.Server (orders.StartReplica leader)) begin may lives e =
       lives (start-live now (upstream_of leader) machine.server e)
-  lives-on now machine X (outputs.Stop reason) begin may lives e = lives (stop-live now machine.server e)
-  lives-on now machine X outputs.ShutDown begin may lives e = lives (stop-live now machine.server e)
-  lives-on now machine X (outputs.Restart as_primary) begin may lives e = lives (restart-live now machine.server e)
-  lives-on now machine X outputs.Wipe begin may lives e = lives (wipe-live machine.server e)
-  lives-on now machine X (outputs.Follow leader) begin may lives e =
+  lives-on now machine X (outputs.Server (orders.Stop reason)) begin may lives e = lives (stop-live now machine.server e)
+  lives-on now machine X (outputs.Server orders.ShutDown) begin may lives e = lives (stop-live now machine.server e)
+  lives-on now machine X (outputs.Server (orders.Restart as_primary)) begin may lives e = lives (restart-live now machine.server e)
+  lives-on now machine X (outputs.Server orders.Wipe) begin may lives e = lives (wipe-live machine.server e)
+  lives-on now machine X (outputs.Server (orders.Follow leader)) begin may lives e =
       lives (follow-live (server_id_of leader) machine.server e)
   lives-on now machine X _ begin may lives e = lives e
 
@@ -570,7 +573,7 @@ module _ (member : Member) (incarnation : ℕ) (message : HeardMessage) where
     pub sequence : ℕ
     pub since : Ticks
     pub is : kind ≡ kinds.Watchdog (watchdogs.Fed member until (bases.Acknowledgements acknowledging sequence))
-    pub from : Q (outputs.FedByFailsafe until acknowledging sequence since)
+    pub from : Q (outputs.Watchdog (feedings.FedByFailsafe until acknowledging sequence since))
 
   abbrev pub IsFedAs : (Output → Type 0) → Bool → EventKind → Type 0
   IsFedAs Q false kind = IsFedBy member.id.number message.number kind
@@ -598,7 +601,7 @@ module _ (member : Member) (incarnation : ℕ) (message : HeardMessage) where
   fed-now : (Q : Output → Type 0) (now : Ticks) (cluster : Cluster) (machine : Machine) (output : Output)
       (rest : List Event) → Q output → is_feeding output ≡ true
       → FedIn Q (machine_after_output now machine output).by_failsafe (Brings cluster output ++ rest)
-  fed-now Q now cluster machine (outputs.Armed until) rest may e = record {
+  fed-now Q now cluster machine (outputs.Watchdog (feedings.Armed until)) rest may e = record {
     front = measured cluster ∷ [];
     event = record {
       tick = record { 0 = cluster.facts.clock };
@@ -608,7 +611,7 @@ module _ (member : Member) (incarnation : ℕ) (message : HeardMessage) where
     is = refl;
     fed = (refl, refl);
   }
-  fed-now Q now cluster machine (outputs.Fed until) rest may e = record {
+  fed-now Q now cluster machine (outputs.Watchdog (feedings.Fed until)) rest may e = record {
     front = measured cluster ∷ [];
     event = record {
       tick = record { 0 = cluster.facts.clock };
@@ -618,7 +621,7 @@ module _ (member : Member) (incarnation : ℕ) (message : HeardMessage) where
     is = refl;
     fed = (refl, refl);
   }
-  fed-now Q now cluster machine (outputs.FedByFailsafe until acknowledging sequence since) rest may e = record {
+  fed-now Q now cluster machine (outputs.Watchdog (feedings.FedByFailsafe until acknowledging sequence since)) rest may e = record {
     front =
         record { tick = record { 0 = cluster.facts.clock }; kind = kinds.Watchdog (watchdogs.Measured member since) }
         ∷ [];
@@ -642,9 +645,9 @@ module _ (member : Member) (incarnation : ℕ) (message : HeardMessage) where
   -- who isn't fed has its deadline from where it had it
   unfed-one : (now : Ticks) (machine : Machine) (output : Output) → is_feeding output ≡ false
       → (machine_after_output now machine output).by_failsafe ≡ machine.by_failsafe
-  unfed-one now machine (outputs.Armed until) e = absurd (not-so (sym e))
-  unfed-one now machine (outputs.Fed until) e = absurd (not-so (sym e))
-  unfed-one now machine (outputs.FedByFailsafe until acknowledging sequence since) e = absurd (not-so (sym e))
+  unfed-one now machine (outputs.Watchdog (feedings.Armed until)) e = absurd (not-so (sym e))
+  unfed-one now machine (outputs.Watchdog (feedings.Fed until)) e = absurd (not-so (sym e))
+  unfed-one now machine (outputs.Watchdog (feedings.FedByFailsafe until acknowledging sequence since)) e = absurd (not-so (sym e))
   unfed-one now machine _ e = refl
 
   neither : (b c : Bool) → (b || c) ≡ false → (b ≡ false) × (c ≡ false)
@@ -694,9 +697,9 @@ module _ (member : Member) (incarnation : ℕ) (message : HeardMessage) where
 
   -- ---- whose deadlines acknowledgements set last
   abbrev NoFeed : Output → Type 0
-  NoFeed (outputs.Armed until) = ⊥
-  NoFeed (outputs.Fed until) = ⊥
-  NoFeed (outputs.FedByFailsafe until acknowledging sequence since) = ⊥
+  NoFeed (outputs.Watchdog (feedings.Armed until)) = ⊥
+  NoFeed (outputs.Watchdog (feedings.Fed until)) = ⊥
+  NoFeed (outputs.Watchdog (feedings.FedByFailsafe until acknowledging sequence since)) = ⊥
   NoFeed _ = Unit {0}
 
   unset-one : (before : List Bool) (kind : EventKind) → IsOfInput member incarnation message.number NoFeed kind
@@ -732,11 +735,11 @@ module _ (member : Member) (incarnation : ℕ) (message : HeardMessage) where
   output-basis : (now : Ticks) (cluster : Cluster) (machine : Machine) (output : Output) → Runs cluster.facts
       → IsOfTable output → IsBasis cluster machine
       → IsBasis (Later cluster output) (machine_after_output now machine output)
-  output-basis now cluster machine (outputs.Armed until) runs table old =
+  output-basis now cluster machine (outputs.Watchdog (feedings.Armed until)) runs table old =
       item-here cluster.failsafe_deadlines member.id.number (λ was. false) machine.by_failsafe old
-  output-basis now cluster machine (outputs.Fed until) runs table old =
+  output-basis now cluster machine (outputs.Watchdog (feedings.Fed until)) runs table old =
       item-here cluster.failsafe_deadlines member.id.number (λ was. false) machine.by_failsafe old
-  output-basis now cluster machine (outputs.FedByFailsafe until acknowledging sequence since) runs table old =
+  output-basis now cluster machine (outputs.Watchdog (feedings.FedByFailsafe until acknowledging sequence since)) runs table old =
       item-here cluster.failsafe_deadlines member.id.number (λ was. true) machine.by_failsafe old
   output-basis now cluster machine output runs table old =
       unset-output now cluster machine output runs table tt refl old

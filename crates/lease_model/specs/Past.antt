@@ -3,6 +3,7 @@ use Rattle.std.specs.Prelude.{ℕ, ◌+◌, max, Bool, true, false, List, [], �
 use Rattle.pat_base.specs.declared.member_set.MemberSet.{MemberSet}
 use Rattle.store_keys.specs.declared.txn.Txn.{Txn}
 use Rattle.store_keys.specs.declared.txn.Txn.TheVariants as txns
+use Rattle.store_keys.specs.declared.txn.LeaseTxn.TheVariants as lease_txns
 use Rattle.event_book.specs.declared.event.Event.{Event}
 use Rattle.event_book.specs.declared.event.EventKind.{EventKind}
 use Rattle.event_book.specs.declared.event.EventKind.TheVariants as kinds
@@ -31,9 +32,9 @@ members_if (Some set) = Some (set_members set)
 
 -- what the lease reads of a transaction
 abbrev pub query_of : Txn → Query
-query_of (txns.Create info ttl failsafe sync) = Create ttl.0 failsafe
-query_of (txns.Renew revision info ttl status row failsafe) = Renew revision ttl.0 (members_if failsafe)
-query_of (txns.Release revision) = Release revision
+query_of (txns.Lease (lease_txns.Create info ttl failsafe sync)) = Create ttl.0 failsafe
+query_of (txns.Lease (lease_txns.Renew revision info ttl status row failsafe)) = Renew revision ttl.0 (members_if failsafe)
+query_of (txns.Lease (lease_txns.Release revision)) = Release revision
 query_of _ = Write
 
 -- the ttl that a create or a renewal asks for, in ticks; 0 for other questions

@@ -21,6 +21,8 @@ use Rattle.event_book.specs.Kinds.{AllAre}
 use Rattle.agent_model.specs.declared.heard.Heard.TheVariants.{Operated as HearsOperator, Wake}
 use Rattle.agent_model.specs.declared.output.Output.{Output}
 use Rattle.agent_model.specs.declared.output.Output.TheVariants as outputs
+use Rattle.agent_model.specs.declared.output.Outgoing.TheVariants as outgoing
+use Rattle.agent_model.specs.declared.output.Telling.TheVariants as tellings
 use Rattle.agent_model.specs.declared.output.Target.{Target}
 use Rattle.agent_model.specs.declared.output.Target.TheVariants as targets
 use Rattle.agent_model.specs.Agents.{Outcome}
@@ -103,19 +105,19 @@ module _ (head : HeadText) (few : length (names_of head) ≤ MOST_MEMBERS) where
     output-own : (heard : HeardMessage) (output : Output) (cluster : Cluster)
         → cluster.facts.members ≡ declared_members head
         → AllAre Own (output_events member heard cluster output)
-    output-own heard (outputs.Send to sequence body) cluster members =
+    output-own heard (outputs.Message (outgoing.Send to sequence body)) cluster members =
         sending-own cluster (slice_get cluster.facts.processes member.id.number)
         (receiver_of cluster.facts.members to) sequence body
         (receiver-declared cluster.facts.members members to)
-    output-own heard (outputs.Answer to incarnation sequence answer) cluster members =
+    output-own heard (outputs.Message (outgoing.Answer to incarnation sequence answer)) cluster members =
         replying-own cluster (receiver_of cluster.facts.members (targets.Member to)) incarnation sequence
         (bodies.Answer answer)
         (receiver-declared cluster.facts.members members (targets.Member to))
-    output-own heard (outputs.FailsafeAnswer to incarnation sequence accepted) cluster members =
+    output-own heard (outputs.Message (outgoing.FailsafeAnswer to incarnation sequence accepted)) cluster members =
         replying-own cluster (receiver_of cluster.facts.members (targets.Member to)) incarnation sequence
         (bodies.FailsafeAnswer accepted)
         (receiver-declared cluster.facts.members members (targets.Member to))
-    output-own heard (outputs.HoldTaken until from sequence) cluster members =
+    output-own heard (outputs.Tell (tellings.HoldTaken until from sequence)) cluster members =
         let found = slice_get cluster.facts.members from.number in
         let hold = hold_taken member until heard.incarnation sequence in
         found-own head few cluster (option_map hold found) (holds-mapped Own hold found (λ m. tt))

@@ -7,6 +7,9 @@ use Rattle.store_keys.specs.declared.txn.Expected.{Expected}
 use Rattle.store_keys.specs.declared.txn.Expected.TheVariants.{Absent, Revision}
 use Rattle.store_keys.specs.declared.txn.Txn.{Txn}
 use Rattle.store_keys.specs.declared.txn.Txn.TheVariants as txns
+use Rattle.store_keys.specs.declared.txn.LeaseTxn.TheVariants as lease_txns
+use Rattle.store_keys.specs.declared.txn.OperatorTxn.TheVariants as operator_txns
+use Rattle.store_keys.specs.declared.txn.SyncTxn.TheVariants as sync_txns
 use Rattle.lease_store.specs.Keys.{Keys, key_in}
 
 -- what is compared of a key, if something is expected of it
@@ -17,16 +20,16 @@ compare_if key (Some expected) = (key, expected) ∷ []
 -- what a transaction compares, in this order
 abbrev pub compares_of : Txn → List (Key × Expected)
 compares_of (txns.Touch info ttl) = []
-compares_of (txns.Create info ttl failsafe sync) =
+compares_of (txns.Lease (lease_txns.Create info ttl failsafe sync)) =
     (keys.Leader, Absent) ∷ (compare_if keys.Failsafe failsafe ++ compare_if keys.Sync sync)
-compares_of (txns.Renew revision info ttl status row failsafe) = (keys.Leader, Revision revision) ∷ []
-compares_of (txns.Release revision) = (keys.Leader, Revision revision) ∷ []
-compares_of (txns.Claim revision sync) = (keys.Leader, Revision revision) ∷ (keys.Sync, sync) ∷ []
-compares_of (txns.SetSync revision sync standbys) = (keys.Leader, Revision revision) ∷ (keys.Sync, sync) ∷ []
-compares_of (txns.DropSync revision sync) = (keys.Leader, Revision revision) ∷ (keys.Sync, Revision sync) ∷ []
-compares_of (txns.SetFailover failover ttl) = (keys.Failover, Absent) ∷ []
-compares_of (txns.DropFailover revision) = (keys.Leader, Revision revision) ∷ []
-compares_of (txns.SetConfig revision config) = (keys.Config, Revision revision) ∷ []
+compares_of (txns.Lease (lease_txns.Renew revision info ttl status row failsafe)) = (keys.Leader, Revision revision) ∷ []
+compares_of (txns.Lease (lease_txns.Release revision)) = (keys.Leader, Revision revision) ∷ []
+compares_of (txns.Sync (sync_txns.Claim revision sync)) = (keys.Leader, Revision revision) ∷ (keys.Sync, sync) ∷ []
+compares_of (txns.Sync (sync_txns.SetSync revision sync standbys)) = (keys.Leader, Revision revision) ∷ (keys.Sync, sync) ∷ []
+compares_of (txns.Sync (sync_txns.DropSync revision sync)) = (keys.Leader, Revision revision) ∷ (keys.Sync, Revision sync) ∷ []
+compares_of (txns.Operators (operator_txns.SetFailover failover ttl)) = (keys.Failover, Absent) ∷ []
+compares_of (txns.Operators (operator_txns.DropFailover revision)) = (keys.Leader, Revision revision) ∷ []
+compares_of (txns.Operators (operator_txns.SetConfig revision config)) = (keys.Config, Revision revision) ∷ []
 
 -- what a compare finds
 abbrev pub found_in : Option KeyEntry → Expected

@@ -14,6 +14,9 @@ use Rattle.store_keys.specs.declared.value.Value.{Value}
 use Rattle.store_keys.specs.declared.value.Value.TheVariants as values
 use Rattle.store_keys.specs.declared.txn.Txn.{Txn}
 use Rattle.store_keys.specs.declared.txn.Txn.TheVariants as txns
+use Rattle.store_keys.specs.declared.txn.LeaseTxn.TheVariants as lease_txns
+use Rattle.store_keys.specs.declared.txn.OperatorTxn.TheVariants as operator_txns
+use Rattle.store_keys.specs.declared.txn.SyncTxn.TheVariants as sync_txns
 use Rattle.lease_store.specs.Keys.{Keys}
 use Rattle.lease_store.specs.KeyOrder.{key_cmp}
 
@@ -50,31 +53,31 @@ nobody = record { bits = 0 }
 -- what a transaction of a member writes
 abbrev pub writes_of : MemberId → Txn → List Write
 writes_of by (txns.Touch info ttl) = Leases (keys.Member by) (values.Member info) ttl ∷ []
-writes_of by (txns.Create info ttl failsafe sync) =
+writes_of by (txns.Lease (lease_txns.Create info ttl failsafe sync)) =
     Leases keys.Leader (values.Leader by) ttl ∷ Leases (keys.Member by) (values.Member info) ttl ∷ []
-writes_of by (txns.Renew revision info ttl status row failsafe) =
+writes_of by (txns.Lease (lease_txns.Renew revision info ttl status row failsafe)) =
     Extends keys.Leader ttl ∷ Leases (keys.Member by) (values.Member info) ttl
     ∷ (status_writes status ++ (row_writes row ++ failsafe_writes failsafe))
-writes_of by (txns.Release revision) = Deletes keys.Leader ∷ []
-writes_of by (txns.Claim revision sync) = Sets keys.Sync (sync_value by nobody) ∷ []
-writes_of by (txns.SetSync revision sync standbys) = Sets keys.Sync (sync_value by standbys) ∷ []
-writes_of by (txns.DropSync revision sync) = Deletes keys.Sync ∷ []
-writes_of by (txns.SetFailover failover ttl) = Leases keys.Failover (values.Failover failover) ttl ∷ []
-writes_of by (txns.DropFailover revision) = Deletes keys.Failover ∷ []
-writes_of by (txns.SetConfig revision config) = Sets keys.Config (values.Config config) ∷ []
+writes_of by (txns.Lease (lease_txns.Release revision)) = Deletes keys.Leader ∷ []
+writes_of by (txns.Sync (sync_txns.Claim revision sync)) = Sets keys.Sync (sync_value by nobody) ∷ []
+writes_of by (txns.Sync (sync_txns.SetSync revision sync standbys)) = Sets keys.Sync (sync_value by standbys) ∷ []
+writes_of by (txns.Sync (sync_txns.DropSync revision sync)) = Deletes keys.Sync ∷ []
+writes_of by (txns.Operators (operator_txns.SetFailover failover ttl)) = Leases keys.Failover (values.Failover failover) ttl ∷ []
+writes_of by (txns.Operators (operator_txns.DropFailover revision)) = Deletes keys.Failover ∷ []
+writes_of by (txns.Operators (operator_txns.SetConfig revision config)) = Sets keys.Config (values.Config config) ∷ []
 
 -- whether a transaction gives its sender the lease of the leader key
 abbrev pub is_lease : Txn → Bool
-is_lease (txns.Create info ttl failsafe sync) = true
-is_lease (txns.Renew revision info ttl status row failsafe) = true
+is_lease (txns.Lease (lease_txns.Create info ttl failsafe sync)) = true
+is_lease (txns.Lease (lease_txns.Renew revision info ttl status row failsafe)) = true
 is_lease _ = false
 
 -- the span of its leases, if it writes any
 abbrev pub ttl_of : Txn → ℕ
 ttl_of (txns.Touch info ttl) = ttl.0
-ttl_of (txns.Create info ttl failsafe sync) = ttl.0
-ttl_of (txns.Renew revision info ttl status row failsafe) = ttl.0
-ttl_of (txns.SetFailover failover ttl) = ttl.0
+ttl_of (txns.Lease (lease_txns.Create info ttl failsafe sync)) = ttl.0
+ttl_of (txns.Lease (lease_txns.Renew revision info ttl status row failsafe)) = ttl.0
+ttl_of (txns.Operators (operator_txns.SetFailover failover ttl)) = ttl.0
 ttl_of _ = 0
 
 -- the expiry of a lease that is extended until a moment, which is never earlier than it was
@@ -116,9 +119,9 @@ keys_after_grant store now by txn = record {
 
 -- the key that a transaction takes out, if it takes one out
 abbrev pub deleted_key : Txn → Option Key
-deleted_key (txns.Release revision) = Some keys.Leader
-deleted_key (txns.DropSync revision sync) = Some keys.Sync
-deleted_key (txns.DropFailover revision) = Some keys.Failover
+deleted_key (txns.Lease (lease_txns.Release revision)) = Some keys.Leader
+deleted_key (txns.Sync (sync_txns.DropSync revision sync)) = Some keys.Sync
+deleted_key (txns.Operators (operator_txns.DropFailover revision)) = Some keys.Failover
 deleted_key _ = None
 
 -- an entry whose lease is extended until a moment, where there is one

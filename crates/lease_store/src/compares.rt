@@ -10,7 +10,7 @@ use crate::StoreRefusal;
 use crate::order::compare;
 use pat_base::{Shared, Ticks};
 use std::cmp::Ordering;
-use store_keys::{Expected, Key, KeyEntry, Txn};
+use store_keys::{Expected, Key, KeyEntry, LeaseTxn, OperatorTxn, SyncTxn, Txn};
 
 /// Whether a key of this expiry is present.
 pub fn is_present(now: Ticks, expiry: Option<Ticks>) -> bool
@@ -122,17 +122,17 @@ pub fn check(entries: &[(Key, Shared<KeyEntry>)], now: Ticks, txn: &Txn) -> Resu
 {
     match txn {
         Txn::Touch { .. } => Ok(()),
-        Txn::Create { failsafe, sync, .. } => compare_absent(entries, now, *failsafe, *sync),
-        Txn::Renew { revision, .. } | Txn::Release { revision } | Txn::DropFailover { revision } =>
+        Txn::Lease(LeaseTxn::Create { failsafe, sync, .. }) => compare_absent(entries, now, *failsafe, *sync),
+        Txn::Lease(LeaseTxn::Renew { revision, .. }) | Txn::Lease(LeaseTxn::Release { revision }) | Txn::Operators(OperatorTxn::DropFailover { revision }) =>
             { compare_key(entries, now, Key::Leader, Expected::Revision(*revision)) }
-        Txn::Claim { revision, sync } | Txn::SetSync { revision, sync, .. } => {
+        Txn::Sync(SyncTxn::Claim { revision, sync }) | Txn::Sync(SyncTxn::SetSync { revision, sync, .. }) => {
             compare_sync(entries, now, *revision, *sync)
         }
-        Txn::DropSync { revision, sync } => {
+        Txn::Sync(SyncTxn::DropSync { revision, sync }) => {
             compare_sync(entries, now, *revision, Expected::Revision(*sync))
         }
-        Txn::SetFailover { .. } => compare_key(entries, now, Key::Failover, Expected::Absent),
-        Txn::SetConfig { revision, .. } => {
+        Txn::Operators(OperatorTxn::SetFailover { .. }) => compare_key(entries, now, Key::Failover, Expected::Absent),
+        Txn::Operators(OperatorTxn::SetConfig { revision, .. }) => {
             compare_key(entries, now, Key::Config, Expected::Revision(*revision))
         }
     }

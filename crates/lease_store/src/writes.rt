@@ -12,7 +12,7 @@ use crate::entries::{Entries, delete, put_all};
 use crate::expiries::Expiries;
 use pat_base::{Lsn, MemberId, MemberSet, Shared, Ticks};
 use std::alloc::AllocError;
-use store_keys::{ConfigValue, HistoryRow, Key, KeyEntry, MemberInfo, SyncKey, Txn, Value};
+use store_keys::{ConfigValue, HistoryRow, Key, KeyEntry, LeaseTxn, MemberInfo, OperatorTxn, SyncKey, SyncTxn, Txn, Value};
 
 /// The most keys that one transaction writes.
 const MOST: usize = 5;
@@ -28,7 +28,7 @@ pub struct Stamp {
 pub fn is_lease(txn: &Txn) -> bool
     ensures { result ≡ is_lease txn.now }
 {
-    matches!(txn, Txn::Create { .. } | Txn::Renew { .. })
+    matches!(txn, Txn::Lease(LeaseTxn::Create { .. }) | Txn::Lease(LeaseTxn::Renew { .. }))
 }
 
 /// The key that a transaction takes out, if it takes one out.
@@ -36,16 +36,16 @@ fn deleted_key(txn: &Txn) -> Option<Key>
     ensures { result ≡ deleted_key txn.now }
 {
     match txn {
-        Txn::Release { .. } => Some(Key::Leader),
-        Txn::DropSync { .. } => Some(Key::Sync),
-        Txn::DropFailover { .. } => Some(Key::Failover),
+        Txn::Lease(LeaseTxn::Release { .. }) => Some(Key::Leader),
+        Txn::Sync(SyncTxn::DropSync { .. }) => Some(Key::Sync),
+        Txn::Operators(OperatorTxn::DropFailover { .. }) => Some(Key::Failover),
         Txn::Touch { .. }
-        | Txn::Create { .. }
-        | Txn::Renew { .. }
-        | Txn::Claim { .. }
-        | Txn::SetSync { .. }
-        | Txn::SetFailover { .. }
-        | Txn::SetConfig { .. } => None,
+        | Txn::Lease(LeaseTxn::Create { .. })
+        | Txn::Lease(LeaseTxn::Renew { .. })
+        | Txn::Sync(SyncTxn::Claim { .. })
+        | Txn::Sync(SyncTxn::SetSync { .. })
+        | Txn::Operators(OperatorTxn::SetFailover { .. })
+        | Txn::Operators(OperatorTxn::SetConfig { .. }) => None,
     }
 }
 
@@ -111,31 +111,31 @@ fn add_puts(
 {
     match txn {
         Txn::Touch { info, ttl } => tell(puts, stamp, by, *info, *ttl),
-        Txn::Create { info, ttl, .. } => {
+        Txn::Lease(LeaseTxn::Create { info, ttl, .. }) => {
             lease(puts, stamp, Key::Leader, Value::Leader(by), *ttl)?;
             tell(puts, stamp, by, *info, *ttl)
         }
-        Txn::Renew {
+        Txn::Lease(LeaseTxn::Renew {
             info,
             ttl,
             status,
             row,
             failsafe,
             ..
-        } => {
+        }) => {
             renew(puts, entries, stamp, *ttl)?;
             tell(puts, stamp, by, *info, *ttl)?;
             set_status(puts, stamp, *status)?;
             set_row(puts, stamp, *row)?;
             set_failsafe(puts, stamp, *failsafe)
         }
-        Txn::Claim { .. } => set_sync(puts, stamp, by, MemberSet::empty()),
-        Txn::SetSync { standbys, .. } => set_sync(puts, stamp, by, *standbys),
-        Txn::SetFailover { failover, ttl } => {
+        Txn::Sync(SyncTxn::Claim { .. }) => set_sync(puts, stamp, by, MemberSet::empty()),
+        Txn::Sync(SyncTxn::SetSync { standbys, .. }) => set_sync(puts, stamp, by, *standbys),
+        Txn::Operators(OperatorTxn::SetFailover { failover, ttl }) => {
             lease(puts, stamp, Key::Failover, Value::Failover(*failover), *ttl)
         }
-        Txn::SetConfig { config, .. } => set_config(puts, stamp, config),
-        Txn::Release { .. } | Txn::DropSync { .. } | Txn::DropFailover { .. } => Ok(()),
+        Txn::Operators(OperatorTxn::SetConfig { config, .. }) => set_config(puts, stamp, config),
+        Txn::Lease(LeaseTxn::Release { .. }) | Txn::Sync(SyncTxn::DropSync { .. }) | Txn::Operators(OperatorTxn::DropFailover { .. }) => Ok(()),
     }
 }
 

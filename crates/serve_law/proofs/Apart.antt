@@ -41,6 +41,10 @@ use Rattle.event_book.specs.Members.{server_of}
 use Rattle.rest_message.specs.Replies.{ReplyText}
 use Rattle.agent_model.specs.declared.output.Output.{Output}
 use Rattle.agent_model.specs.declared.output.Output.TheVariants as outputs
+use Rattle.agent_model.specs.declared.output.Feeding.TheVariants as feedings
+use Rattle.agent_model.specs.declared.output.Outgoing.TheVariants as outgoing
+use Rattle.agent_model.specs.declared.output.ServerOrder.TheVariants as orders
+use Rattle.agent_model.specs.declared.output.Telling.TheVariants as tellings
 use Rattle.agent_model.specs.declared.output.Target.TheVariants as targets
 use Rattle.cluster_model.specs.declared.beginning.Beginning.{Beginning}
 use Rattle.cluster_model.specs.declared.beginning.Beginning.TheVariants as beginnings
@@ -230,33 +234,33 @@ order-apart cluster member order all = apart-if cluster (option_and_then order (
 
 -- ---- what an output of an agent comes to that tells no operator anything
 abbrev pub IsSilent : Output → Type 0
-IsSilent (outputs.Told request told) = ⊥
+IsSilent (outputs.Tell (tellings.Told request told)) = ⊥
 IsSilent _ = Unit {0}
 
 pub output-apart : (member : Member) (heard : HeardMessage) (cluster : Cluster) (output : Output)
     → IsSilent output → AllAre IsApart (output_events member heard cluster output)
-output-apart member heard cluster (outputs.Send to sequence body) is = sending-apart cluster member
+output-apart member heard cluster (outputs.Message (outgoing.Send to sequence body)) is = sending-apart cluster member
     (slice_get cluster.facts.processes member.id.number) (receiver_of cluster.facts.members to) sequence body
-output-apart member heard cluster (outputs.Answer to incarnation sequence answer) is = replying-apart cluster member
+output-apart member heard cluster (outputs.Message (outgoing.Answer to incarnation sequence answer)) is = replying-apart cluster member
     (receiver_of cluster.facts.members (targets.Member to)) incarnation sequence (bodies.Answer answer)
-output-apart member heard cluster (outputs.FailsafeAnswer to incarnation sequence accepted) is =
+output-apart member heard cluster (outputs.Message (outgoing.FailsafeAnswer to incarnation sequence accepted)) is =
     replying-apart cluster member (receiver_of cluster.facts.members (targets.Member to)) incarnation sequence
     (bodies.FailsafeAnswer accepted)
-output-apart member heard cluster outputs.Begin is = begins-apart cluster member (server_at cluster member)
-output-apart member heard cluster (outputs.StartReplica leader) is =
+output-apart member heard cluster (outputs.Server orders.Begin) is = begins-apart cluster member (server_at cluster member)
+output-apart member heard cluster (outputs.Server (orders.StartReplica leader)) is =
     starts-apart cluster member (declared_member cluster.facts.members leader) (server_at cluster member)
-output-apart member heard cluster (outputs.Stop reason) is =
+output-apart member heard cluster (outputs.Server (orders.Stop reason)) is =
     stops-apart cluster member reason (server_at cluster member)
-output-apart member heard cluster outputs.ShutDown is =
+output-apart member heard cluster (outputs.Server orders.ShutDown) is =
     order-apart cluster member (stop_of member) (stopped-apart member)
-output-apart member heard cluster (outputs.Restart as_primary) is =
+output-apart member heard cluster (outputs.Server (orders.Restart as_primary)) is =
     restarts-apart cluster member (server_at cluster member)
-output-apart member heard cluster outputs.Wipe is = order-apart cluster member (wipe_of member)
+output-apart member heard cluster (outputs.Server orders.Wipe) is = order-apart cluster member (wipe_of member)
     (λ s. unless-apart (kinds.Log (logs.Wiped (server_of member))) (is_creating s.state || live s.state) tt)
-output-apart member heard cluster (outputs.Follow leader) is =
+output-apart member heard cluster (outputs.Server (orders.Follow leader)) is =
     let found = slice_get cluster.facts.members leader.number in
     order-apart cluster member (upstream_of member found) (λ s. upstream-apart member found (is_replica s.state))
-output-apart member heard cluster (outputs.Repair leader repair) is =
+output-apart member heard cluster (outputs.Server (orders.Repair leader repair)) is =
     let found = slice_get cluster.facts.members leader.number in
     apart-if cluster (option_and_then (repair_over cluster.facts.cuts cluster.facts.servers member repair) found)
     (repaired-holds IsApart cluster.facts.cuts cluster.facts.servers member repair found (λ other r. tt) (λ other. tt))
@@ -266,17 +270,17 @@ output-apart member heard cluster (outputs.Require required) is =
     unless-apart (kinds.Replication (replications.RequiredSet (server_of member) required
     (required_names cluster.facts.members required)))
     (is_same_required s.required required) tt)
-output-apart member heard cluster (outputs.Armed until) is =
+output-apart member heard cluster (outputs.Watchdog (feedings.Armed until)) is =
     all-kinds IsApart cluster (feed_kinds member heard.sent (arming member until heard)) (tt, (tt, tt))
-output-apart member heard cluster (outputs.Fed until) is =
+output-apart member heard cluster (outputs.Watchdog (feedings.Fed until)) is =
     all-kinds IsApart cluster (feed_kinds member heard.sent (feeding member until heard)) (tt, (tt, tt))
-output-apart member heard cluster (outputs.FedByFailsafe until members sequence since) is =
+output-apart member heard cluster (outputs.Watchdog (feedings.FedByFailsafe until members sequence since)) is =
     all-kinds IsApart cluster (feed_kinds member since (failsafe_feeding member until members sequence)) (tt, (tt, tt))
-output-apart member heard cluster (outputs.HoldTaken until from sequence) is =
+output-apart member heard cluster (outputs.Tell (tellings.HoldTaken until from sequence)) is =
     let found = slice_get cluster.facts.members from.number in
     let hold = hold_taken member until heard.incarnation sequence in
     apart-if cluster (option_map hold found) (holds-mapped IsApart hold found (λ m. tt))
-output-apart member heard cluster (outputs.Told request told) is = absurd is
+output-apart member heard cluster (outputs.Tell (tellings.Told request told)) is = absurd is
 output-apart member heard cluster _ is = (tt, tt)
 
 -- ---- a tick

@@ -65,14 +65,14 @@ impl Txn {
     {
         match self {
             Txn::Touch { .. } => TxnKind::Touch,
-            Txn::Create { .. } => TxnKind::Create,
-            Txn::Renew { .. } => TxnKind::Renewal,
-            Txn::Release { .. } => TxnKind::Release,
-            Txn::Claim { .. } => TxnKind::Claim,
-            Txn::SetSync { .. } | Txn::DropSync { .. } => TxnKind::SyncWrite,
-            Txn::SetFailover { .. } => TxnKind::FailoverWrite,
-            Txn::DropFailover { .. } => TxnKind::FailoverRemoval,
-            Txn::SetConfig { .. } => TxnKind::ConfigurationWrite,
+            Txn::Lease(LeaseTxn::Create { .. }) => TxnKind::Create,
+            Txn::Lease(LeaseTxn::Renew { .. }) => TxnKind::Renewal,
+            Txn::Lease(LeaseTxn::Release { .. }) => TxnKind::Release,
+            Txn::Sync(SyncTxn::Claim { .. }) => TxnKind::Claim,
+            Txn::Sync(SyncTxn::SetSync { .. }) | Txn::Sync(SyncTxn::DropSync { .. }) => TxnKind::SyncWrite,
+            Txn::Operators(OperatorTxn::SetFailover { .. }) => TxnKind::FailoverWrite,
+            Txn::Operators(OperatorTxn::DropFailover { .. }) => TxnKind::FailoverRemoval,
+            Txn::Operators(OperatorTxn::SetConfig { .. }) => TxnKind::ConfigurationWrite,
         }
     }
 }

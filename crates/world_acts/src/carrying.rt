@@ -19,7 +19,7 @@ use crate::telling::{
     tell_answer, tell_arming, tell_disarming, tell_failsafe_feeding, tell_feeding, tell_hold,
     tell_note, tell_passing, tell_staying,
 };
-use agent_model::{Inquiry, Output, Target};
+use agent_model::{Feeding, Inquiry, Noting, Outgoing, Output, ServerOrder, Target, Telling};
 use cluster_model::HeardMessage;
 use event_book::{Body, LinkEnd, Member, Message};
 use event_list::EventList;
@@ -62,13 +62,13 @@ fn carry(
     ensures { OnOk result (Emits stage.old stage.new events.old events.new (output_events member heard stage.old output) output_cost) }
 {
     match output {
-        Output::Send { to, sequence, body } => write(stage, member, to, sequence, body, events),
-        Output::Answer {
+        Output::Message(Outgoing::Send { to, sequence, body }) => write(stage, member, to, sequence, body, events),
+        Output::Message(Outgoing::Answer {
             to,
             incarnation,
             sequence,
             answer,
-        } => reply(
+        }) => reply(
             stage,
             member,
             to,
@@ -77,12 +77,12 @@ fn carry(
             Body::Answer(answer),
             events,
         ),
-        Output::FailsafeAnswer {
+        Output::Message(Outgoing::FailsafeAnswer {
             to,
             incarnation,
             sequence,
             accepted,
-        } => reply(
+        }) => reply(
             stage,
             member,
             to,
@@ -91,33 +91,33 @@ fn carry(
             Body::FailsafeAnswer { accepted },
             events,
         ),
-        Output::Begin => begin(stage, member, events),
-        Output::StartReplica { leader } => start_replica(stage, member, leader, events),
-        Output::Stop { reason } => stop(stage, member, reason, events),
-        Output::ShutDown => shut_down(stage, member, events),
-        Output::Restart { .. } => restart_server(stage, member, events),
-        Output::Wipe => wipe(stage, member, events),
-        Output::Follow { leader } => follow(stage, member, leader, events),
-        Output::Repair { leader, repair } => repair_log(stage, member, repair, leader, events),
+        Output::Server(ServerOrder::Begin) => begin(stage, member, events),
+        Output::Server(ServerOrder::StartReplica { leader }) => start_replica(stage, member, leader, events),
+        Output::Server(ServerOrder::Stop { reason }) => stop(stage, member, reason, events),
+        Output::Server(ServerOrder::ShutDown) => shut_down(stage, member, events),
+        Output::Server(ServerOrder::Restart { .. }) => restart_server(stage, member, events),
+        Output::Server(ServerOrder::Wipe) => wipe(stage, member, events),
+        Output::Server(ServerOrder::Follow { leader }) => follow(stage, member, leader, events),
+        Output::Server(ServerOrder::Repair { leader, repair }) => repair_log(stage, member, repair, leader, events),
         Output::Require { required } => require(stage, member, required, events),
-        Output::Armed { until } => tell_arming(stage, member, until, heard, events),
-        Output::Fed { until } => tell_feeding(stage, member, until, heard, events),
-        Output::FedByFailsafe {
+        Output::Watchdog(Feeding::Armed { until }) => tell_arming(stage, member, until, heard, events),
+        Output::Watchdog(Feeding::Fed { until }) => tell_feeding(stage, member, until, heard, events),
+        Output::Watchdog(Feeding::FedByFailsafe {
             until,
             members,
             sequence,
             since,
-        } => tell_failsafe_feeding(stage, member, until, members, sequence, since, events),
-        Output::StaysByFailsafe => tell_staying(stage, member, events),
-        Output::Disarmed => tell_disarming(stage, member, events),
-        Output::ClaimsOutsideSync => tell_passing(stage, member, events),
-        Output::Note(note) => tell_note(stage, member, note, events),
-        Output::Told { told, .. } => tell_answer(stage, member, told, events),
-        Output::HoldTaken {
+        }) => tell_failsafe_feeding(stage, member, until, members, sequence, since, events),
+        Output::Note(Noting::StaysByFailsafe) => tell_staying(stage, member, events),
+        Output::Watchdog(Feeding::Disarmed) => tell_disarming(stage, member, events),
+        Output::Tell(Telling::ClaimsOutsideSync) => tell_passing(stage, member, events),
+        Output::Note(Noting::Agent(note)) => tell_note(stage, member, note, events),
+        Output::Tell(Telling::Told { told, .. }) => tell_answer(stage, member, told, events),
+        Output::Tell(Telling::HoldTaken {
             until,
             from,
             sequence,
-        } => tell_hold(
+        }) => tell_hold(
             stage,
             member,
             until,

@@ -37,6 +37,10 @@ use Rattle.agent_model.specs.declared.operating.Told.{Told}
 use Rattle.agent_model.specs.declared.operating.Told.TheVariants as tolds
 use Rattle.agent_model.specs.declared.output.Output.{Output}
 use Rattle.agent_model.specs.declared.output.Output.TheVariants as outputs
+use Rattle.agent_model.specs.declared.output.Feeding.TheVariants as feedings
+use Rattle.agent_model.specs.declared.output.Outgoing.TheVariants as outgoing
+use Rattle.agent_model.specs.declared.output.ServerOrder.TheVariants as orders
+use Rattle.agent_model.specs.declared.output.Telling.TheVariants as tellings
 use Rattle.agent_model.specs.declared.output.Target.TheVariants as targets
 use Rattle.agent_model.specs.Agents.{AgentFacts}
 use Rattle.operator_answers.specs.Statuses.{ok}
@@ -291,32 +295,32 @@ server-order-above last cluster member order all = kinds-above last cluster
 
 output-above : (last : ℕ) (cluster : Cluster) (member : Member) (heard : HeardMessage) (output : Output)
     → last ≤ cluster.facts.sent → AllAre (IsAbove last) (output_events member heard cluster output)
-output-above last cluster member heard (outputs.Send to sequence body) low = sending-above last cluster member
+output-above last cluster member heard (outputs.Message (outgoing.Send to sequence body)) low = sending-above last cluster member
     (slice_get cluster.facts.processes member.id.number) (receiver_of cluster.facts.members to) sequence body low
-output-above last cluster member heard (outputs.Answer to incarnation sequence answer) low = replying-above last cluster
+output-above last cluster member heard (outputs.Message (outgoing.Answer to incarnation sequence answer)) low = replying-above last cluster
     member (receiver_of cluster.facts.members (targets.Member to)) incarnation sequence (bodies.Answer answer) low
-output-above last cluster member heard (outputs.FailsafeAnswer to incarnation sequence accepted) low =
+output-above last cluster member heard (outputs.Message (outgoing.FailsafeAnswer to incarnation sequence accepted)) low =
     replying-above last cluster member (receiver_of cluster.facts.members (targets.Member to)) incarnation sequence
     (bodies.FailsafeAnswer accepted) low
-output-above last cluster member heard outputs.Begin low = begins-above last cluster member (server_at cluster member)
-output-above last cluster member heard (outputs.StartReplica leader) low =
+output-above last cluster member heard (outputs.Server orders.Begin) low = begins-above last cluster member (server_at cluster member)
+output-above last cluster member heard (outputs.Server (orders.StartReplica leader)) low =
     starts-above last cluster member (declared_member cluster.facts.members leader) (server_at cluster member)
-output-above last cluster member heard (outputs.Stop reason) low =
+output-above last cluster member heard (outputs.Server (orders.Stop reason)) low =
     stops-above last cluster member reason (server_at cluster member)
-output-above last cluster member heard outputs.ShutDown low =
+output-above last cluster member heard (outputs.Server orders.ShutDown) low =
     server-order-above last cluster member (stop_of member)
     (λ s. holds-if (IsAbove last) (is_up s.state) (stop_kind member s.state s.stop_delay)
     (stop-above last member (is_primary s.state && s.stop_delay.0 == 0)))
-output-above last cluster member heard (outputs.Restart as_primary) low =
+output-above last cluster member heard (outputs.Server (orders.Restart as_primary)) low =
     restarts-above last cluster member (server_at cluster member)
-output-above last cluster member heard outputs.Wipe low =
+output-above last cluster member heard (outputs.Server orders.Wipe) low =
     server-order-above last cluster member (wipe_of member)
     (λ s. require-above last (kinds.Log (logs.Wiped (server_of member))) (is_creating s.state || live s.state) tt)
-output-above last cluster member heard (outputs.Follow leader) low =
+output-above last cluster member heard (outputs.Server (orders.Follow leader)) low =
     let found = slice_get cluster.facts.members leader.number in
     server-order-above last cluster member (upstream_of member found)
     (λ s. upstream-above last member found (is_replica s.state))
-output-above last cluster member heard (outputs.Repair leader repair) low =
+output-above last cluster member heard (outputs.Server (orders.Repair leader repair)) low =
     let found = slice_get cluster.facts.members leader.number in
     kinds-above last cluster
     (option_and_then (repair_over cluster.facts.cuts cluster.facts.servers member repair) found)
@@ -328,17 +332,17 @@ output-above last cluster member heard (outputs.Require required) low =
     (kinds.Replication (replications.RequiredSet (server_of member) required
     (required_names cluster.facts.members required)))
     (is_same_required s.required required) tt)
-output-above last cluster member heard (outputs.Armed until) low =
+output-above last cluster member heard (outputs.Watchdog (feedings.Armed until)) low =
     all-kinds (IsAbove last) cluster (feed_kinds member heard.sent (arming member until heard)) (tt, (tt, tt))
-output-above last cluster member heard (outputs.Fed until) low =
+output-above last cluster member heard (outputs.Watchdog (feedings.Fed until)) low =
     all-kinds (IsAbove last) cluster (feed_kinds member heard.sent (feeding member until heard)) (tt, (tt, tt))
-output-above last cluster member heard (outputs.FedByFailsafe until members sequence since) low =
+output-above last cluster member heard (outputs.Watchdog (feedings.FedByFailsafe until members sequence since)) low =
     all-kinds (IsAbove last) cluster
     (feed_kinds member since (failsafe_feeding member until members sequence)) (tt, (tt, tt))
-output-above last cluster member heard (outputs.Told request told) low =
+output-above last cluster member heard (outputs.Tell (tellings.Told request told)) low =
     let agent = agent_at cluster.agents member.id.number in
     kinds-above last cluster (told_kind member agent told) (told-above last member agent told)
-output-above last cluster member heard (outputs.HoldTaken until from sequence) low =
+output-above last cluster member heard (outputs.Tell (tellings.HoldTaken until from sequence)) low =
     let found = slice_get cluster.facts.members from.number in
     let hold = hold_taken member until heard.incarnation sequence in
     kinds-above last cluster (option_map hold found) (mapped-above last hold found (λ from. tt))
