@@ -12,7 +12,6 @@ use Rattle.store_keys.specs.declared.txn.Expected.{Expected}
 use Rattle.store_keys.specs.declared.txn.Txn.{Txn}
 use Rattle.store_keys.specs.declared.txn.Txn.TheVariants as txns
 use Rattle.store_keys.specs.declared.txn.LeaseTxn.TheVariants as lease_txns
-use Rattle.store_keys.specs.declared.txn.OperatorTxn.TheVariants as operator_txns
 use Rattle.store_keys.specs.declared.txn.SyncTxn.TheVariants as sync_txns
 use Rattle.store_keys.specs.declared.txn_kind.TxnKind.{TxnKind}
 use Rattle.store_keys.specs.declared.value.HistoryRow.{HistoryRow}
@@ -205,18 +204,10 @@ granted-allowed setup past facts volatile_states tick i j by incarnation sequenc
     granted none may =
     other-allowed setup past volatile_states tick i j by incarnation sequence
     (txns.Touch info ttl) standbys is.flying is.asked tt
-granted-allowed setup past facts volatile_states tick i j by incarnation sequence (txns.Operators (operator_txns.SetFailover failover ttl))
-    standbys is same granted none may =
+granted-allowed setup past facts volatile_states tick i j by incarnation sequence (txns.Operators txn) standbys is same
+    granted none may =
     other-allowed setup past volatile_states tick i j by incarnation sequence
-    (txns.Operators (operator_txns.SetFailover failover ttl)) standbys is.flying is.asked tt
-granted-allowed setup past facts volatile_states tick i j by incarnation sequence (txns.Operators (operator_txns.DropFailover revision)) standbys
-    is same granted none may =
-    other-allowed setup past volatile_states tick i j by incarnation sequence
-    (txns.Operators (operator_txns.DropFailover revision)) standbys is.flying is.asked tt
-granted-allowed setup past facts volatile_states tick i j by incarnation sequence (txns.Operators (operator_txns.SetConfig revision config))
-    standbys is same granted none may =
-    other-allowed setup past volatile_states tick i j by incarnation sequence
-    (txns.Operators (operator_txns.SetConfig revision config)) standbys is.flying is.asked tt
+    (txns.Operators txn) standbys is.flying is.asked tt
 
 -- its events are those of the delivery
 granted-whole : (volatile_states : ℕ → VolatileState) (tick : Ticks) (i j : ℕ) (by : Member)

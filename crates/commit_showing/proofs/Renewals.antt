@@ -6,7 +6,6 @@ use Rattle.pat_base.specs.declared.server_state.Required.{Required}
 use Rattle.store_keys.specs.declared.txn.Txn.{Txn}
 use Rattle.store_keys.specs.declared.txn.Txn.TheVariants as txns
 use Rattle.store_keys.specs.declared.txn.LeaseTxn.TheVariants as lease_txns
-use Rattle.store_keys.specs.declared.txn.OperatorTxn.TheVariants as operator_txns
 use Rattle.store_keys.specs.declared.txn.SyncTxn.TheVariants as sync_txns
 use Rattle.event_book.specs.declared.event.EventKind.{EventKind}
 use Rattle.event_book.specs.declared.event.EventKind.TheVariants as kinds
@@ -103,17 +102,8 @@ granted-live past by (txns.Lease (lease_txns.Renew revision info ttl status row 
     (renewed-later past.lease.clock past.lease.revision ttl.0 r past.lease.leader key is same (old.given i m r asked))
 granted-live past by (txns.Lease (lease_txns.Release revision)) i m r key old asked is same mine = absurd (none-some key is)
 granted-live past by (txns.Touch info ttl) i m r key old asked is same mine = old.live i m r key asked is same mine
-granted-live past by (txns.Sync (sync_txns.Claim revision sync)) i m r key old asked is same mine = old.live i m r key asked is same mine
-granted-live past by (txns.Sync (sync_txns.SetSync revision sync standbys)) i m r key old asked is same mine =
-    old.live i m r key asked is same mine
-granted-live past by (txns.Sync (sync_txns.DropSync revision sync)) i m r key old asked is same mine =
-    old.live i m r key asked is same mine
-granted-live past by (txns.Operators (operator_txns.SetFailover failover ttl)) i m r key old asked is same mine =
-    old.live i m r key asked is same mine
-granted-live past by (txns.Operators (operator_txns.DropFailover revision)) i m r key old asked is same mine =
-    old.live i m r key asked is same mine
-granted-live past by (txns.Operators (operator_txns.SetConfig revision config)) i m r key old asked is same mine =
-    old.live i m r key asked is same mine
+granted-live past by (txns.Sync txn) i m r key old asked is same mine = old.live i m r key asked is same mine
+granted-live past by (txns.Operators txn) i m r key old asked is same mine = old.live i m r key asked is same mine
 
 pub carried-each : (past : Past) (kind : EventKind) → ComparesGiven past kind → AreCarriedLive past
     → AreCarriedLive (past_after past kind)

@@ -12,7 +12,6 @@ use Rattle.store_keys.specs.declared.txn.Expected.{Expected}
 use Rattle.store_keys.specs.declared.txn.Txn.{Txn}
 use Rattle.store_keys.specs.declared.txn.Txn.TheVariants as txns
 use Rattle.store_keys.specs.declared.txn.LeaseTxn.TheVariants as lease_txns
-use Rattle.store_keys.specs.declared.txn.OperatorTxn.TheVariants as operator_txns
 use Rattle.store_keys.specs.declared.txn.SyncTxn.TheVariants as sync_txns
 use Rattle.store_keys.specs.declared.txn_kind.TxnKind.{TxnKind}
 use Rattle.wal_model.specs.Log.{end_of}
@@ -239,26 +238,12 @@ other-shown setup past volatile_states tick i by (txns.Touch info ttl) standbys 
     ap (λ (f : ℕ → Option Flying).
     record (state_of setup past volatile_states) { revision = past.lease.revision + 1; flight = f })
     (put-same past.flight i none)
-other-shown setup past volatile_states tick i by (txns.Operators (operator_txns.SetFailover failover ttl)) standbys none other =
+other-shown setup past volatile_states tick i by (txns.Operators txn) standbys none other =
     ap (λ (f : ℕ → Option Flying).
     record (state_of setup past volatile_states) { revision = past.lease.revision + 1; flight = f })
     (put-same past.flight i none)
-other-shown setup past volatile_states tick i by (txns.Operators (operator_txns.DropFailover revision)) standbys none other =
-    ap (λ (f : ℕ → Option Flying).
-    record (state_of setup past volatile_states) { revision = past.lease.revision + 1; flight = f })
-    (put-same past.flight i none)
-other-shown setup past volatile_states tick i by (txns.Operators (operator_txns.SetConfig revision config)) standbys none other =
-    ap (λ (f : ℕ → Option Flying).
-    record (state_of setup past volatile_states) { revision = past.lease.revision + 1; flight = f })
-    (put-same past.flight i none)
-other-shown setup past volatile_states tick i by (txns.Lease (lease_txns.Create info ttl failsafe sync)) standbys none other = absurd other
-other-shown setup past volatile_states tick i by (txns.Lease (lease_txns.Renew revision info ttl status row failsafe)) standbys none
-    other =
-    absurd other
-other-shown setup past volatile_states tick i by (txns.Lease (lease_txns.Release revision)) standbys none other = absurd other
-other-shown setup past volatile_states tick i by (txns.Sync (sync_txns.Claim revision sync)) standbys none other = absurd other
-other-shown setup past volatile_states tick i by (txns.Sync (sync_txns.SetSync revision sync members)) standbys none other = absurd other
-other-shown setup past volatile_states tick i by (txns.Sync (sync_txns.DropSync revision sync)) standbys none other = absurd other
+other-shown setup past volatile_states tick i by (txns.Lease txn) standbys none other = absurd other
+other-shown setup past volatile_states tick i by (txns.Sync txn) standbys none other = absurd other
 
 pub release-shown : (setup : Setup) (past : Past) (volatile_states : ℕ → VolatileState) (tick : Ticks) (i : ℕ)
     (by : Member) (compared : ℕ) (standbys : List Name) → past.flight i ≡ None →

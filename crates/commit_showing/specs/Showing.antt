@@ -5,7 +5,6 @@ use Rattle.pat_base.specs.declared.ticks.Ticks.{Ticks}
 use Rattle.pat_base.specs.declared.member_set.MemberSet.{MemberSet}
 use Rattle.store_keys.specs.declared.txn.Txn.{Txn}
 use Rattle.store_keys.specs.declared.txn.Txn.TheVariants as txns
-use Rattle.store_keys.specs.declared.txn.OperatorTxn.TheVariants as operator_txns
 use Rattle.event_book.specs.Functions.{put_at}
 use Rattle.commit_actions.specs.Past.{VolatileState}
 use Rattle.event_book.specs.declared.event.AgentEvent.TheVariants as agents
@@ -38,9 +37,7 @@ carries_set (Some members) = true
 -- a transaction that leaves the leader key, the failsafe key and the sync key alone
 abbrev pub IsOtherTxn : Txn → Type 0
 IsOtherTxn (txns.Touch info ttl) = Unit {0}
-IsOtherTxn (txns.Operators (operator_txns.SetFailover failover ttl)) = Unit {0}
-IsOtherTxn (txns.Operators (operator_txns.DropFailover revision)) = Unit {0}
-IsOtherTxn (txns.Operators (operator_txns.SetConfig revision config)) = Unit {0}
+IsOtherTxn (txns.Operators txn) = Unit {0}
 IsOtherTxn _ = ⊥
 
 -- an event that one input of this member's agent may bring, but for

@@ -12,15 +12,13 @@ use Rattle.store_keys.specs.declared.txn.Expected.TheVariants.{Absent, Revision}
 use Rattle.store_keys.specs.declared.txn.Txn.{Txn}
 use Rattle.store_keys.specs.declared.txn.Txn.TheVariants as txns
 use Rattle.store_keys.specs.declared.txn.LeaseTxn.TheVariants as lease_txns
-use Rattle.store_keys.specs.declared.txn.OperatorTxn.TheVariants as operator_txns
-use Rattle.store_keys.specs.declared.txn.SyncTxn.TheVariants as sync_txns
 use Rattle.store_keys.specs.declared.value.KeyEntry.{KeyEntry}
 use Rattle.store_keys.specs.declared.value.Value.{Value}
 use Rattle.store_keys.specs.declared.value.Value.TheVariants as values
 use Rattle.lease_store.specs.Kinds.{IsOfKind}
 use Rattle.lease_store.specs.KeyOrder.{key_cmp}
 use Rattle.lease_store.specs.Keys.{key_in, present}
-use Rattle.lease_store.specs.Decision.{Decision, Grant as Granting, Refusal as Refusing, compares_of, compare_if, found_in, is_as_expected, decision_if, decision_by, decision_on}
+use Rattle.lease_store.specs.Decision.{Decision, Grant as Granting, Refusal as Refusing, compares_of, compare_if, found_in, is_as_expected, decision_if, decision_by, decision_on, operator_compares, sync_compares}
 use Rattle.lease_store.proofs.Keeping.{kind_found}
 use Rattle.event_book.specs.Facts.{Facts}
 use Rattle.lease_model.specs.Leases.{LeaderKey, FailsafeKey, Create, Renew, Release, Write}
@@ -273,24 +271,12 @@ found-decision_if pairs now revision by sent found listed (txns.Lease (lease_txn
 found-decision_if pairs now revision by sent found listed (txns.Touch info ttl) finds leads sets =
     write-decision_if (decision_by pairs now (compares_of (txns.Touch info ttl))) now revision by sent
     (leader_key_of found) (failsafe_key_of listed)
-found-decision_if pairs now revision by sent found listed (txns.Sync (sync_txns.Claim compared sync)) finds leads sets =
-    write-decision_if (decision_by pairs now (compares_of (txns.Sync (sync_txns.Claim compared sync)))) now revision by sent
-    (leader_key_of found) (failsafe_key_of listed)
-found-decision_if pairs now revision by sent found listed (txns.Sync (sync_txns.SetSync compared sync standbys)) finds leads sets =
-    write-decision_if (decision_by pairs now (compares_of (txns.Sync (sync_txns.SetSync compared sync standbys)))) now revision by sent
-    (leader_key_of found) (failsafe_key_of listed)
-found-decision_if pairs now revision by sent found listed (txns.Sync (sync_txns.DropSync compared sync)) finds leads sets =
-    write-decision_if (decision_by pairs now (compares_of (txns.Sync (sync_txns.DropSync compared sync)))) now revision by sent
-    (leader_key_of found) (failsafe_key_of listed)
-found-decision_if pairs now revision by sent found listed (txns.Operators (operator_txns.SetFailover failover ttl)) finds leads sets =
-    write-decision_if (decision_by pairs now (compares_of (txns.Operators (operator_txns.SetFailover failover ttl)))) now revision by sent
-    (leader_key_of found) (failsafe_key_of listed)
-found-decision_if pairs now revision by sent found listed (txns.Operators (operator_txns.DropFailover compared)) finds leads sets =
-    write-decision_if (decision_by pairs now (compares_of (txns.Operators (operator_txns.DropFailover compared)))) now revision by sent
-    (leader_key_of found) (failsafe_key_of listed)
-found-decision_if pairs now revision by sent found listed (txns.Operators (operator_txns.SetConfig compared config)) finds leads sets =
-    write-decision_if (decision_by pairs now (compares_of (txns.Operators (operator_txns.SetConfig compared config)))) now revision by sent
-    (leader_key_of found) (failsafe_key_of listed)
+found-decision_if pairs now revision by sent found listed (txns.Sync txn) finds leads sets =
+    write-decision_if (decision_by pairs now (sync_compares txn)) now revision by sent (leader_key_of found)
+    (failsafe_key_of listed)
+found-decision_if pairs now revision by sent found listed (txns.Operators txn) finds leads sets =
+    write-decision_if (decision_by pairs now (operator_compares txn)) now revision by sent (leader_key_of found)
+    (failsafe_key_of listed)
 
 present-by : (b : Bool) (now expiry : ℕ) (found_key : KeyEntry) → nat_lt now expiry ≡ b → now < expiry
     → cond b (Some found_key) None ≡ Some found_key

@@ -10,6 +10,7 @@ use Rattle.store_keys.specs.declared.key.Key.TheVariants as keys
 use Rattle.store_keys.specs.declared.txn.Txn.{Txn}
 use Rattle.store_keys.specs.declared.txn.Txn.TheVariants as txns
 use Rattle.store_keys.specs.declared.txn.LeaseTxn.TheVariants as lease_txns
+use Rattle.store_keys.specs.declared.txn.OperatorTxn.TheVariants as operator_txns
 use Rattle.store_keys.specs.declared.txn.SyncTxn.TheVariants as sync_txns
 use Rattle.store_keys.specs.declared.value.HistoryRow.{HistoryRow}
 use Rattle.store_keys.specs.declared.value.Value.{Value}
@@ -128,6 +129,8 @@ leader-pairs_after : (revision now : ℕ) (by : MemberId) (txn : Txn) (found : O
 leader-pairs_after revision now by (txns.Lease (lease_txns.Renew compared info ttl status row failsafe)) found =
     carried revision now keys.Leader (renewed revision (now + ttl.0) found) status row failsafe refl (λ timeline. refl)
     ∙ leader-carried revision now (renewed revision (now + ttl.0) found) failsafe
+leader-pairs_after revision now by (txns.Sync (sync_txns.DropSync compared sync)) found = refl
+leader-pairs_after revision now by (txns.Operators (operator_txns.DropFailover compared)) found = refl
 leader-pairs_after revision now by _ found = refl
 
 -- what a granted transaction leaves at the leader key
@@ -160,6 +163,8 @@ failsafe-pairs_after : (revision now : ℕ) (by : MemberId) (txn : Txn) (found :
 failsafe-pairs_after revision now by (txns.Lease (lease_txns.Renew compared info ttl status row failsafe)) found =
     carried revision now keys.Failsafe found status row failsafe refl (λ timeline. refl)
     ∙ failsafe-carried revision now found failsafe
+failsafe-pairs_after revision now by (txns.Sync (sync_txns.DropSync compared sync)) found = refl
+failsafe-pairs_after revision now by (txns.Operators (operator_txns.DropFailover compared)) found = refl
 failsafe-pairs_after revision now by _ found = refl
 
 -- what a granted transaction leaves at the failsafe key
@@ -189,6 +194,8 @@ sync-pairs_after : (revision now : ℕ) (by : MemberId) (txn : Txn) (found : Opt
 sync-pairs_after revision now by (txns.Lease (lease_txns.Renew compared info ttl status row failsafe)) found =
     carried revision now keys.Sync found status row failsafe refl (λ timeline. refl)
     ∙ sync-carried revision now found failsafe
+sync-pairs_after revision now by (txns.Sync (sync_txns.DropSync compared sync)) found = refl
+sync-pairs_after revision now by (txns.Operators (operator_txns.DropFailover compared)) found = refl
 sync-pairs_after revision now by _ found = refl
 
 -- what a granted transaction leaves at the sync key
