@@ -38,7 +38,6 @@ use Rattle.agent_model.specs.Operators.{operating, learned, grants_operator, ope
 use Rattle.store_keys.specs.declared.value.FailoverKey.{FailoverKey}
 use Rattle.agent_model.specs.Snapshots.{informed}
 use Rattle.agent_model.specs.Racing.{unheard}
-use Rattle.failsafe.specs.Asks.{heard}
 use Rattle.agent_model.specs.Table.{granted_any}
 use Rattle.agent_cases.proofs.Rows.{if-cases, dropping, clearing-by, HandoverRows, handover-by, ReplyRows, operator-granted-by}
 

@@ -19,13 +19,12 @@ use Rattle.agent_model.specs.declared.knowledge.PendingQuestion.{PendingQuestion
 use Rattle.store_keys.specs.declared.txn.Txn.{Txn}
 use Rattle.store_keys.specs.declared.txn.Txn.TheVariants as txns
 use Rattle.store_keys.specs.declared.txn.OperatorTxn.TheVariants as operator_txns
-use Rattle.lease_store.specs.Writes.{nobody}
 use Rattle.agent_model.specs.declared.why.Why.{Why}
 use Rattle.agent_model.specs.Acting.{sending, lease_span, disarming, waiting_no_more, touching, starting_replica, following_server, is_hold_active, shutting_down}
 use Rattle.agent_model.specs.Agents.{RoleFacts, Follower, Holder, Ready, Leader, Ending, Unleased, Outcome}
 use Rattle.agent_model.specs.Reconciling.{leader_finds_ended, has_ended, finds_live, unleased_finds_ended, before_as, reconciled}
 use Rattle.agent_model.specs.Pausing.{is_paused, ends_forks, running_without_key}
-use Rattle.agent_model.specs.Decisions.{may_create, has_primary, granted, awaits_decision, follower_for, renewal_refused, refused_as, refused_for, refused}
+use Rattle.agent_model.specs.Decisions.{may_create, has_primary, awaits_decision, follower_for, renewal_refused, refused_as, refused_for, refused}
 use Rattle.agent_model.specs.Claiming.{postpones, claim_fails_as, claim_fails}
 use Rattle.agent_model.specs.Fits.{Fits}
 use Rattle.agent_model.specs.HandingOver.{leader_revision, clearing_under, clearing, successor_by, hands_over, hands_over_to, handover_judged, judged_if_leading, whom_answered, checks, check_answered}

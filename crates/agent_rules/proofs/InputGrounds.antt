@@ -10,7 +10,6 @@ use Rattle.wal_model.specs.declared.entry.HistoryPoint.{HistoryPoint}
 use Rattle.pg_model.specs.declared.status.ServerStatus.{ServerStatus}
 use Rattle.pg_model.specs.Status.{status_wiped}
 use Rattle.cluster_view.specs.Snapshots.{SnapshotFacts}
-use Rattle.failsafe.specs.Asks.{has}
 use Rattle.agent_model.specs.declared.heard.Heard.{Heard}
 use Rattle.agent_model.specs.declared.heard.Heard.TheVariants as heards
 use Rattle.agent_model.specs.declared.knowledge.Knowledge.{Knowledge}

@@ -20,6 +20,7 @@ use Rattle.agent_model.specs.declared.output.Output.{Output}
 use Rattle.agent_model.specs.declared.output.Output.TheVariants as outputs
 use Rattle.agent_model.specs.declared.output.ServerOrder.TheVariants as orders
 use Rattle.agent_model.specs.declared.output.Telling.TheVariants as tellings
+use Rattle.agent_model.specs.declared.output.Feeding.TheVariants as feedings
 use Rattle.agent_commit_law.specs.Committing.{IsCovered, StandsAlone, is_begin, is_claim_outside_sync}
 use Rattle.agent_outputs.specs.Orders.{machine_after_output, machine_after_outputs}
 use Rattle.agent_model.specs.Outputs.{has_one}
@@ -103,6 +104,9 @@ alone-passes _ alone = tt
 stays-by : (now : Ticks) (machine : Machine) (output : Output) → RequiresNone output
     → (machine_after_output now machine output).replication ≡ machine.replication
 stays-by now machine (outputs.Require required) none = absurd none
+stays-by now machine (outputs.Server orders.Begin) none = refl
+stays-by now machine (outputs.Watchdog feedings.Disarmed) none = refl
+stays-by now machine (outputs.Tell tellings.ClaimsOutsideSync) none = refl
 stays-by now machine _ none = refl
 
 pub required-stays : (now : Ticks) (machine : Machine) (outs : List Output) → All RequiresNone outs

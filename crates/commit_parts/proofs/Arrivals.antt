@@ -6,7 +6,6 @@ use Rattle.lease_store.specs.Decision.{Decision, Grant, Refusal, decision_on}
 use Rattle.store_keys.specs.declared.txn.Txn.{Txn}
 use Rattle.store_keys.specs.declared.txn.Txn.TheVariants as txns
 use Rattle.store_keys.specs.declared.txn.LeaseTxn.TheVariants as lease_txns
-use Rattle.store_keys.specs.declared.txn.OperatorTxn.TheVariants as operator_txns
 use Rattle.store_keys.specs.declared.txn.SyncTxn.TheVariants as sync_txns
 use Rattle.store_keys.specs.TxnKinds.{txn_kind_of}
 use Rattle.event_book.specs.declared.event.Event.{Event}
@@ -161,15 +160,7 @@ once-granted states false tick number answer by incarnation sequence txn standby
 compares-none : (count quorum : ℕ) (txn : Txn) → IsSynchronousTxn count quorum txn → ComparesNoSync txn
 compares-none count quorum (txns.Lease (lease_txns.Create info ttl failsafe None)) is = tt
 compares-none count quorum (txns.Lease (lease_txns.Create info ttl failsafe (Some sync))) is = absurd is
-compares-none count quorum (txns.Touch info ttl) is = tt
-compares-none count quorum (txns.Lease (lease_txns.Renew revision info ttl status row failsafe)) is = tt
-compares-none count quorum (txns.Lease (lease_txns.Release revision)) is = tt
-compares-none count quorum (txns.Sync (sync_txns.Claim revision sync)) is = tt
-compares-none count quorum (txns.Sync (sync_txns.SetSync revision sync standbys)) is = tt
-compares-none count quorum (txns.Sync (sync_txns.DropSync revision sync)) is = tt
-compares-none count quorum (txns.Operators (operator_txns.SetFailover failover ttl)) is = tt
-compares-none count quorum (txns.Operators (operator_txns.DropFailover revision)) is = tt
-compares-none count quorum (txns.Operators (operator_txns.SetConfig revision config)) is = tt
+compares-none count quorum _ is = tt
 
 granted-may : (count quorum : ℕ) (s : State) (m incarnation sequence : ℕ) (txn : Txn)
     → IsSynchronousTxn count quorum txn → IsNumbered (s.members m) incarnation sequence
@@ -179,13 +170,7 @@ granted-may count quorum s m incarnation sequence (txns.Lease (lease_txns.Create
 granted-may count quorum s m incarnation sequence (txns.Lease (lease_txns.Renew revision info ttl status row failsafe)) is numbered =
     numbered
 granted-may count quorum s m incarnation sequence (txns.Sync (sync_txns.DropSync revision sync)) is numbered = absurd is
-granted-may count quorum s m incarnation sequence (txns.Touch info ttl) is numbered = tt
-granted-may count quorum s m incarnation sequence (txns.Lease (lease_txns.Release revision)) is numbered = tt
-granted-may count quorum s m incarnation sequence (txns.Sync (sync_txns.Claim revision sync)) is numbered = tt
-granted-may count quorum s m incarnation sequence (txns.Sync (sync_txns.SetSync revision sync standbys)) is numbered = tt
-granted-may count quorum s m incarnation sequence (txns.Operators (operator_txns.SetFailover failover ttl)) is numbered = tt
-granted-may count quorum s m incarnation sequence (txns.Operators (operator_txns.DropFailover revision)) is numbered = tt
-granted-may count quorum s m incarnation sequence (txns.Operators (operator_txns.SetConfig revision config)) is numbered = tt
+granted-may count quorum s m incarnation sequence _ is numbered = tt
 
 module _ (head : HeadText) (book : List Event) (cluster : Cluster) (number : ℕ) (message : InFlightFacts)
     (good : CommitsBridged head book cluster)

@@ -71,7 +71,7 @@ impl Lease {
 
     /// The request that gives the leader key up.
     pub fn release(self) -> Txn
-        ensures { result ≡ Txn.Release (lease_revision self) }
+        ensures { result ≡ Txn.Lease (LeaseTxn.Release (lease_revision self)) }
     {
         let Lease { revision } = self;
         Txn::Lease(LeaseTxn::Release { revision })

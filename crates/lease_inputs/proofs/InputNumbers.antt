@@ -10,7 +10,6 @@ use Rattle.event_book.specs.declared.message.Message.{Message}
 use Rattle.event_book.specs.Flight.{sent_after}
 use Rattle.agent_model.specs.declared.output.Output.{Output}
 use Rattle.agent_model.specs.declared.output.Output.TheVariants as outputs
-use Rattle.agent_model.specs.declared.output.Outgoing.TheVariants as outgoing
 use Rattle.cluster_model.specs.Cluster.{cluster_after, cluster_over}
 use Rattle.cluster_model.specs.State.{Cluster}
 use Rattle.lease_model.specs.Feeds.{KeepsMomentOf}
@@ -36,9 +35,7 @@ numbered-both last (x ∷ xs) ys first second = (first.0, numbered-both (sent_af
 -- ---- one event that sends nothing, or feeds nothing
 -- an output that sends no message
 abbrev pub no_message : Output → Type 0
-no_message (outputs.Message (outgoing.Send to sequence body)) = ⊥
-no_message (outputs.Message (outgoing.Answer to asked sequence answer)) = ⊥
-no_message (outputs.Message (outgoing.FailsafeAnswer to asked sequence accepted)) = ⊥
+no_message (outputs.Message written) = ⊥
 no_message _ = Unit {0}
 
 pub no-sent : (member : Member) (incarnation : ℕ) (message : Message)

@@ -14,7 +14,7 @@ use Rattle.event_book.specs.declared.agent_process.AgentProcess.{AgentProcess}
 use Rattle.event_book.specs.declared.event.Event.{Event}
 use Rattle.event_book.specs.declared.event.EventKind.{EventKind}
 use Rattle.event_book.specs.declared.event.EventKind.TheVariants as kinds
-use Rattle.event_book.specs.declared.event.MessageEvent.TheVariants.{Sent, Delivered, Lost}
+use Rattle.event_book.specs.declared.event.MessageEvent.TheVariants.{Sent}
 use Rattle.event_book.specs.declared.event.ServerEvent.TheVariants as servers
 use Rattle.event_book.specs.declared.event.WatchdogEvent.TheVariants as watchdogs
 use Rattle.event_book.specs.declared.member.Member.{Member}
@@ -36,9 +36,11 @@ use Rattle.agent_model.specs.declared.output.Outgoing.TheVariants as outgoing
 use Rattle.agent_model.specs.declared.output.ServerOrder.TheVariants as orders
 use Rattle.agent_model.specs.declared.output.Repair.{Repair}
 use Rattle.agent_model.specs.declared.output.Target.TheVariants as targets
+use Rattle.agent_model.specs.declared.output.Telling.TheVariants as tellings
 use Rattle.agent_model.specs.Acting.{upstream_of}
 use Rattle.agent_outputs.specs.Orders.{EndsRepairing, IsOfTable, RepairsLast, machine_after_output, machine_after_outputs}
 use Rattle.agent_model.specs.Outputs.{is_arming, is_feeding, has_one, with_output, BeginsOnly, OutputsBeginBehind}
+use Rattle.agent_model.specs.declared.output.Target.{Target}
 use Rattle.cluster_model.specs.declared.heard_message.HeardMessage.{HeardMessage}
 use Rattle.agent_roles.proofs.Living.{follow-live, restart-live, start-live, stop-live, wipe-live}
 use Rattle.cluster_model.specs.Beginnings.{server_restart_in, server_restart_kinds}
@@ -56,6 +58,7 @@ use Rattle.lease_law.proofs.Runs.{assoc, none-more}
 use Rattle.lease_model.proofs.Tools.{none-some, some-is}
 use Rattle.lease_book.specs.Groups.{AreNumberedAbove}
 use Rattle.cluster_model.proofs.Lists.{all-both, all-front, all-back, all-kinds}
+use Rattle.cluster_model.proofs.Outputs.{HoldsOfOutputs, output-holds}
 use Rattle.lease_inputs.specs.InputEvents.{ByGrant, ByFailsafe, IsFeedOf, IsOfInput, IsToBegin, RunsAmong}
 use Rattle.lease_parts.specs.Machines.{live_in, live_now}
 use Rattle.lease_parts.specs.Waiting.{IsKnownEnd}
@@ -63,7 +66,7 @@ use Rattle.lease_inputs.proofs.InputEvents.{again-mine, output-mine}
 use Rattle.lease_inputs.proofs.InputServers.{Mirrors}
 use Rattle.lease_inputs.proofs.InputMachines.{IsHeldFor, RepairsNone, Resembles, mirrored, output-here, repair-resembles}
 use Rattle.lease_inputs.proofs.InputStays.{Stays, item-here, runs-over, stays-over}
-use Rattle.lease_inputs.proofs.InputNumbers.{no-sent, no_message, numbered-both, sent-is, unnumbered-all}
+use Rattle.lease_inputs.proofs.InputNumbers.{no_message, numbered-both, sent-is, unnumbered-all}
 
 -- an output with which a server may come to accept writes has this
 abbrev MayBegin : Type 0 → Output → Type 0
@@ -167,42 +170,11 @@ module _ (member : Member) (incarnation : ℕ) (message : HeardMessage) where
       (All-tail IsOfTable output more table)))
 
   -- ---- between members
-  lost-between : (members : List Member) (cluster : Cluster) (test : Bool) (number : ℕ)
-      → AllAre (GoesBetween members) (events_of cluster (lost_at_once test number))
-  lost-between members cluster true number = (tt, tt)
-  lost-between members cluster false number = tt
-
-  message-between : (members : List Member) (cluster : Cluster) (sends : Message) → IsKnownEnd members sends.from
-      → IsKnownEnd members sends.to → AllAre (GoesBetween members) (send_events cluster sends)
-  message-between members cluster sends from to =
-      let sent : EventKind = kinds.Message (Sent (cluster.facts.sent + 1) sends) in (
-        (from, to),
-        lost-between members (cluster_after cluster sent)
-            (nat_le most_in_flight (length cluster.facts.flight)) (cluster.facts.sent + 1),
-      )
-
   -- a member that is found at this number stands at its own
   stands-there : (members : List Member)
       → ((n : ℕ) (peer : Member) → slice_get members n ≡ Some peer → peer.id.number ≡ n)
       → (n : ℕ) (peer : Member) → slice_get members n ≡ Some peer → slice_get members peer.id.number ≡ Some peer
   stands-there members numbered n peer is = ap (λ (k : ℕ). slice_get members k) (numbered n peer is) ∙ is
-
-  send-between : (cluster : Cluster) → slice_get cluster.facts.members member.id.number ≡ Some member
-      → (to : Option LinkEnd) → ((end : LinkEnd) → to ≡ Some end → IsKnownEnd cluster.facts.members end)
-      → (sequence : ℕ) (body : Body) (found : Option AgentProcess)
-      → AllAre (GoesBetween cluster.facts.members) (sending_events cluster member found to sequence body)
-  send-between cluster mine to known sequence body None = tt
-  send-between cluster mine None known sequence body (Some process) = tt
-  send-between cluster mine (Some to) known sequence body (Some process) = message-between cluster.facts.members cluster
-      (agent_message member to process.incarnation sequence body) mine (known to refl)
-
-  reply-between : (cluster : Cluster) → slice_get cluster.facts.members member.id.number ≡ Some member
-      → (to : Option LinkEnd) → ((end : LinkEnd) → to ≡ Some end → IsKnownEnd cluster.facts.members end)
-      → (asked sequence : ℕ) (body : Body)
-      → AllAre (GoesBetween cluster.facts.members) (replying_events cluster member to asked sequence body)
-  reply-between cluster mine None known asked sequence body = tt
-  reply-between cluster mine (Some to) known asked sequence body =
-      message-between cluster.facts.members cluster (agent_message member to asked sequence body) mine (known to refl)
 
   known-peer : (members : List Member)
       → ((n : ℕ) (peer : Member) → slice_get members n ≡ Some peer → peer.id.number ≡ n)
@@ -216,41 +188,47 @@ module _ (member : Member) (incarnation : ℕ) (message : HeardMessage) where
       → ◌≡◌ {A = Option LinkEnd} (Some ends.Store) (Some end) → IsKnownEnd members end
   known-store members end e = subst (IsKnownEnd members) (some-is ends.Store end e) tt
 
-  quiet-between : (members : List Member) (events : List Event)
-      → AllAre (IsOfInput member incarnation message.number no_message) events → AllAre (GoesBetween members) events
-  quiet-between members [] all = tt
-  quiet-between members (event ∷ events) all = (one event.kind all.0, quiet-between members events all.1)
-    where
-      one : (kind : EventKind) → IsOfInput member incarnation message.number no_message kind → GoesBetween members kind
-      one (kinds.Message (Sent number sends)) is = absurd (no-sent member incarnation sends is)
-      one (kinds.Message (Delivered number)) is = absurd is
-      one (kinds.Message (Lost number)) is = tt
-      one _ is = tt
+  known-end : (members : List Member)
+      → ((n : ℕ) (peer : Member) → slice_get members n ≡ Some peer → peer.id.number ≡ n) → (target : Target)
+      (to : LinkEnd) → receiver_of members target ≡ Some to → IsKnownEnd members to
+  known-end members numbered targets.Store to is = known-store members to is
+  known-end members numbered (targets.Member id) to is =
+      known-peer members numbered id.number (slice_get members id.number) refl to is
 
-  other-between : (cluster : Cluster) (output : Output) → Runs cluster.facts → IsOfTable output
-      → no_message output → AllAre (GoesBetween cluster.facts.members) (Brings cluster output)
-  other-between cluster output runs table silent = quiet-between cluster.facts.members (Brings cluster output)
-      (output-mine member incarnation message.number no_message cluster message refl runs output table silent)
-
-  output-between : (cluster : Cluster) (output : Output)
-      → slice_get cluster.facts.members member.id.number ≡ Some member → Runs cluster.facts → IsOfTable output
-      → AllAre (GoesBetween cluster.facts.members) (Brings cluster output)
-  output-between cluster (outputs.Message (outgoing.Send targets.Store sequence body)) mine runs table =
-      send-between cluster mine (Some ends.Store) (known-store cluster.facts.members) sequence body
-      (slice_get cluster.facts.processes member.id.number)
-  output-between cluster (outputs.Message (outgoing.Send (targets.Member to) sequence body)) mine runs table =
-      send-between cluster mine (receiver_of cluster.facts.members (targets.Member to))
-      (known-peer cluster.facts.members runs.numbered to.number (slice_get cluster.facts.members to.number) refl)
-      sequence body (slice_get cluster.facts.processes member.id.number)
-  output-between cluster (outputs.Message (outgoing.Answer to asked sequence answer)) mine runs table =
-      reply-between cluster mine (receiver_of cluster.facts.members (targets.Member to))
-      (known-peer cluster.facts.members runs.numbered to.number (slice_get cluster.facts.members to.number) refl)
-      asked sequence (bodies.Answer answer)
-  output-between cluster (outputs.Message (outgoing.FailsafeAnswer to asked sequence accepted)) mine runs table =
-      reply-between cluster mine (receiver_of cluster.facts.members (targets.Member to))
-      (known-peer cluster.facts.members runs.numbered to.number (slice_get cluster.facts.members to.number) refl)
-      asked sequence (bodies.FailsafeAnswer accepted)
-  output-between cluster output mine runs table = other-between cluster output runs table tt
+  holds-between : (cluster : Cluster) → slice_get cluster.facts.members member.id.number ≡ Some member
+      → Runs cluster.facts → HoldsOfOutputs (GoesBetween cluster.facts.members) cluster member
+  holds-between cluster mine runs = record {
+    messages = record {
+      sent = λ target to is asked sequence body. (mine, known-end cluster.facts.members runs.numbered target to is);
+      lost = tt;
+    };
+    orders = λ order. record {
+      begins = λ lets timeline. tt;
+      lacks = λ lets. tt;
+      starts_as_primary = λ lets. tt;
+      starts_as_replica = tt;
+      follows = λ leader. tt;
+      says = λ reason. tt;
+      ends = λ lets. tt;
+      stops = λ lets. tt;
+      wiped = λ lets. tt;
+      rewound = λ lets leader r. tt;
+      copied = λ lets leader. tt;
+    };
+    feedings = record {
+      measured = λ since. tt;
+      armed = λ until answer. tt;
+      fed = λ until basis. tt;
+      disarmed = tt;
+    };
+    required = λ required names. tt;
+    tellings = λ telling. record {
+      answers = λ is reply. tt;
+      holds = λ until asked sequence from. tt;
+      passes = λ is. tt;
+    };
+    notes = record { agent = λ note about. tt; stays = tt };
+  }
 
   -- each message of an input goes between members and the key store
   pub each-between : (cluster : Cluster) (outs : List Output)
@@ -261,7 +239,7 @@ module _ (member : Member) (incarnation : ℕ) (message : HeardMessage) where
       let one = All-head IsOfTable output more table in let next = Later cluster output in
       let members : next.facts.members ≡ cluster.facts.members = (stays-output cluster output runs one).members in
       all-both (GoesBetween cluster.facts.members) (Brings cluster output)
-      (each (output_events member message) next more) (output-between cluster output mine runs one)
+      (each (output_events member message) next more) (output-holds (GoesBetween cluster.facts.members) cluster member message (holds-between cluster mine runs) output)
       (subst (λ (l : List Member). AllAre (GoesBetween l) (each (output_events member message) next more)) members
       (each-between next more (ap (λ (l : List Member). slice_get l member.id.number) members ∙ mine)
       (runs-later cluster output runs one) (All-tail IsOfTable output more table)))
@@ -439,18 +417,6 @@ module _ (member : Member) (incarnation : ℕ) (message : HeardMessage) where
     aside = all-both (KeepsMomentOf message.number) before (measured cluster ∷ []) kept (tt, tt);
     fed = (refl, refl);
   }
-  arming-told cluster (outputs.Server orders.Begin) before kept e = absurd (no-way e)
-    where
-      no-way : false ≡ true → ⊥
-      no-way e = cc
-  arming-told cluster (outputs.Message (outgoing.Send to sequence body)) before kept e = absurd (no-way e)
-    where
-      no-way : false ≡ true → ⊥
-      no-way e = cc
-  arming-told cluster (outputs.Server (orders.StartReplica leader)) before kept e = absurd (no-way e)
-    where
-      no-way : false ≡ true → ⊥
-      no-way e = cc
   arming-told cluster _ before kept e = absurd (no-way e)
     where
       no-way : false ≡ true → ⊥
@@ -518,6 +484,8 @@ module _ (member : Member) (incarnation : ℕ) (message : HeardMessage) where
   lives-on now machine X (outputs.Server orders.Wipe) begin may lives e = lives (wipe-live machine.server e)
   lives-on now machine X (outputs.Server (orders.Follow leader)) begin may lives e =
       lives (follow-live (server_id_of leader) machine.server e)
+  lives-on now machine X (outputs.Watchdog feedings.Disarmed) begin may lives e = lives e
+  lives-on now machine X (outputs.Tell tellings.ClaimsOutsideSync) begin may lives e = lives e
   lives-on now machine X _ begin may lives e = lives e
 
   pub each-begins : (P : List Output → Type 0) (R : List Event → ℕ → Type 0)
@@ -648,6 +616,8 @@ module _ (member : Member) (incarnation : ℕ) (message : HeardMessage) where
   unfed-one now machine (outputs.Watchdog (feedings.Armed until)) e = absurd (not-so (sym e))
   unfed-one now machine (outputs.Watchdog (feedings.Fed until)) e = absurd (not-so (sym e))
   unfed-one now machine (outputs.Watchdog (feedings.FedByFailsafe until acknowledging sequence since)) e = absurd (not-so (sym e))
+  unfed-one now machine (outputs.Server orders.Begin) e = refl
+  unfed-one now machine (outputs.Tell tellings.ClaimsOutsideSync) e = refl
   unfed-one now machine _ e = refl
 
   neither : (b c : Bool) → (b || c) ≡ false → (b ≡ false) × (c ≡ false)

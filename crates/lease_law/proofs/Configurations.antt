@@ -37,14 +37,8 @@ module _ (H : Option KeyEntry → Type 0) (revision now : ℕ) (by : MemberId) w
   -- then it holds of the configuration that the transaction leaves, where it held of the one before
   pub config-after : (txn : Txn) (found : Option KeyEntry) → SetsConfig found txn → H found
       → H (found_after_all revision now keys.Config found (writes_of by txn))
-  config-after (txns.Touch info ttl) found is old = old
-  config-after (txns.Lease (lease_txns.Create info ttl failsafe sync)) found is old = old
   config-after (txns.Lease (lease_txns.Renew compared info ttl status row failsafe)) found is old =
       subst H (sym (carried-config revision now found status row failsafe)) old
-  config-after (txns.Lease (lease_txns.Release compared)) found is old = old
-  config-after (txns.Sync (sync_txns.Claim compared sync)) found is old = old
-  config-after (txns.Sync (sync_txns.SetSync compared sync standbys)) found is old = old
   config-after (txns.Sync (sync_txns.DropSync compared sync)) found is old = old
-  config-after (txns.Operators (operator_txns.SetFailover failover ttl)) found is old = old
-  config-after (txns.Operators (operator_txns.DropFailover compared)) found is old = old
   config-after (txns.Operators (operator_txns.SetConfig compared config)) found is old = is
+  config-after _ found is old = old

@@ -546,6 +546,7 @@ module _ (now : Ticks) (points : List HistoryPoint) (agent : AgentFacts) (machin
       weaker U V F G first second (outputs.Tell tellings.ClaimsOutsideSync) is = first is
       weaker U V F G first second (outputs.Watchdog (feedings.Armed until)) is = second is
       weaker U V F G first second (outputs.Watchdog (feedings.Fed until)) is = second is
+      weaker U V F G first second (outputs.Message (outgoing.Send to sequence body)) is = is
       weaker U V F G first second _ is = is
 
   -- what an input tells
