@@ -171,13 +171,15 @@ handover-quiet : (f : Outcome) (now : Ticks) (revision : ℕ) (o : Outcome) → 
 handover-quiet f now revision o all = record {
   kept = all;
   clears = λ compared. said o.outputs _ tt all;
-  hands = λ candidate. said (with_output (outputs.Note (notings.Agent (agent_notes.HandsOver candidate))) o.outputs) (outputs.Server orders.ShutDown) tt
+  hands = λ candidate. said (with_output (outputs.Note (notings.Agent (agent_notes.HandsOver candidate))) o.outputs)
+      (outputs.Server orders.ShutDown) tt
       (said o.outputs (outputs.Note (notings.Agent (agent_notes.HandsOver candidate))) tt all);
 }
 
 postpones-quiet : (f : Outcome) (held : ℕ) (o : Outcome) → Quiet f o → Quiet f (postpones held o)
 postpones-quiet f held o all = said (disarmed o.machine.watchdog.deadline o.outputs)
-    (outputs.Note (notings.Agent agent_notes.PostponesPromotion)) tt (disarmed-quiet f o.machine.watchdog.deadline o.outputs all)
+    (outputs.Note (notings.Agent agent_notes.PostponesPromotion)) tt
+    (disarmed-quiet f o.machine.watchdog.deadline o.outputs all)
 
 -- the requests to all other members to stay primary
 request-quiet : (f : Outcome) (w : Option Operating) (members : MemberSet) (sequence : ℕ) (ttl : Ticks)
@@ -186,8 +188,11 @@ request-quiet : (f : Outcome) (w : Option Operating) (members : MemberSet) (sequ
 request-quiet f w members sequence ttl None outs all = all
 request-quiet f w members sequence ttl (Some member) outs all =
     if-cases (λ (l : List Output). Says f l w) (has members member.number)
-    (with_output (outputs.Message (outgoing.Send (targets.Member member) sequence (bodies.FailsafeRequest ttl))) outs) outs
-    (λ _. said outs (outputs.Message (outgoing.Send (targets.Member member) sequence (bodies.FailsafeRequest ttl))) tt all) (λ _. all)
+    (with_output (outputs.Message (outgoing.Send (targets.Member member) sequence (bodies.FailsafeRequest ttl))) outs)
+    outs
+    (λ _.
+    said outs (outputs.Message (outgoing.Send (targets.Member member) sequence (bodies.FailsafeRequest ttl))) tt all)
+    (λ _. all)
 
 requests-quiet : (f : Outcome) (w : Option Operating) (members : MemberSet) (sequence : ℕ) (ttl : Ticks)
     (count : ℕ) (outs : List Output) → Says f outs w → Says f (requesting_first members sequence ttl count outs) w
@@ -312,7 +317,8 @@ disabled-quiet : (f : Outcome) (renews : Bool) (deadline : Option Ticks) {w : Op
     → Says f outs w → Says f (disabling_told renews deadline outs) w
 disabled-quiet f renews None outs all = all
 disabled-quiet f true (Some deadline) outs all =
-    said _ (outputs.Note (notings.Agent agent_notes.DisablesWatchdog)) tt (said outs (outputs.Watchdog feedings.Disarmed) tt all)
+    said _ (outputs.Note (notings.Agent agent_notes.DisablesWatchdog)) tt
+    (said outs (outputs.Watchdog feedings.Disarmed) tt all)
 disabled-quiet f false (Some deadline) outs all = said outs (outputs.Watchdog feedings.Disarmed) tt all
 
 unleased-quiet : (f : Outcome) (now ttl : Ticks) (revision : ℕ) (o : Outcome) → Quiet f o
@@ -405,16 +411,22 @@ NoneAnswered o = All NoAnswer o.outputs
 
 told-none : (o : Outcome) → NoneAnswered o → ReplyRows NoneAnswered o
 told-none o all =
-    record { kept = all; answers = λ request told. All-push NoAnswer o.outputs (outputs.Tell (tellings.Told request told)) all tt }
+    record {
+      kept = all;
+      answers = λ request told. All-push NoAnswer o.outputs (outputs.Tell (tellings.Told request told)) all tt;
+    }
 
 acts-none : (now : Ticks) (request : ℕ) (o : Outcome) → NoneAnswered o → ActRows NoneAnswered now request o
 acts-none now request o all = record {
   asks = λ operation txn _. All-push NoAnswer o.outputs _ all tt;
   restarts = λ told. All-push NoAnswer _ (outputs.Tell (tellings.Told request told))
       (All-push NoAnswer o.outputs (outputs.Server (orders.Restart (is_primary o.machine.server.state))) all tt) tt;
-  wipes = λ told. All-push NoAnswer _ (outputs.Tell (tellings.Told request told)) (All-push NoAnswer o.outputs (outputs.Server orders.Wipe) all tt) tt;
+  wipes = λ told. All-push NoAnswer _ (outputs.Tell (tellings.Told request told))
+      (All-push NoAnswer o.outputs (outputs.Server orders.Wipe) all tt) tt;
   holds = λ ttl told _. All-push NoAnswer _ (outputs.Tell (tellings.Told request told))
-      (All-push NoAnswer o.outputs (outputs.Tell (tellings.HoldTaken (span_after now ttl) o.knows.who.me unnumbered)) all tt) tt;
+      (All-push NoAnswer o.outputs
+      (outputs.Tell (tellings.HoldTaken (span_after now ttl) o.knows.who.me unnumbered)) all tt)
+      tt;
   refuses = λ told. All-push NoAnswer o.outputs (outputs.Tell (tellings.Told request told)) all tt;
 }
 
@@ -475,5 +487,6 @@ step-replies now points heard role knows machine = by heard
         (All-push (RepliesTo heard) b.outputs (outputs.Tell (tellings.HoldTaken (span_after now ttl) from sequence))
         (none-replies heard b none) tt)
         (refl, refl, refl))
-        (All-push (RepliesTo heard) b.outputs (outputs.Message (outgoing.FailsafeAnswer from incarnation sequence false))
+        (All-push (RepliesTo heard) b.outputs
+        (outputs.Message (outgoing.FailsafeAnswer from incarnation sequence false))
         (none-replies heard b none) (refl, refl, refl))

@@ -100,10 +100,13 @@ pub record AnswersWaiting (now : Ticks) (heard : Heard) (o after : Outcome) (ans
 -- restarts, or is wiped; the member holds on another one's request, or refuses to
 abbrev pub IsDoneIn : List Output → OperatorRequest → Told → Type 0
 IsDoneIn outs requests.Restart answer =
-    ((as_primary : Bool) × Contains outs (outputs.Server (orders.Restart as_primary))) × (answer ≡ tolds.Text ok texts.Restarted)
-IsDoneIn outs requests.Reinit answer = Contains outs (outputs.Server orders.Wipe) × (answer ≡ tolds.Text ok texts.ReinitializeStarted)
+    ((as_primary : Bool) × Contains outs (outputs.Server (orders.Restart as_primary)))
+    × (answer ≡ tolds.Text ok texts.Restarted)
+IsDoneIn outs requests.Reinit answer =
+    Contains outs (outputs.Server orders.Wipe) × (answer ≡ tolds.Text ok texts.ReinitializeStarted)
 IsDoneIn outs (requests.Hold from ttl) answer =
-    (((until : Ticks) × ((member : MemberId) × Contains outs (outputs.Tell (tellings.HoldTaken until member unnumbered)))) ×
+    (((until : Ticks) ×
+    ((member : MemberId) × Contains outs (outputs.Tell (tellings.HoldTaken until member unnumbered)))) ×
     (answer ≡ tolds.Text ok texts.Accepted))
     ⊎ (answer ≡ tolds.Text internal_server_error texts.Refused)
 IsDoneIn outs _ answer = ⊥
@@ -138,7 +141,8 @@ pub record IsAskedFor (now : Ticks) (action : OperatorAction) (o after : Outcome
   pub leader : waiting.leader ≡ holder_if o.knows.seen
   pub txn : Txn
   pub wish : IsWish action.asked waiting.operation txn
-  pub sent : Contains after.outputs (outputs.Message (outgoing.Send targets.Store waiting.sequence (bodies.Request txn)))
+  pub sent : Contains after.outputs
+      (outputs.Message (outgoing.Send targets.Store waiting.sequence (bodies.Request txn)))
 
 -- what waits is the request that is heard
 abbrev pub WaitsForHeard : Ticks → Heard → Outcome → Outcome → Operating → Type 0

@@ -21,7 +21,8 @@ IsFailsafeAskOf member incarnation sequence _ = ⊥
 
 -- an answer goes to the member that asks, under the incarnation and the number of its ask
 abbrev pub RepliesTo : Heard → Output → Type 0
-RepliesTo heard (outputs.Message (outgoing.Answer to incarnation sequence answer)) = IsAskOf to incarnation sequence heard
+RepliesTo heard (outputs.Message (outgoing.Answer to incarnation sequence answer)) =
+    IsAskOf to incarnation sequence heard
 RepliesTo heard (outputs.Message (outgoing.FailsafeAnswer to incarnation sequence accepted)) =
     IsFailsafeAskOf to incarnation sequence heard
 RepliesTo heard _ = Unit {0}

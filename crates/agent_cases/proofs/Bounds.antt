@@ -125,7 +125,8 @@ said-both sequence before first second asks also =
 disarmed-one : (sequence : ℕ) (deadline : Option Ticks) (before : List Output)
     → Grows 1 sequence sequence before (disarmed deadline before)
 disarmed-one sequence None before = none sequence before
-disarmed-one sequence (Some deadline) before = one sequence sequence before (outputs.Watchdog feedings.Disarmed) (omega arith) tt
+disarmed-one sequence (Some deadline) before =
+    one sequence sequence before (outputs.Watchdog feedings.Disarmed) (omega arith) tt
 
 disarmed-row : (sequence : ℕ) (deadline : Option Ticks) (before : List Output)
     → Grows 9 sequence sequence before (disarmed deadline before)
@@ -135,12 +136,14 @@ disarmed-row sequence deadline before =
 armed-one : (sequence : ℕ) (deadline : Option Ticks) (before : List Output)
     → Grows 1 sequence sequence before (armed deadline before)
 armed-one sequence None before = none sequence before
-armed-one sequence (Some deadline) before = one sequence sequence before (outputs.Watchdog (feedings.Armed deadline)) (omega arith) tt
+armed-one sequence (Some deadline) before =
+    one sequence sequence before (outputs.Watchdog (feedings.Armed deadline)) (omega arith) tt
 
 fed-one : (sequence : ℕ) (deadline : Option Ticks) (before : List Output)
     → Grows 1 sequence sequence before (fed_until deadline before)
 fed-one sequence None before = none sequence before
-fed-one sequence (Some deadline) before = one sequence sequence before (outputs.Watchdog (feedings.Fed deadline)) (omega arith) tt
+fed-one sequence (Some deadline) before =
+    one sequence sequence before (outputs.Watchdog (feedings.Fed deadline)) (omega arith) tt
 
 ended-row : (why : Why) (held : ℕ) (o : Outcome) → Row o (has_ended why held o)
 ended-row Lost held o = disarmed-row o.knows.sequence o.machine.watchdog.deadline o.outputs
@@ -181,9 +184,11 @@ hands-row : (now : Ticks) (held : ℕ) (candidate : MemberId) (o : Outcome) → 
 hands-row now held candidate o =
     grows-then 1 1 2 o.knows.sequence o.knows.sequence o.knows.sequence o.outputs
     (with_output (outputs.Note (notings.Agent (agent_notes.HandsOver candidate))) o.outputs) _ (omega arith)
-    (one o.knows.sequence o.knows.sequence o.outputs (outputs.Note (notings.Agent (agent_notes.HandsOver candidate))) (omega arith) tt)
+    (one o.knows.sequence o.knows.sequence o.outputs
+    (outputs.Note (notings.Agent (agent_notes.HandsOver candidate))) (omega arith) tt)
     (one o.knows.sequence o.knows.sequence
-    (with_output (outputs.Note (notings.Agent (agent_notes.HandsOver candidate))) o.outputs) (outputs.Server orders.ShutDown) (omega arith) tt)
+    (with_output (outputs.Note (notings.Agent (agent_notes.HandsOver candidate))) o.outputs)
+    (outputs.Server orders.ShutDown) (omega arith) tt)
 
 handover-rows : (now : Ticks) (held : ℕ) (o : Outcome) → HandoverRows (Brings 2 o) now held o
 handover-rows now held o = record {
@@ -239,7 +244,8 @@ operated-row now request (requests.Hold from ttl) o =
     (λ text _.
     grows-then 1 1 2 o.knows.sequence o.knows.sequence o.knows.sequence o.outputs held.outputs _ (omega arith)
     (one o.knows.sequence o.knows.sequence o.outputs
-    (outputs.Tell (tellings.HoldTaken (span_after now (record { 0 = ttl })) o.knows.who.me unnumbered)) (omega arith) tt)
+    (outputs.Tell (tellings.HoldTaken (span_after now (record { 0 = ttl })) o.knows.who.me unnumbered))
+    (omega arith) tt)
     (one o.knows.sequence o.knows.sequence held.outputs _ (omega arith) tt))
     (λ text. weaker 1 2 _ _ _ _ (omega arith) (one o.knows.sequence o.knows.sequence o.outputs _ (omega arith) tt))
   where
@@ -252,9 +258,14 @@ requested-few : (members : MemberSet) (sequence : ℕ) (ttl : Ticks) (member : O
 requested-few members sequence ttl None outs = omega arith
 requested-few members sequence ttl (Some member) outs =
     if-cases (λ (l : List Output). length l ≤ length outs + 1) (has members member.number)
-    (with_output (outputs.Message (outgoing.Send (targets.Member member) sequence (bodies.FailsafeRequest ttl))) outs) outs
+    (with_output (outputs.Message (outgoing.Send (targets.Member member) sequence (bodies.FailsafeRequest ttl))) outs)
+    outs
     (λ _.
-    omega (arith, length-append outs (outputs.Message (outgoing.Send (targets.Member member) sequence (bodies.FailsafeRequest ttl)) ∷ [])))
+    omega (
+      arith,
+      length-append outs
+          (outputs.Message (outgoing.Send (targets.Member member) sequence (bodies.FailsafeRequest ttl)) ∷ []),
+    ))
     (λ _. omega arith)
 
 requests-few : (members : MemberSet) (sequence : ℕ) (ttl : Ticks) (count : ℕ) (outs : List Output)
@@ -271,9 +282,11 @@ requested-short : (members : MemberSet) (sequence : ℕ) (ttl : Ticks) (member :
 requested-short members sequence ttl None outs few all = all
 requested-short members sequence ttl (Some member) outs few all =
     if-cases (λ (l : List Output). All AsksShortly l) (has members member.number)
-    (with_output (outputs.Message (outgoing.Send (targets.Member member) sequence (bodies.FailsafeRequest ttl))) outs) outs
+    (with_output (outputs.Message (outgoing.Send (targets.Member member) sequence (bodies.FailsafeRequest ttl))) outs)
+    outs
     (λ _.
-    All-push AsksShortly outs (outputs.Message (outgoing.Send (targets.Member member) sequence (bodies.FailsafeRequest ttl))) all few)
+    All-push AsksShortly outs
+    (outputs.Message (outgoing.Send (targets.Member member) sequence (bodies.FailsafeRequest ttl))) all few)
     (λ _. all)
 
 requests-short : (members : MemberSet) (sequence : ℕ) (ttl : Ticks) (count : ℕ) (outs : List Output)
@@ -357,8 +370,10 @@ asked-few : (who : Who) (sequence : ℕ) (member : Option MemberId) (outs : List
     → length (asking_one who sequence member outs) ≤ length outs + 1
 asked-few who sequence None outs = omega arith
 asked-few who sequence (Some member) outs = if-cases (λ (l : List Output). length l ≤ length outs + 1)
-    (is_other who member) (with_output (outputs.Message (outgoing.Send (targets.Member member) sequence bodies.Ask)) outs) outs
-    (λ _. omega (arith, length-append outs (outputs.Message (outgoing.Send (targets.Member member) sequence bodies.Ask) ∷ [])))
+    (is_other who member)
+    (with_output (outputs.Message (outgoing.Send (targets.Member member) sequence bodies.Ask)) outs) outs
+    (λ _. omega
+    (arith, length-append outs (outputs.Message (outgoing.Send (targets.Member member) sequence bodies.Ask) ∷ [])))
     (λ _. omega arith)
 
 asks-few : (who : Who) (sequence count : ℕ) (outs : List Output)
@@ -374,8 +389,11 @@ asked-short : (who : Who) (sequence : ℕ) (member : Option MemberId) (outs : Li
     → All AsksShortly outs → All AsksShortly (asking_one who sequence member outs)
 asked-short who sequence None outs all = all
 asked-short who sequence (Some member) outs all = if-cases (λ (l : List Output). All AsksShortly l)
-    (is_other who member) (with_output (outputs.Message (outgoing.Send (targets.Member member) sequence bodies.Ask)) outs) outs
-    (λ _. All-push AsksShortly outs (outputs.Message (outgoing.Send (targets.Member member) sequence bodies.Ask)) all tt) (λ _. all)
+    (is_other who member)
+    (with_output (outputs.Message (outgoing.Send (targets.Member member) sequence bodies.Ask)) outs) outs
+    (λ _.
+    All-push AsksShortly outs (outputs.Message (outgoing.Send (targets.Member member) sequence bodies.Ask)) all tt)
+    (λ _. all)
 
 asks-short : (who : Who) (sequence count : ℕ) (outs : List Output) → All AsksShortly outs
     → All AsksShortly (asking_first who sequence count outs)
@@ -432,7 +450,8 @@ got-row now points sequence snapshot o =
       follows = λ leader _ _. more _ _ _ _ (follow-row now leader.holder read);
       free = λ _ _. free-row now read;
       runs_on = λ _. more _ _ _ _
-          (said o.knows.sequence o.knows.sequence o.outputs (outputs.Note (notings.Agent agent_notes.RunsWithoutKey)) (omega arith) tt);
+          (said o.knows.sequence o.knows.sequence o.outputs
+          (outputs.Note (notings.Agent agent_notes.RunsWithoutKey)) (omega arith) tt);
       asks_on = λ _.
           more _ _ _ _ (said-both o.knows.sequence o.outputs _ _ tt (omega (arith, read.knows.settings.ttl_range)));
     })
@@ -455,7 +474,8 @@ refused-row now sequence o = refused-by (Row o) now sequence o (record {
   follower = λ held _. kept;
   ready = λ held _. postponed-row held (waiting_no_more o);
   runs_on =
-      λ _. said o.knows.sequence o.knows.sequence o.outputs (outputs.Note (notings.Agent agent_notes.RunsWithoutKey)) (omega arith) tt;
+      λ _. said o.knows.sequence o.knows.sequence o.outputs
+      (outputs.Note (notings.Agent agent_notes.RunsWithoutKey)) (omega arith) tt;
 })
 
 back-row : (held : ℕ) (o : Outcome) → Brings 1 o (gives_back held o)
@@ -486,7 +506,8 @@ cannot-row : (held : ℕ) (o : Outcome) → Row o (cannot_arm held o)
 cannot-row held o =
     grows-then 1 1 9 o.knows.sequence o.knows.sequence (o.knows.sequence + 1) o.outputs
     (with_output (outputs.Note (notings.Agent agent_notes.CannotArm)) o.outputs) _ (omega arith)
-    (one o.knows.sequence o.knows.sequence o.outputs (outputs.Note (notings.Agent agent_notes.CannotArm)) (omega arith) tt)
+    (one o.knows.sequence o.knows.sequence o.outputs (outputs.Note (notings.Agent agent_notes.CannotArm))
+    (omega arith) tt)
     (back-row held (record o { outputs = with_output (outputs.Note (notings.Agent agent_notes.CannotArm)) o.outputs }))
 
 arms-row : (now ttl : Ticks) (held : ℕ) (o : Outcome) → Row o (arms now ttl held o)
@@ -535,12 +556,15 @@ disabled-one : (sequence : ℕ) (renews : Bool) (deadline : Option Ticks) (befor
     → Grows 2 sequence sequence before (disabling_told renews deadline before)
 disabled-one sequence renews None before = weaker 1 2 _ _ _ _ (omega arith) (none sequence before)
 disabled-one sequence true (Some deadline) before =
-    grows-then 1 1 2 sequence sequence sequence before (with_output (outputs.Watchdog feedings.Disarmed) before) _ (omega arith)
+    grows-then 1 1 2 sequence sequence sequence before
+    (with_output (outputs.Watchdog feedings.Disarmed) before) _ (omega arith)
     (one sequence sequence before (outputs.Watchdog feedings.Disarmed) (omega arith) tt)
-    (one sequence sequence (with_output (outputs.Watchdog feedings.Disarmed) before) (outputs.Note (notings.Agent agent_notes.DisablesWatchdog))
+    (one sequence sequence (with_output (outputs.Watchdog feedings.Disarmed) before)
+    (outputs.Note (notings.Agent agent_notes.DisablesWatchdog))
     (omega arith) tt)
 disabled-one sequence false (Some deadline) before =
-    weaker 1 2 _ _ _ _ (omega arith) (one sequence sequence before (outputs.Watchdog feedings.Disarmed) (omega arith) tt)
+    weaker 1 2 _ _ _ _ (omega arith)
+    (one sequence sequence before (outputs.Watchdog feedings.Disarmed) (omega arith) tt)
 
 disabling-row : (renews : Bool) (o : Outcome) → Brings 2 o (disabling_watchdog renews o)
 disabling-row renews o = disabled-one o.knows.sequence renews o.machine.watchdog.deadline o.outputs
@@ -645,11 +669,13 @@ failsafe-asked-row : (now : Ticks) (from : MemberId) (incarnation sequence : ℕ
 failsafe-asked-row now from incarnation sequence ttl o = failsafe-asked-by (Row o) now from incarnation sequence ttl o
     (λ _. let held : Outcome = holding_for now from sequence ttl o in
     grows-then 1 1 9 o.knows.sequence o.knows.sequence o.knows.sequence o.outputs held.outputs _ (omega arith)
-    (one o.knows.sequence o.knows.sequence o.outputs (outputs.Tell (tellings.HoldTaken (span_after now ttl) from sequence))
+    (one o.knows.sequence o.knows.sequence o.outputs
+    (outputs.Tell (tellings.HoldTaken (span_after now ttl) from sequence))
     (omega arith) tt)
     (one o.knows.sequence o.knows.sequence held.outputs
     (outputs.Message (outgoing.FailsafeAnswer from incarnation sequence true)) (omega arith) tt))
-    (said o.knows.sequence o.knows.sequence o.outputs (outputs.Message (outgoing.FailsafeAnswer from incarnation sequence false))
+    (said o.knows.sequence o.knows.sequence o.outputs
+    (outputs.Message (outgoing.FailsafeAnswer from incarnation sequence false))
     (omega arith) tt)
 
 failsafe-answered-row : (now : Ticks) (from : MemberId) (sequence : ℕ) (accepted : Bool) (sent : Ticks) (o : Outcome)

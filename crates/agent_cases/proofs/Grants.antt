@@ -173,16 +173,19 @@ pub record PlanRows (P : Outcome → Type 0) (now : Ticks) (o : Outcome) : Type 
 switching-off : (P : Outcome → Type 0) (now : Ticks) (revision : ℕ) (read : Option SyncRead) (o : Outcome)
     → PlanRows P now o → P (switching_off now revision read o)
 switching-off P now revision None o rows = rows.kept
-switching-off P now revision (Some read) o rows = rows.writes ClearsList (txns.Sync (sync_txns.DropSync revision read.revision)) tt
+switching-off P now revision (Some read) o rows =
+    rows.writes ClearsList (txns.Sync (sync_txns.DropSync revision read.revision)) tt
 
 planned-as : (P : Outcome → Type 0) (now : Ticks) (revision : ℕ) (plan : Plan) (o : Outcome)
     → PlanRows P now o → P (planned_as now revision plan o)
 planned-as P now revision plans.Keep o rows = rows.kept
 planned-as P now revision plans.SwitchOff o rows = switching-off P now revision (sync_read_if o.knows.seen) o rows
 planned-as P now revision plans.Mark o rows =
-    rows.writes (NamesStandbys nobody) (txns.Sync (sync_txns.SetSync revision (expected_of (sync_read_if o.knows.seen)) nobody)) tt
+    rows.writes (NamesStandbys nobody)
+    (txns.Sync (sync_txns.SetSync revision (expected_of (sync_read_if o.knows.seen)) nobody)) tt
 planned-as P now revision (plans.Withdraw standbys) o rows =
-    rows.writes (NamesStandbys standbys) (txns.Sync (sync_txns.SetSync revision (expected_of (sync_read_if o.knows.seen)) standbys)) tt
+    rows.writes (NamesStandbys standbys)
+    (txns.Sync (sync_txns.SetSync revision (expected_of (sync_read_if o.knows.seen)) standbys)) tt
 planned-as P now revision (plans.AddRequired members) o rows = rows.adds (All members)
 planned-as P now revision (plans.Publish standbys) o rows =
     rows.writes KeepsList (txns.Sync (sync_txns.SetSync revision (expected_of (sync_read_if o.knows.seen)) standbys)) tt

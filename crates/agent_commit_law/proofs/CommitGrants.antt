@@ -163,7 +163,8 @@ pub publishes-lawful : {quorum : ℕ} (now : Ticks) (sequence : ℕ) (grant : Gr
     → IsWithin (set_members set) (set_members (required_members o.machine.replication.required))
     → ((n : ℕ) → set_members set n ≡ true → (set_members (published_in snapshot) n ≡ true) ⊎
     HasReached o.machine.replication.confirmed_positions (noted_position o.knows.noted) n)
-    → led.key.quorum ≤ quorum_written (txns.Sync (sync_txns.SetSync grant.revision (expected_of (sync_read_in snapshot)) set))
+    → led.key.quorum
+    ≤ quorum_written (txns.Sync (sync_txns.SetSync grant.revision (expected_of (sync_read_in snapshot)) set))
     → Lawful quorum now sequence grant snapshot s m input o
     (naming now grant.revision settling set (led_by b w grant.revision snapshot))
 publishes-lawful now sequence grant snapshot s m input o b w ground leased led leads settling set required each fewer

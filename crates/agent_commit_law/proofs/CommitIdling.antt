@@ -157,7 +157,8 @@ ended-idle : (told : Option SnapshotFacts) (why : Why) (held : ℕ) (o : Outcome
 ended-idle told HandOver held o =
     falls told o (has_ended HandOver held o) refl refl refl refl refl (waits-same o (has_ended HandOver held o) refl)
     (λ leads h q. quietly leads (disarmed o.machine.watchdog.deadline o.outputs)
-    (outputs.Message (outgoing.Send targets.Store (o.knows.sequence + 1) (bodies.Request (txns.Lease (lease_txns.Release held)))))
+    (outputs.Message (outgoing.Send targets.Store (o.knows.sequence + 1)
+    (bodies.Request (txns.Lease (lease_txns.Release held)))))
     (quiet-disarmed leads o.machine.watchdog.deadline o.outputs q) tt)
 ended-idle told Lost held o =
     falls told o (has_ended Lost held o) refl refl refl refl refl (waits-same o (has_ended Lost held o) refl)
@@ -186,7 +187,8 @@ pub postpones-idle : (told : Option SnapshotFacts) (held : ℕ) (o : Outcome) �
 postpones-idle told held o =
     falls told o (postpones held o) refl refl refl refl refl (waits-same o (postpones held o) refl)
     (λ leads h q. quietly leads (disarmed o.machine.watchdog.deadline o.outputs)
-    (outputs.Note (notings.Agent agent_notes.PostponesPromotion)) (quiet-disarmed leads o.machine.watchdog.deadline o.outputs q) tt)
+    (outputs.Note (notings.Agent agent_notes.PostponesPromotion))
+    (quiet-disarmed leads o.machine.watchdog.deadline o.outputs q) tt)
 
 touching-idle : (told : Option SnapshotFacts) (o : Outcome) → Idle told o (touching o)
 touching-idle told o = stays told o (touching o) refl refl refl refl (waits-same o (touching o) refl)
@@ -208,20 +210,24 @@ judged-idle told now o = judged-by (Idle told o) now o
 stop-idle : (told : Option SnapshotFacts) (now : Ticks) (reason : _) (o : Outcome)
     → Idle told o (ending_server now reason o)
 stop-idle told now reason o = stays told o (ending_server now reason o) refl refl refl refl
-    (waits-same o (ending_server now reason o) refl) (λ leads h q. quietly leads o.outputs (outputs.Server (orders.Stop reason)) q tt)
+    (waits-same o (ending_server now reason o) refl)
+    (λ leads h q. quietly leads o.outputs (outputs.Server (orders.Stop reason)) q tt)
 
 dropping-idle : (told : Option SnapshotFacts) (compared : ℕ) (o : Outcome) → Idle told o (dropping compared o)
 dropping-idle told compared o =
     stays told o (dropping compared o) refl refl refl refl (waits-same o (dropping compared o) refl)
     (λ leads h q. quietly leads o.outputs
-    (outputs.Message (outgoing.Send targets.Store (o.knows.sequence + 1) (bodies.Request (txns.Operators (operator_txns.DropFailover compared))))) q tt)
+    (outputs.Message (outgoing.Send targets.Store (o.knows.sequence + 1)
+    (bodies.Request (txns.Operators (operator_txns.DropFailover compared)))))
+    q tt)
 
 hands-over-idle : (told : Option SnapshotFacts) (now : Ticks) (held : ℕ) (candidate : MemberId) (o : Outcome)
     → Idle told o (hands_over now held candidate o)
 hands-over-idle told now held candidate o = falls told o (hands_over now held candidate o) refl refl refl refl refl
     (waits-same o (hands_over now held candidate o) refl)
     (λ leads h q. quietly leads (with_output (outputs.Note (notings.Agent (agent_notes.HandsOver candidate))) o.outputs)
-    (outputs.Server orders.ShutDown) (quietly leads o.outputs (outputs.Note (notings.Agent (agent_notes.HandsOver candidate))) q tt) tt)
+    (outputs.Server orders.ShutDown)
+    (quietly leads o.outputs (outputs.Note (notings.Agent (agent_notes.HandsOver candidate))) q tt) tt)
 
 -- a handover is judged behind another step
 handover-idle : (told : Option SnapshotFacts) (now : Ticks) (held : ℕ) (o x : Outcome) → Idle told o x
@@ -287,7 +293,8 @@ turn-idle told now o =
       reads =
           λ _.
           stays told o (reading now noted) refl refl refl refl (waits-new o (reading now noted) _ refl (omega arith))
-          (λ leads h q. quietly leads o.outputs (outputs.Message (outgoing.Send targets.Store (o.knows.sequence + 1) bodies.Read)) q tt);
+          (λ leads h q. quietly leads o.outputs
+          (outputs.Message (outgoing.Send targets.Store (o.knows.sequence + 1) bodies.Read)) q tt);
     })
 
 -- operators are answered
@@ -331,7 +338,8 @@ operated-idle told now request asked o = operated-by (Idle told o) now request a
   asks = λ operation txn is. let x : Outcome = operating now request operation (bodies.Request txn) o in
       stays told o x refl refl refl refl (waits-same o x refl)
       (λ leads h q. quietly leads o.outputs
-      (outputs.Message (outgoing.Send targets.Store (o.knows.sequence + 1) (bodies.Request txn))) q (operator-quiet leads txn is));
+      (outputs.Message (outgoing.Send targets.Store (o.knows.sequence + 1) (bodies.Request txn))) q
+      (operator-quiet leads txn is));
   restarts = λ answer. let x : Outcome = telling request answer (restarting now o) in
       stays told o x refl refl refl refl (waits-same o x refl)
       (λ leads h q. quietly leads (restarting now o).outputs (outputs.Tell (tellings.Told request answer))
@@ -339,12 +347,14 @@ operated-idle told now request asked o = operated-by (Idle told o) now request a
   wipes = λ answer. let x : Outcome = telling request answer (wiping o) in
       stays told o x refl refl refl refl (waits-same o x refl)
       (λ leads h q.
-      quietly leads (wiping o).outputs (outputs.Tell (tellings.Told request answer)) (quietly leads o.outputs (outputs.Server orders.Wipe) q tt) tt);
+      quietly leads (wiping o).outputs (outputs.Tell (tellings.Told request answer))
+      (quietly leads o.outputs (outputs.Server orders.Wipe) q tt) tt);
   holds = λ ttl answer _. let held : Outcome = holding_for now o.knows.who.me unnumbered ttl o in
       let x : Outcome = telling request answer held in
       stays told o x refl refl refl refl (waits-same o x refl)
       (λ leads h q. quietly leads held.outputs (outputs.Tell (tellings.Told request answer))
-      (quietly leads o.outputs (outputs.Tell (tellings.HoldTaken (span_after now ttl) o.knows.who.me unnumbered)) q tt) tt);
+      (quietly leads o.outputs (outputs.Tell (tellings.HoldTaken (span_after now ttl) o.knows.who.me unnumbered)) q tt)
+      tt);
   refuses = λ answer. let x : Outcome = telling request answer o in stays told o x refl refl refl refl
       (waits-same o x refl) (λ leads h q. quietly leads o.outputs (outputs.Tell (tellings.Told request answer)) q tt);
 })
@@ -387,7 +397,8 @@ follow-idle told now leader o = let x : Outcome = led_by_another o in
       noted = told-it.noted;
       turn = told-it.turn;
       waits = told-it.waits;
-      quiet = λ leads h q. quietly leads (touching row).outputs (outputs.Server (orders.Repair leader r)) (told-it.quiet leads h q) tt;
+      quiet = λ leads h q.
+          quietly leads (touching row).outputs (outputs.Server (orders.Repair leader r)) (told-it.quiet leads h q) tt;
     })
 
 pub free-idle : (told : Option SnapshotFacts) (now : Ticks) (o : Outcome) → Idle told o (finds_free now o)
@@ -475,7 +486,8 @@ got-idle now points sequence snapshot o = let read : Outcome = record o { knows 
       asks_on = λ _. let asks : Outcome = asks_as_unleased now read in
           behind asks
           (falls told read asks refl refl refl refl refl (waits-new read asks _ refl (omega arith))
-          (λ leads h q. quietly leads (with_output (outputs.Note (notings.Agent agent_notes.RunsWithoutKey)) o.outputs) _
+          (λ leads h q.
+          quietly leads (with_output (outputs.Note (notings.Agent agent_notes.RunsWithoutKey)) o.outputs) _
           (quietly leads o.outputs (outputs.Note (notings.Agent agent_notes.RunsWithoutKey)) q tt) refl));
     })
 
@@ -553,7 +565,8 @@ stay-asked-idle told now from incarnation sequence ttl o =
     (quietly leads o.outputs (outputs.Tell (tellings.HoldTaken (span_after now ttl) from sequence)) q tt) tt))
     (let x : Outcome = answering_failsafe from incarnation sequence false o in
     stays told o x refl refl refl refl (waits-same o x refl)
-    (λ leads h q. quietly leads o.outputs (outputs.Message (outgoing.FailsafeAnswer from incarnation sequence false)) q tt))
+    (λ leads h q.
+    quietly leads o.outputs (outputs.Message (outgoing.FailsafeAnswer from incarnation sequence false)) q tt))
 
 -- without a snapshot, whatever renewals may carry
 pub quiet-of : {o after : Outcome} (leads : Bool) → Idle None o after → All (Stands leads) o.outputs

@@ -144,20 +144,24 @@ last-stays quorum heard o x outs output asks is unbegun uncarried still form sen
 
 -- a question to the key store is the last output
 asks-stays : (quorum : ℕ) (heard : Heard) (o x : Outcome) (outs : List Output) (sequence : ℕ) (body : Body)
-    → AsksInSynchronousMode x.knows → x.outputs ≡ with_output (outputs.Message (outgoing.Send targets.Store sequence body)) outs
+    → AsksInSynchronousMode x.knows
+    → x.outputs ≡ with_output (outputs.Message (outgoing.Send targets.Store sequence body)) outs
     → is_carrying (outputs.Message (outgoing.Send targets.Store sequence body)) ≡ false → All IsCovered outs
     → ((count : ℕ) → KnowsBelow count heard o → IsSynchronousBody count quorum body)
     → StaysInSynchronousMode quorum heard o x
 asks-stays quorum heard o x outs sequence body asks is uncarried all sends =
-    last-stays quorum heard o x outs (outputs.Message (outgoing.Send targets.Store sequence body)) asks is refl uncarried
+    last-stays quorum heard o x outs
+    (outputs.Message (outgoing.Send targets.Store sequence body)) asks is refl uncarried
     (unasking false outs (covered false outs all)) (Ordered outs (Asks sequence body) [] all refl (sym is)) sends
 
 -- so is a claim, behind the note that the sync key doesn't name the member, if that is so
 claims-form : (o : Outcome) (sequence revision : ℕ) (sync : Expected) → All IsCovered o.outputs
-    → HasForm (with_output (outputs.Message (outgoing.Send targets.Store sequence (bodies.Request (txns.Sync (sync_txns.Claim revision sync)))))
+    → HasForm (with_output (outputs.Message (outgoing.Send targets.Store sequence
+    (bodies.Request (txns.Sync (sync_txns.Claim revision sync)))))
     (passing o).outputs)
 claims-form o sequence revision sync all =
-    let claim : Output = outputs.Message (outgoing.Send targets.Store sequence (bodies.Request (txns.Sync (sync_txns.Claim revision sync)))) in
+    let claim : Output = outputs.Message
+    (outgoing.Send targets.Store sequence (bodies.Request (txns.Sync (sync_txns.Claim revision sync)))) in
     passing-by (λ (outs : List Output). HasForm (with_output claim outs)) o
     (Ordered o.outputs (Asks sequence (bodies.Request (txns.Sync (sync_txns.Claim revision sync)))) [] all refl refl)
     (ClaimsOutsideSync o.outputs sequence revision sync all
@@ -214,8 +218,10 @@ module _ (quorum : ℕ) (now : Ticks) (sequence : ℕ) (grant : Granted) (snapsh
       asks-stays quorum Hears o x fed.outputs (b.knows.sequence + 1)
       (bodies.Request (txns.Sync (sync_txns.SetSync grant.revision (expected_of (sync_read_in snapshot)) set)))
       (asks-this x.knows _ refl (follows b.knows.turn_settings.synchronous_mode)) refl refl (w.covered all)
-      (λ count knows.
-      (below count knows, none-written (txns.Sync (sync_txns.SetSync grant.revision (expected_of (sync_read_in snapshot)) set)) quorum))
+      (λ count knows. (
+        below count knows,
+        none-written (txns.Sync (sync_txns.SetSync grant.revision (expected_of (sync_read_in snapshot)) set)) quorum,
+      ))
 
   nobody-below : (count n : ℕ) → set_members nobody n ≡ true → n < count
   nobody-below count n is = absurd (not-false (set_members nobody n) (no-members nobody refl n) is)
@@ -303,7 +309,8 @@ module _ (quorum : ℕ) (now : Ticks) (sequence : ℕ) (grant : Granted) (snapsh
             (quietly false (with_output (outputs.Note (notings.Agent agent_notes.CannotArm)) b.outputs) _
             (quietly false b.outputs (outputs.Note (notings.Agent agent_notes.CannotArm)) quiet tt) tt);
         claims = λ _. last-stays quorum Hears o claimed (passing arm).outputs
-            (outputs.Message (outgoing.Send targets.Store (b.knows.sequence + 1) (bodies.Request (txns.Sync (sync_txns.Claim revision read)))))
+            (outputs.Message (outgoing.Send targets.Store (b.knows.sequence + 1)
+            (bodies.Request (txns.Sync (sync_txns.Claim revision read)))))
             (asks-this claimed.knows _ refl tt) refl refl refl
             (passing-unasked false arm (covered false arm.outputs armed))
             (claims-form arm (b.knows.sequence + 1) revision read armed) (λ count below. tt);
@@ -321,7 +328,8 @@ module _ (quorum : ℕ) (now : Ticks) (sequence : ℕ) (grant : Granted) (snapsh
         one = last-one false o.knows.who.me.number o.knows.incarnation
             (with_output required b.outputs) (outputs.Server orders.Begin) asking-none;
         sends = λ count below. All-push (IsSynchronousOutput count quorum) (with_output required b.outputs)
-            (outputs.Server orders.Begin) (keeps-mode false count quorum (with_output required b.outputs) asking-none) tt;
+            (outputs.Server orders.Begin)
+            (keeps-mode false count quorum (with_output required b.outputs) asking-none) tt;
         form = Ordered b.outputs (Requires list) ((outputs.Server orders.Begin) ∷ []) all (inr refl)
             (sym (append_assoc b.outputs (required ∷ []) ((outputs.Server orders.Begin) ∷ [])));
         begins = λ _. subst (λ (server : ServerStatus). can_begin_on_claim server.was_primary server.state ≡ true)
@@ -429,7 +437,8 @@ data ReadForm (outs : List Output) : Type 0 where
   Alone : All (Stands false) outs → ReadForm outs
   AsksLast : (front : List Output) (sequence : ℕ) (txn : Txn) → All IsCovered front
       → ((count quorum : ℕ) → IsSynchronousTxn count quorum txn)
-      → outs ≡ with_output (outputs.Message (outgoing.Send targets.Store sequence (bodies.Request txn))) front → ReadForm outs
+      → outs ≡ with_output (outputs.Message (outgoing.Send targets.Store sequence (bodies.Request txn))) front
+      → ReadForm outs
 
 read-form : (now : Ticks) (points : List HistoryPoint) (sequence : ℕ) (snapshot : SnapshotFacts) (o : Outcome)
     → All IsCovered o.outputs → ReadForm (read_answered now points sequence snapshot o).outputs
@@ -448,9 +457,11 @@ read-form now points sequence snapshot o all =
       touches = ReadForm.Alone (quietly false o.outputs _ quiet tt);
       follows = λ leader _ _. ReadForm.Alone (quiet-of false (follow-idle None now leader.holder read) quiet);
       free = λ _ _. ReadForm.Alone (quiet-of false (free-idle None now read) quiet);
-      runs_on = λ _. ReadForm.Alone (quietly false o.outputs (outputs.Note (notings.Agent agent_notes.RunsWithoutKey)) quiet tt);
+      runs_on = λ _.
+          ReadForm.Alone (quietly false o.outputs (outputs.Note (notings.Agent agent_notes.RunsWithoutKey)) quiet tt);
       asks_on = λ _.
-          ReadForm.Alone (quietly false (with_output (outputs.Note (notings.Agent agent_notes.RunsWithoutKey)) o.outputs) _
+          ReadForm.Alone (quietly false
+          (with_output (outputs.Note (notings.Agent agent_notes.RunsWithoutKey)) o.outputs) _
           (quietly false o.outputs (outputs.Note (notings.Agent agent_notes.RunsWithoutKey)) quiet tt) refl);
     })
 

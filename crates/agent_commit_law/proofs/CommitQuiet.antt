@@ -74,7 +74,8 @@ no-set None is leads = tt
 no-set (Some members) is leads = absurd (none-some members (sym is))
 
 quieter-txn : (leads : Bool) (txn : Txn) → IsQuietTxn txn → QuietTxn leads txn
-quieter-txn leads (txns.Lease (lease_txns.Renew revision info ttl status row failsafe)) quiet = no-set failsafe quiet leads
+quieter-txn leads (txns.Lease (lease_txns.Renew revision info ttl status row failsafe)) quiet =
+    no-set failsafe quiet leads
 quieter-txn leads (txns.Lease (lease_txns.Create info ttl failsafe sync)) quiet = quiet
 quieter-txn leads (txns.Sync (sync_txns.Claim revision sync)) quiet = quiet
 quieter-txn leads (txns.Sync (sync_txns.SetSync revision sync standbys)) quiet = quiet
@@ -257,7 +258,8 @@ kept-body leads count quorum _ quiet = tt
 
 kept-output : (leads : Bool) (count quorum : ℕ) (output : Output) → IsUnasking leads output
     → IsSynchronousOutput count quorum output
-kept-output leads count quorum (outputs.Message (outgoing.Send to sequence body)) all = kept-body leads count quorum body all
+kept-output leads count quorum (outputs.Message (outgoing.Send to sequence body)) all =
+    kept-body leads count quorum body all
 kept-output leads count quorum _ all = tt
 
 pub keeps-mode : (leads : Bool) (count quorum : ℕ) (outs : List Output) → All (IsUnasking leads) outs
@@ -277,7 +279,9 @@ carried-txn leads None sequence revision info ttl status row may carries = absur
 
 carried-output : (leads : Bool) (output : Output) → IsUnasking leads output → is_carrying output ≡ true → leads ≡ true
 carried-output leads
-    (outputs.Message (outgoing.Send targets.Store sequence (bodies.Request (txns.Lease (lease_txns.Renew revision info ttl status row failsafe))))) all
+    (outputs.Message (outgoing.Send targets.Store sequence
+    (bodies.Request (txns.Lease (lease_txns.Renew revision info ttl status row failsafe)))))
+    all
     carries =
     carried-txn leads failsafe sequence revision info ttl status row all carries
 carried-output leads _ all carries = absurd (not-false false refl carries)
@@ -330,7 +334,8 @@ quietly leads outs output quiet more = All-push (Stands leads) outs output quiet
 pub passing-unasked : (leads : Bool) (o : Outcome) → All (Stands leads) o.outputs
     → All (IsUnasking leads) (passing o).outputs
 passing-unasked leads o quiet = let all : All (IsUnasking leads) o.outputs = unasking leads o.outputs quiet in
-    passing-by (All (IsUnasking leads)) o all (All-push (IsUnasking leads) o.outputs (outputs.Tell tellings.ClaimsOutsideSync) all tt)
+    passing-by (All (IsUnasking leads)) o all
+    (All-push (IsUnasking leads) o.outputs (outputs.Tell tellings.ClaimsOutsideSync) all tt)
 
 -- whom commits wait for is told behind them
 pub unasked : (leads : Bool) (outs : List Output) (required : Required) → All (Stands leads) outs
@@ -344,11 +349,13 @@ module _ (P : Output → Type 0) (outs : List Output) (all : All P outs) where
   all-disarmed None is = all
   all-disarmed (Some deadline) is = All-push P outs (outputs.Watchdog feedings.Disarmed) all is
 
-  pub all-armed : (deadline : Option Ticks) → ((until : Ticks) → P (outputs.Watchdog (feedings.Armed until))) → All P (armed deadline outs)
+  pub all-armed : (deadline : Option Ticks) → ((until : Ticks) → P (outputs.Watchdog (feedings.Armed until)))
+      → All P (armed deadline outs)
   all-armed None is = all
   all-armed (Some deadline) is = All-push P outs (outputs.Watchdog (feedings.Armed deadline)) all (is deadline)
 
-  pub all-fed : (deadline : Option Ticks) → ((until : Ticks) → P (outputs.Watchdog (feedings.Fed until))) → All P (fed_until deadline outs)
+  pub all-fed : (deadline : Option Ticks) → ((until : Ticks) → P (outputs.Watchdog (feedings.Fed until)))
+      → All P (fed_until deadline outs)
   all-fed None is = all
   all-fed (Some deadline) is = All-push P outs (outputs.Watchdog (feedings.Fed deadline)) all (is deadline)
 
@@ -371,7 +378,8 @@ ask-quiet leads who sequence None outs quiet = quiet
 ask-quiet leads who sequence (Some member) outs quiet =
     if-cases (All (Stands leads)) (is_other who member)
     (with_output (outputs.Message (outgoing.Send (targets.Member member) sequence bodies.Ask)) outs) outs
-    (λ _. quietly leads outs (outputs.Message (outgoing.Send (targets.Member member) sequence bodies.Ask)) quiet tt) (λ _. quiet)
+    (λ _. quietly leads outs (outputs.Message (outgoing.Send (targets.Member member) sequence bodies.Ask)) quiet tt)
+    (λ _. quiet)
 
 pub asks-quiet : (leads : Bool) (who : Who) (sequence count : ℕ) (outs : List Output)
     → All (Stands leads) outs → All (Stands leads) (asking_first who sequence count outs)
@@ -392,8 +400,10 @@ request-quiet : (leads : Bool) (members : MemberSet) (sequence : ℕ) (ttl : Tic
 request-quiet leads members sequence ttl None outs quiet = quiet
 request-quiet leads members sequence ttl (Some member) outs quiet =
     if-cases (All (Stands leads)) (has members member.number)
-    (with_output (outputs.Message (outgoing.Send (targets.Member member) sequence (bodies.FailsafeRequest ttl))) outs) outs
-    (λ _. quietly leads outs (outputs.Message (outgoing.Send (targets.Member member) sequence (bodies.FailsafeRequest ttl))) quiet tt)
+    (with_output (outputs.Message (outgoing.Send (targets.Member member) sequence (bodies.FailsafeRequest ttl))) outs)
+    outs
+    (λ _. quietly leads outs
+    (outputs.Message (outgoing.Send (targets.Member member) sequence (bodies.FailsafeRequest ttl))) quiet tt)
     (λ _. quiet)
 
 pub requests-quiet : (leads : Bool) (members : MemberSet) (sequence : ℕ) (ttl : Ticks) (count : ℕ) (outs : List Output)
@@ -413,6 +423,8 @@ fed-quiet leads (Some until) members sequence since outs quiet =
 
 pub staying-quiet : (leads : Bool) (deadline : Option Ticks) (members : MemberSet) (sequence : ℕ)
     (since : Ticks) (outs : List Output) → All (Stands leads) outs
-    → All (Stands leads) (with_output (outputs.Note notings.StaysByFailsafe) (fed_by_failsafe deadline members sequence since outs))
+    → All (Stands leads)
+    (with_output (outputs.Note notings.StaysByFailsafe) (fed_by_failsafe deadline members sequence since outs))
 staying-quiet leads deadline members sequence since outs quiet =
-    quietly leads _ (outputs.Note notings.StaysByFailsafe) (fed-quiet leads deadline members sequence since outs quiet) tt
+    quietly leads _ (outputs.Note notings.StaysByFailsafe)
+    (fed-quiet leads deadline members sequence since outs quiet) tt

@@ -194,7 +194,8 @@ request_of_body m incarnation sequence _ = None
 
 -- the same of an output
 abbrev pub request_of : ℕ → ℕ → Output → Option SyncRequest
-request_of m incarnation (outputs.Message (outgoing.Send targets.Store sequence body)) = request_of_body m incarnation sequence body
+request_of m incarnation (outputs.Message (outgoing.Send targets.Store sequence body)) =
+    request_of_body m incarnation sequence body
 request_of m incarnation _ = None
 
 -- the requests among these outputs that compare the sync key
@@ -231,7 +232,8 @@ IsSynchronousBody count quorum _ = Unit {0}
 
 -- the same of an output
 abbrev pub IsSynchronousOutput : ℕ → ℕ → Output → Type 0
-IsSynchronousOutput count quorum (outputs.Message (outgoing.Send to sequence body)) = IsSynchronousBody count quorum body
+IsSynchronousOutput count quorum (outputs.Message (outgoing.Send to sequence body)) =
+    IsSynchronousBody count quorum body
 IsSynchronousOutput count quorum _ = Unit {0}
 
 -- the standbys that the sync key of a snapshot names have numbers below this one
@@ -287,7 +289,8 @@ StandsAlone _ = Unit {0}
 -- the output asks for a renewal that carries a set for the failsafe key
 abbrev pub is_carrying : Output → Bool
 is_carrying
-    (outputs.Message (outgoing.Send targets.Store sequence (bodies.Request (txns.Lease (lease_txns.Renew revision info ttl status row (Some members)))))) =
+    (outputs.Message (outgoing.Send targets.Store sequence
+    (bodies.Request (txns.Lease (lease_txns.Renew revision info ttl status row (Some members)))))) =
     true
 is_carrying _ = false
 
@@ -320,7 +323,9 @@ pub data HasForm (outs : List Output) : Type 0 where
   ClaimsOutsideSync : (front : List Output) → (sequence revision : ℕ) → (sync : Expected)
       → (covered : All IsCovered front)
       → (whole : front ++ (outputs.Tell tellings.ClaimsOutsideSync)
-      ∷ outputs.Message (outgoing.Send targets.Store sequence (bodies.Request (txns.Sync (sync_txns.Claim revision sync)))) ∷ []
+      ∷ outputs.Message (outgoing.Send targets.Store sequence
+      (bodies.Request (txns.Sync (sync_txns.Claim revision sync))))
+      ∷ []
       ≡ outs)
       → HasForm outs
 

@@ -124,13 +124,15 @@ silent-begins P outs silent = never P [] outs (All-weaker IsSilent (BeginsOnly �
 gives-back-begins : (P : List Output → Type 0) (revision : ℕ) (b : Outcome) → All IsSilent b.outputs
     → OutputsBeginBehind P [] (gives_back revision b).outputs
 gives-back-begins P revision b silent = behind-push P [] b.outputs
-    (outputs.Message (outgoing.Send targets.Store (b.knows.sequence + 1) (bodies.Request (txns.Lease (lease_txns.Release revision)))))
+    (outputs.Message (outgoing.Send targets.Store (b.knows.sequence + 1)
+    (bodies.Request (txns.Lease (lease_txns.Release revision)))))
     (silent-begins P b.outputs silent) (λ all is. tt)
 
 cannot-arm-begins : (P : List Output → Type 0) (revision : ℕ) (b : Outcome) → All IsSilent b.outputs
     → OutputsBeginBehind P [] (cannot_arm revision b).outputs
 cannot-arm-begins P revision b silent =
-    gives-back-begins P revision (record b { outputs = with_output (outputs.Note (notings.Agent agent_notes.CannotArm)) b.outputs })
+    gives-back-begins P revision
+    (record b { outputs = with_output (outputs.Note (notings.Agent agent_notes.CannotArm)) b.outputs })
     (silently b.outputs (outputs.Note (notings.Agent agent_notes.CannotArm)) silent tt)
 
 -- what a leader does behind silent outputs lets no server begin

@@ -128,12 +128,13 @@ txn-query : (s : State) (m runs : ℕ) (input : AgentInput) (G : Grounds) (o aft
     → MayTransact G o after sequence txn → MayQuery s m input (was_of o) (was_of after) sequence (query_of txn)
 txn-query s m runs input G o after sequence seen grounds (txns.Lease (lease_txns.Create info ttl failsafe sync)) may =
     grounds.creates failsafe may
-txn-query s m runs input G o after sequence seen grounds (txns.Lease (lease_txns.Renew revision info ttl status row failsafe)) may = (
-  subst (λ (x : ℕ). leader_seen_if after.knows.seen ≡ Some (record { holder = x; revision = revision }))
-      seen.me may.0,
-  may.1,
-  carry-set s runs input after sequence seen.machine seen.mode may.1 failsafe may.2,
-)
+txn-query s m runs input G o after sequence seen grounds
+    (txns.Lease (lease_txns.Renew revision info ttl status row failsafe)) may = (
+      subst (λ (x : ℕ). leader_seen_if after.knows.seen ≡ Some (record { holder = x; revision = revision }))
+          seen.me may.0,
+      may.1,
+      carry-set s runs input after sequence seen.machine seen.mode may.1 failsafe may.2,
+    )
 txn-query s m runs input G o after sequence seen grounds (txns.Lease (lease_txns.Release revision)) may =
     (λ a. may.0 (acts-seen input.machine runs after seen.machine a), owns-either may.1)
   where
@@ -195,7 +196,8 @@ sent-may s m runs input G o after flying seen grounds all (AsksStore sequence bo
 sent-may s m runs input G o after flying seen grounds all (AsksMember to sequence ttl among is) =
     subst (λ (x : Flying). MaySend s m input (was_of o) (was_of after) x) (sym is)
     (grounds.requests sequence ttl
-    (put-among G o after (outputs.Message (outgoing.Send (targets.Member to) sequence (bodies.FailsafeRequest ttl))) all among).2)
+    (put-among G o after
+    (outputs.Message (outgoing.Send (targets.Member to) sequence (bodies.FailsafeRequest ttl))) all among).2)
 sent-may s m runs input G o after flying seen grounds all (SaysYes to run sequence among is) =
     subst (λ (x : Flying). MaySend s m input (was_of o) (was_of after) x) (sym is)
     (grounds.acknowledges to run sequence
@@ -316,7 +318,8 @@ ready-left s m runs now o after stands brings basis ready = basis ∙ stands.rea
 silent-yes : (G : Grounds) (o after : Outcome)
     → ((to : MemberId) (run sequence : ℕ) → G.acknowledges to run sequence → ⊥) → (output : Output)
     → MayPut G o after output → is_yes output ≡ false
-silent-yes G o after none (outputs.Message (outgoing.FailsafeAnswer to run sequence accepted)) may = refuses accepted may
+silent-yes G o after none (outputs.Message (outgoing.FailsafeAnswer to run sequence accepted)) may =
+    refuses accepted may
   where
     refuses : (accepted : Bool) → (accepted ≡ true → G.acknowledges to run sequence) → accepted ≡ false
     refuses true may = absurd (none to run sequence (may refl))

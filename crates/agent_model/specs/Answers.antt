@@ -42,7 +42,8 @@ is_other who member = nat_lt member.number who.members && not (member.number == 
 abbrev pub asking_one : Who → ℕ → Option MemberId → List Output → List Output
 asking_one who sequence None out = out
 asking_one who sequence (Some member) out =
-    if is_other who member then with_output (outputs.Message (outgoing.Send (targets.Member member) sequence bodies.Ask)) out else out
+    if is_other who member
+    then with_output (outputs.Message (outgoing.Send (targets.Member member) sequence bodies.Ask)) out else out
 
 -- the asks to the other members among so many first ones, in the order
 -- in which the script declares them, all under one number

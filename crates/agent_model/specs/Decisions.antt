@@ -99,7 +99,8 @@ gives_back revision o = record (releasing revision o) { role = Follower }
 -- nobody begins whose watchdog can't be armed
 abbrev pub cannot_arm : ℕ → Outcome → Outcome
 cannot_arm revision o =
-    gives_back revision (record o { outputs = with_output (outputs.Note (notings.Agent agent_notes.CannotArm)) o.outputs })
+    gives_back revision
+    (record o { outputs = with_output (outputs.Note (notings.Agent agent_notes.CannotArm)) o.outputs })
 
 -- nobody begins without an armed watchdog, where the member needs one
 abbrev pub arms : Ticks → Ticks → ℕ → Outcome → Outcome

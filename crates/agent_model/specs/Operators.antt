@@ -130,7 +130,8 @@ abbrev pub operated : Ticks → ℕ → OperatorRequest → Outcome → Outcome
 operated now request (requests.Failover kind failover) o = operating now request (FailingOver kind)
     (bodies.Request (txns.Operators (operator_txns.SetFailover failover (lease_span o.knows.settings)))) o
 operated now request (requests.Configuration config) o =
-    operating now request Configuring (bodies.Request (txns.Operators (operator_txns.SetConfig (config_revision o.knows.seen) config))) o
+    operating now request Configuring
+    (bodies.Request (txns.Operators (operator_txns.SetConfig (config_revision o.knows.seen) config))) o
 operated now request requests.Restart o = telling request (tolds.Text ok texts.Restarted) (restarting now o)
 operated now request requests.Reinit o = telling request (tolds.Text ok texts.ReinitializeStarted) (wiping o)
 operated now request (requests.Hold from ttl) o = asked_to_hold now request (record { 0 = ttl }) o

@@ -39,13 +39,17 @@ ends_forks settings = not (settings.use_pg_rewind || settings.pause)
 -- a primary runs on without the leader key
 abbrev pub running_without_key : Outcome → Outcome
 running_without_key o =
-    record o { role = Unleased; outputs = with_output (outputs.Note (notings.Agent agent_notes.RunsWithoutKey)) o.outputs }
+    record o {
+      role = Unleased;
+      outputs = with_output (outputs.Note (notings.Agent agent_notes.RunsWithoutKey)) o.outputs;
+    }
 
 -- a deadline that is removed is told; where that comes of a renewal, it is noted besides
 abbrev pub disabling_told : Bool → Option Ticks → List Output → List Output
 disabling_told renews None out = out
 disabling_told true (Some deadline) out =
-    with_output (outputs.Note (notings.Agent agent_notes.DisablesWatchdog)) (with_output (outputs.Watchdog feedings.Disarmed) out)
+    with_output (outputs.Note (notings.Agent agent_notes.DisablesWatchdog))
+    (with_output (outputs.Watchdog feedings.Disarmed) out)
 disabling_told false (Some deadline) out = with_output (outputs.Watchdog feedings.Disarmed) out
 
 -- a member leads without a watchdog: its deadline is removed, on a renewal or on the grant of a free key

@@ -20,7 +20,9 @@ use Rattle.agent_model.specs.Racing.{judged}
 abbrev pub asked : MemberId → ℕ → ℕ → Outcome → Outcome
 asked from incarnation sequence o = record o {
   outputs =
-      with_output (outputs.Message (outgoing.Answer from incarnation sequence (peer_answer_of o.knows.who o.machine.server))) o.outputs;
+      with_output
+      (outputs.Message (outgoing.Answer from incarnation sequence (peer_answer_of o.knows.who o.machine.server)))
+      o.outputs;
 }
 
 -- a question to the other members in a race

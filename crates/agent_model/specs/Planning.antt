@@ -43,12 +43,14 @@ writing_sync now settling txn o =
 -- it asks that these be the standbys in the sync key, as that was read last
 abbrev pub naming : Ticks → ℕ → Settling → MemberSet → Outcome → Outcome
 naming now revision settling standbys o =
-    writing_sync now settling (txns.Sync (sync_txns.SetSync revision (expected_of (sync_read_if o.knows.seen)) standbys)) o
+    writing_sync now settling
+    (txns.Sync (sync_txns.SetSync revision (expected_of (sync_read_if o.knows.seen)) standbys)) o
 
 -- it asks that the sync key be removed, which was read so
 abbrev pub switching_off : Ticks → ℕ → Option SyncRead → Outcome → Outcome
 switching_off now revision None o = o
-switching_off now revision (Some read) o = writing_sync now ClearsList (txns.Sync (sync_txns.DropSync revision read.revision)) o
+switching_off now revision (Some read) o =
+    writing_sync now ClearsList (txns.Sync (sync_txns.DropSync revision read.revision)) o
 
 -- the end of the log is noted: who becomes a standby from now on must have confirmed it first
 abbrev pub noting : Outcome → Outcome

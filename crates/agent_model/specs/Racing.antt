@@ -54,7 +54,8 @@ creating now o = asking now Creating (seconds_after now o.knows.settings.retry_t
 
 -- a member that is barred tells by what, and tells of itself
 abbrev pub barred : Ineligibility → Outcome → Outcome
-barred bar o = touching (record o { outputs = with_output (outputs.Note (notings.Agent (agent_notes.DoesNotRace bar))) o.outputs })
+barred bar o =
+    touching (record o { outputs = with_output (outputs.Note (notings.Agent (agent_notes.DoesNotRace bar))) o.outputs })
 
 -- what the last turn read that a race is judged by: the failover key,
 -- and the sync key where the synchronous mode is active

@@ -42,7 +42,8 @@ others_known knows = without_member knows.known knows.who.me
 abbrev pub requesting_one : MemberSet → ℕ → Ticks → Option MemberId → List Output → List Output
 requesting_one members sequence ttl None out = out
 requesting_one members sequence ttl (Some member) out = if has members member.number
-    then with_output (outputs.Message (outgoing.Send (targets.Member member) sequence (bodies.FailsafeRequest ttl))) out else out
+    then with_output
+    (outputs.Message (outgoing.Send (targets.Member member) sequence (bodies.FailsafeRequest ttl))) out else out
 
 -- the failsafe requests to those of the set among so many first members, all under one number
 abbrev pub requesting_first : MemberSet → ℕ → Ticks → ℕ → List Output → List Output

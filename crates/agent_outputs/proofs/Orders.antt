@@ -132,7 +132,8 @@ repaired-out now start leader repair o r = record {
 disarms : (now : Ticks) (start machine : Machine) (outs : List Output) (deadline : Option Ticks)
     → machine.watchdog.deadline ≡ deadline → Reached now start machine outs
     → Reached now start (without_deadline machine) (disarmed deadline outs)
-disarms now start machine outs (Some deadline) is r = one-more now start machine outs (outputs.Watchdog feedings.Disarmed) tt r
+disarms now start machine outs (Some deadline) is r =
+    one-more now start machine outs (outputs.Watchdog feedings.Disarmed) tt r
 disarms now start machine outs None is r = subst (λ (x : Machine). Reached now start x outs)
     (ap (λ (d : Option Ticks). record machine { watchdog = record machine.watchdog { deadline = d } }) is) r
 
@@ -151,7 +152,8 @@ arms-it : (now : Ticks) (start machine : Machine) (outs : List Output) (until : 
       watchdog = if armable then record machine.watchdog { deadline = Some until } else machine.watchdog;
       by_failsafe = not armable && machine.by_failsafe;
     }) (armed (if armable then Some until else None) outs)
-arms-it now start machine outs until true r = one-more now start machine outs (outputs.Watchdog (feedings.Armed until)) tt r
+arms-it now start machine outs until true r =
+    one-more now start machine outs (outputs.Watchdog (feedings.Armed until)) tt r
 arms-it now start machine outs until false r = r
 
 stays-fed : (now : Ticks) (start machine : Machine) (outs : List Output) (until : Ticks) (members : MemberSet)
@@ -173,7 +175,8 @@ disarm-reaches now start o r = disarms now start o.machine o.outputs o.machine.w
 send-reaches : (now : Ticks) (start : Machine) (body : Body) (o : Outcome) → Reaches now start o
     → Reaches now start (sending body o)
 send-reaches now start body o r =
-    one-more now start o.machine o.outputs (outputs.Message (outgoing.Send targets.Store (o.knows.sequence + 1) body)) tt r
+    one-more now start o.machine o.outputs
+    (outputs.Message (outgoing.Send targets.Store (o.knows.sequence + 1) body)) tt r
 
 touch-reaches : (now : Ticks) (start : Machine) (o : Outcome) → Reaches now start o → Reaches now start (touching o)
 touch-reaches now start o r = one-more now start o.machine o.outputs _ tt r
@@ -184,11 +187,13 @@ end-reaches now start reason o r = one-more now start o.machine o.outputs (outpu
 
 start-reaches : (now : Ticks) (start : Machine) (leader : Option MemberId) (o : Outcome) → Reaches now start o
     → Reaches now start (starting_replica now leader o)
-start-reaches now start leader o r = one-more now start o.machine o.outputs (outputs.Server (orders.StartReplica leader)) tt r
+start-reaches now start leader o r =
+    one-more now start o.machine o.outputs (outputs.Server (orders.StartReplica leader)) tt r
 
 follow-one-reaches : (now : Ticks) (start : Machine) (leader : MemberId) (o : Outcome) → Reaches now start o
     → Reaches now start (following_server leader o)
-follow-one-reaches now start leader o r = one-more now start o.machine o.outputs (outputs.Server (orders.Follow leader)) tt r
+follow-one-reaches now start leader o r =
+    one-more now start o.machine o.outputs (outputs.Server (orders.Follow leader)) tt r
 
 feed-reaches : (now ttl : Ticks) (start : Machine) (o : Outcome) → Reaches now start o
     → Reaches now start (feeding now ttl o)
@@ -222,7 +227,10 @@ before-reaches now start o r = before-by (Reaches now start) now o (record {
 judged-reaches : (now : Ticks) (start : Machine) (o : Outcome) → Reaches now start o → Reaches now start (judged now o)
 judged-reaches now start o r = judged-by (Reaches now start) now o (one-more now start o.machine o.outputs _ tt r)
     (λ bar. touch-reaches now start
-    (record (waiting_no_more o) { outputs = with_output (outputs.Note (notings.Agent (agent_notes.DoesNotRace bar))) o.outputs })
+    (record (waiting_no_more o) {
+      outputs =
+          with_output (outputs.Note (notings.Agent (agent_notes.DoesNotRace bar))) o.outputs;
+    })
     (one-more now start o.machine o.outputs (outputs.Note (notings.Agent (agent_notes.DoesNotRace bar))) tt r))
 
 -- asks of other members leave the machine alone
@@ -233,7 +241,9 @@ ask-reaches now start machine who sequence None outs r = r
 ask-reaches now start machine who sequence (Some member) outs r =
     if-cases (Reached now start machine) (is_other who member)
     (with_output (outputs.Message (outgoing.Send (targets.Member member) sequence bodies.Ask)) outs) outs
-    (λ _. one-more now start machine outs (outputs.Message (outgoing.Send (targets.Member member) sequence bodies.Ask)) tt r) (λ _. r)
+    (λ _.
+    one-more now start machine outs (outputs.Message (outgoing.Send (targets.Member member) sequence bodies.Ask)) tt r)
+    (λ _. r)
 
 asks-reach : (now : Ticks) (start machine : Machine) (who : Who) (sequence count : ℕ) (outs : List Output)
     → Reached now start machine outs → Reached now start machine (asking_first who sequence count outs)
@@ -259,7 +269,10 @@ handover-rows now start revision o r = record {
   kept = r;
   clears = λ compared. send-reaches now start _ (waiting_no_more o) r;
   hands = λ candidate. shut-reaches now start
-      (record (waiting_no_more o) { outputs = with_output (outputs.Note (notings.Agent (agent_notes.HandsOver candidate))) o.outputs })
+      (record (waiting_no_more o) {
+        outputs =
+            with_output (outputs.Note (notings.Agent (agent_notes.HandsOver candidate))) o.outputs;
+      })
       (one-more now start o.machine o.outputs (outputs.Note (notings.Agent (agent_notes.HandsOver candidate))) tt r);
 }
 
@@ -285,9 +298,11 @@ request-reaches : (now : Ticks) (start machine : Machine) (members : MemberSet) 
 request-reaches now start machine members sequence ttl None outs r = r
 request-reaches now start machine members sequence ttl (Some member) outs r =
     if-cases (Reached now start machine) (has members member.number)
-    (with_output (outputs.Message (outgoing.Send (targets.Member member) sequence (bodies.FailsafeRequest ttl))) outs) outs
+    (with_output (outputs.Message (outgoing.Send (targets.Member member) sequence (bodies.FailsafeRequest ttl))) outs)
+    outs
     (λ _.
-    one-more now start machine outs (outputs.Message (outgoing.Send (targets.Member member) sequence (bodies.FailsafeRequest ttl))) tt r)
+    one-more now start machine outs
+    (outputs.Message (outgoing.Send (targets.Member member) sequence (bodies.FailsafeRequest ttl))) tt r)
     (λ _. r)
 
 requests-reach : (now : Ticks) (start machine : Machine) (members : MemberSet) (sequence : ℕ) (ttl : Ticks)
@@ -380,7 +395,8 @@ answered-reaches now start sequence answer o r = answered-by (Reaches now start)
 -- a primary runs on without the leader key
 run-reaches : (now : Ticks) (start : Machine) (o : Outcome) → Reaches now start o
     → Reaches now start (running_without_key o)
-run-reaches now start o r = one-more now start o.machine o.outputs (outputs.Note (notings.Agent agent_notes.RunsWithoutKey)) tt r
+run-reaches now start o r =
+    one-more now start o.machine o.outputs (outputs.Note (notings.Agent agent_notes.RunsWithoutKey)) tt r
 
 got-carries : (now : Ticks) (points : List HistoryPoint) (start : Machine) (sequence : ℕ) (snapshot : SnapshotFacts)
     (o : Outcome) → Reaches now start o → IsCarriedOut now start (read_answered now points sequence snapshot o)
@@ -462,7 +478,8 @@ unleased-reaches now ttl start revision o r =
 begin-reaches : (now : Ticks) (start : Machine) (revision : ℕ) (o : Outcome) → Reaches now start o
     → Reaches now start (begins now revision o)
 begin-reaches now start revision o r = let waits : Outcome = requiring (unnamed o.knows.turn_settings) o in one-more now
-    start waits.machine waits.outputs (outputs.Server orders.Begin) tt (require-reaches now start (unnamed o.knows.turn_settings) o r)
+    start waits.machine waits.outputs (outputs.Server orders.Begin) tt
+    (require-reaches now start (unnamed o.knows.turn_settings) o r)
 
 passing-reaches : (now : Ticks) (start : Machine) (o : Outcome) → Reaches now start o → Reaches now start (passing o)
 passing-reaches now start o r = passing-by (λ (outs : List Output). Reached now start o.machine outs) o r
@@ -470,9 +487,10 @@ passing-reaches now start o r = passing-by (λ (outs : List Output). Reached now
 
 cannot-reaches : (now : Ticks) (start : Machine) (revision : ℕ) (o : Outcome) → Reaches now start o
     → Reaches now start (cannot_arm revision o)
-cannot-reaches now start revision o r = send-reaches now start (bodies.Request (txns.Lease (lease_txns.Release revision))) (record o {
-  outputs = with_output (outputs.Note (notings.Agent agent_notes.CannotArm)) o.outputs;
-}) (one-more now start o.machine o.outputs (outputs.Note (notings.Agent agent_notes.CannotArm)) tt r)
+cannot-reaches now start revision o r =
+    send-reaches now start (bodies.Request (txns.Lease (lease_txns.Release revision))) (record o {
+      outputs = with_output (outputs.Note (notings.Agent agent_notes.CannotArm)) o.outputs;
+    }) (one-more now start o.machine o.outputs (outputs.Note (notings.Agent agent_notes.CannotArm)) tt r)
 
 arms-reaches : (now ttl : Ticks) (start : Machine) (revision : ℕ) (o : Outcome) → Reaches now start o
     → Reaches now start (arms now ttl revision o)
@@ -535,13 +553,17 @@ act-rows : (now : Ticks) (start : Machine) (request : ℕ) (o : Outcome) → Rea
 act-rows now start request o r = record {
   asks = λ operation txn _. send-reaches now start (bodies.Request txn) o r;
   restarts =
-      λ told. one-more now start (restarting now o).machine (restarting now o).outputs (outputs.Tell (tellings.Told request told)) tt
-      (one-more now start o.machine o.outputs (outputs.Server (orders.Restart (is_primary o.machine.server.state))) tt r);
-  wipes = λ told. one-more now start (wiping o).machine (wiping o).outputs (outputs.Tell (tellings.Told request told)) tt
+      λ told. one-more now start (restarting now o).machine (restarting now o).outputs
+      (outputs.Tell (tellings.Told request told)) tt
+      (one-more now start o.machine o.outputs
+      (outputs.Server (orders.Restart (is_primary o.machine.server.state))) tt r);
+  wipes =
+      λ told. one-more now start (wiping o).machine (wiping o).outputs (outputs.Tell (tellings.Told request told)) tt
       (one-more now start o.machine o.outputs (outputs.Server orders.Wipe) tt r);
   holds = λ ttl told _. let held : Outcome = holding_for now o.knows.who.me unnumbered ttl o in
       one-more now start held.machine held.outputs (outputs.Tell (tellings.Told request told)) tt
-      (one-more now start o.machine o.outputs (outputs.Tell (tellings.HoldTaken (span_after now ttl) o.knows.who.me unnumbered)) tt r);
+      (one-more now start o.machine o.outputs
+      (outputs.Tell (tellings.HoldTaken (span_after now ttl) o.knows.who.me unnumbered)) tt r);
   refuses = λ told. one-more now start o.machine o.outputs (outputs.Tell (tellings.Told request told)) tt r;
 }
 
@@ -577,9 +599,12 @@ step-carries now points (FailsafeAsked from incarnation sequence ttl) start o r 
     carried-out now start (failsafe_asked now from incarnation sequence ttl first)
     (failsafe-asked-by (Reaches now start) now from incarnation sequence ttl first
     (λ _. one-more now start (holding_for now from sequence ttl first).machine
-    (holding_for now from sequence ttl first).outputs (outputs.Message (outgoing.FailsafeAnswer from incarnation sequence true)) tt
-    (one-more now start first.machine first.outputs (outputs.Tell (tellings.HoldTaken (span_after now ttl) from sequence)) tt fresh))
-    (one-more now start first.machine first.outputs (outputs.Message (outgoing.FailsafeAnswer from incarnation sequence false)) tt fresh))
+    (holding_for now from sequence ttl first).outputs
+    (outputs.Message (outgoing.FailsafeAnswer from incarnation sequence true)) tt
+    (one-more now start first.machine first.outputs
+    (outputs.Tell (tellings.HoldTaken (span_after now ttl) from sequence)) tt fresh))
+    (one-more now start first.machine first.outputs
+    (outputs.Message (outgoing.FailsafeAnswer from incarnation sequence false)) tt fresh))
 step-carries now points (FailsafeAnswered from sequence accepted sent) start o r =
     let first : Outcome = reconciled now o in
     let fresh : Reaches now start first = before-reaches now start o r in

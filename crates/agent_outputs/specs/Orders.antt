@@ -31,8 +31,10 @@ abbrev pub machine_after_output : Ticks → Machine → Output → Machine
 machine_after_output now machine (outputs.Server orders.Begin) = with_server (status_begun now machine.server) machine
 machine_after_output now machine (outputs.Server (orders.StartReplica leader)) =
     with_server (status_replica_started now (upstream_of leader) machine.server) machine
-machine_after_output now machine (outputs.Server (orders.Stop reason)) = with_server (status_stopping now machine.server) machine
-machine_after_output now machine (outputs.Server orders.ShutDown) = with_server (status_stopping now machine.server) machine
+machine_after_output now machine (outputs.Server (orders.Stop reason)) =
+    with_server (status_stopping now machine.server) machine
+machine_after_output now machine (outputs.Server orders.ShutDown) =
+    with_server (status_stopping now machine.server) machine
 machine_after_output now machine (outputs.Server (orders.Restart as_primary)) =
     with_server (status_restarted now machine.server) machine
 machine_after_output now machine (outputs.Server orders.Wipe) = with_server (status_wiped machine.server) machine
@@ -40,7 +42,8 @@ machine_after_output now machine (outputs.Server (orders.Follow leader)) =
     with_server (status_following (server_id_of leader) machine.server) machine
 machine_after_output now machine (outputs.Watchdog (feedings.Armed until)) = with_deadline until false machine
 machine_after_output now machine (outputs.Watchdog (feedings.Fed until)) = with_deadline until false machine
-machine_after_output now machine (outputs.Watchdog (feedings.FedByFailsafe until members sequence since)) = with_deadline until true machine
+machine_after_output now machine (outputs.Watchdog (feedings.FedByFailsafe until members sequence since)) =
+    with_deadline until true machine
 machine_after_output now machine (outputs.Watchdog feedings.Disarmed) = without_deadline machine
 machine_after_output now machine (outputs.Require required) = with_required required machine
 machine_after_output now machine (outputs.Tell (tellings.HoldTaken until from sequence)) =

@@ -64,13 +64,15 @@ asks-other waited _ is = tt
 
 between-later : (low high more : ℕ) → high ≤ more → (output : Output) → SendsBetween low high output
     → SendsBetween low more output
-between-later low high more h (outputs.Message (outgoing.Send to sequence body)) is = (is.0, omega (arith, is.1, h), is.2)
+between-later low high more h (outputs.Message (outgoing.Send to sequence body)) is =
+    (is.0, omega (arith, is.1, h), is.2)
 between-later low high more h _ is = tt
 
 -- a number above all that were sent is none of theirs
 above-all : (low high : ℕ) (waited : PendingQuestion) → high < waited.sequence → (output : Output)
     → SendsBetween low high output → AsksFor waited output
-above-all low high waited h (outputs.Message (outgoing.Send to sequence body)) is = λ e. absurd (omega (arith, e, h, is.1))
+above-all low high waited h (outputs.Message (outgoing.Send to sequence body)) is =
+    λ e. absurd (omega (arith, e, h, is.1))
 above-all low high waited h _ is = tt
 
 -- ---- what holds of an outcome so far, from what the agent knew at first
@@ -141,7 +143,8 @@ next-sends known knows outs body last span all =
     (omega (arith, last), omega arith, span)
 
 next-waits : (now : Ticks) (known knows : Knowledge) (outs : List Output) (body : Body) → WaitsOn now known knows outs
-    → WaitsOn now known (counted knows) (outs ++ outputs.Message (outgoing.Send targets.Store (knows.sequence + 1) body) ∷ [])
+    → WaitsOn now known (counted knows)
+    (outs ++ outputs.Message (outgoing.Send targets.Store (knows.sequence + 1) body) ∷ [])
 next-waits now known knows outs body (Same is) = Same is
 next-waits now known knows outs body (Nothing is) = Nothing is
 next-waits now known knows outs body (New waited is later counts sent span asks) =
@@ -182,7 +185,8 @@ ask-reaches now known question until body o span asks puts r =
       last = omega (arith, r.last);
       sends = next-sends known o.knows o.outputs body r.last span r.sends;
       waits = New waited refl (omega (arith, r.last)) (omega arith) refl (is-lease o.knows.settings)
-          (All-push (AsksFor waited) o.outputs (outputs.Message (outgoing.Send targets.Store (o.knows.sequence + 1) body))
+          (All-push (AsksFor waited) o.outputs
+          (outputs.Message (outgoing.Send targets.Store (o.knows.sequence + 1) body))
           (all-of (SendsBetween known.sequence o.knows.sequence) (AsksFor waited) o.outputs
           (above-all known.sequence o.knows.sequence waited (omega arith)) r.sends)
           (λ _. record { lease = asks; write = puts }));
@@ -200,7 +204,8 @@ feeds now known knows outs None r = r
 
 pub arms-it : (now : Ticks) (known knows : Knowledge) (outs : List Output) (until : Option Ticks)
     → AsksAnew now known knows outs → AsksAnew now known knows (armed until outs)
-arms-it now known knows outs (Some until) r = one-more now known knows outs (outputs.Watchdog (feedings.Armed until)) tt r
+arms-it now known knows outs (Some until) r =
+    one-more now known knows outs (outputs.Watchdog (feedings.Armed until)) tt r
 arms-it now known knows outs None r = r
 
 disarm-reaches : (now : Ticks) (known : Knowledge) (o : Outcome) → Reaches now known o → Reaches now known (disarming o)
@@ -209,7 +214,8 @@ disarm-reaches now known o r = disarms now known o.knows o.outputs o.machine.wat
 ended-reaches : (now : Ticks) (known : Knowledge) (why : Why) (held : ℕ) (o : Outcome) → Reaches now known o
     → Reaches now known (has_ended why held o)
 ended-reaches now known HandOver held o r =
-    send-reaches now known (bodies.Request (txns.Lease (lease_txns.Release held))) (disarming o) tt (disarm-reaches now known o r)
+    send-reaches now known (bodies.Request (txns.Lease (lease_txns.Release held))) (disarming o) tt
+    (disarm-reaches now known o r)
 ended-reaches now known Lost held o r = disarm-reaches now known o r
 
 pub before-reaches : (now : Ticks) (known : Knowledge) (o : Outcome) → Reaches now known o
@@ -236,8 +242,13 @@ judged-reaches now known o r =
     (ask-reaches now known Creating (seconds_after now o.knows.settings.retry_timeout) _ (waiting_no_more o)
     (is-spanned o.knows.settings) (λ _. refl) (λ e. absurd (both e)) quiet)
     (λ bar. send-reaches now known _
-    (record (waiting_no_more o) { outputs = with_output (outputs.Note (notings.Agent (agent_notes.DoesNotRace bar))) o.outputs }) tt
-    (one-more now known (waiting_no_more o).knows o.outputs (outputs.Note (notings.Agent (agent_notes.DoesNotRace bar))) tt quiet))
+    (record (waiting_no_more o) {
+      outputs =
+          with_output (outputs.Note (notings.Agent (agent_notes.DoesNotRace bar))) o.outputs;
+    })
+    tt
+    (one-more now known (waiting_no_more o).knows o.outputs
+    (outputs.Note (notings.Agent (agent_notes.DoesNotRace bar))) tt quiet))
 
 -- the asks to other members, all under the next number
 ask-sends : (low high : ℕ) (who : Who) (sequence : ℕ) (member : Option MemberId) (outs : List Output)
@@ -247,7 +258,8 @@ ask-sends low high who sequence None outs later less all = all
 ask-sends low high who sequence (Some member) outs later less all =
     if-cases (λ (l : List Output). All (SendsBetween low high) l) (is_other who member)
     (with_output (outputs.Message (outgoing.Send (targets.Member member) sequence bodies.Ask)) outs) outs
-    (λ _. All-push (SendsBetween low high) outs (outputs.Message (outgoing.Send (targets.Member member) sequence bodies.Ask)) all
+    (λ _. All-push (SendsBetween low high) outs
+    (outputs.Message (outgoing.Send (targets.Member member) sequence bodies.Ask)) all
     (later, less, tt))
     (λ _. all)
 
@@ -321,7 +333,8 @@ check-reaches now known candidate o r =
 -- a failover key is to be removed
 pub drop-reaches : (now : Ticks) (known : Knowledge) (revision : ℕ) (o : Outcome) → Reaches now known o
     → Reaches now known (dropping revision o)
-drop-reaches now known revision o r = send-reaches now known (bodies.Request (txns.Operators (operator_txns.DropFailover revision))) o tt r
+drop-reaches now known revision o r =
+    send-reaches now known (bodies.Request (txns.Operators (operator_txns.DropFailover revision))) o tt r
 
 -- a handover is judged
 pub handover-reaches : (now : Ticks) (known : Knowledge) (revision : ℕ) (o : Outcome) → Reaches now known o
@@ -333,10 +346,12 @@ handover-reaches now known revision o r =
       clears = λ compared. drop-reaches now known compared (waiting_no_more o) quiet;
       hands = λ candidate.
           goes-on now known (waiting_no_more o).knows (hands_over now revision candidate (waiting_no_more o)).knows
-          (with_output (outputs.Server orders.ShutDown) (with_output (outputs.Note (notings.Agent (agent_notes.HandsOver candidate))) o.outputs))
+          (with_output (outputs.Server orders.ShutDown)
+          (with_output (outputs.Note (notings.Agent (agent_notes.HandsOver candidate))) o.outputs))
           refl refl refl refl
           (one-more now known (waiting_no_more o).knows
-          (with_output (outputs.Note (notings.Agent (agent_notes.HandsOver candidate))) o.outputs) (outputs.Server orders.ShutDown) tt
+          (with_output (outputs.Note (notings.Agent (agent_notes.HandsOver candidate))) o.outputs)
+          (outputs.Server orders.ShutDown) tt
           (one-more now known (waiting_no_more o).knows o.outputs
           (outputs.Note (notings.Agent (agent_notes.HandsOver candidate))) tt quiet));
     }
@@ -364,9 +379,11 @@ request-sends : (low high : ℕ) (members : MemberSet) (sequence : ℕ) (ttl : T
 request-sends low high members sequence ttl None outs later less all = all
 request-sends low high members sequence ttl (Some member) outs later less all =
     if-cases (λ (l : List Output). All (SendsBetween low high) l) (has members member.number)
-    (with_output (outputs.Message (outgoing.Send (targets.Member member) sequence (bodies.FailsafeRequest ttl))) outs) outs
+    (with_output (outputs.Message (outgoing.Send (targets.Member member) sequence (bodies.FailsafeRequest ttl))) outs)
+    outs
     (λ _. All-push (SendsBetween low high) outs
-    (outputs.Message (outgoing.Send (targets.Member member) sequence (bodies.FailsafeRequest ttl))) all (later, less, tt))
+    (outputs.Message (outgoing.Send (targets.Member member) sequence (bodies.FailsafeRequest ttl))) all
+    (later, less, tt))
     (λ _. all)
 
 requests-send : (low high : ℕ) (members : MemberSet) (sequence : ℕ) (ttl : Ticks) (count : ℕ) (outs : List Output)

@@ -145,7 +145,8 @@ follow-reaches now known leader o r = let x : Outcome = led_by_another o in
     (one-more now known x.knows o.outputs (outputs.Server (orders.Follow leader)) tt led)
     (one-more now known x.knows o.outputs (outputs.Server orders.ShutDown) tt led)) in
     repaired-by (Reaches now known) leader (repair_of o.knows.settings leader o.machine.server) (touching row) told
-    (λ repair. one-more now known (touching row).knows (touching row).outputs (outputs.Server (orders.Repair leader repair)) tt told)
+    (λ repair. one-more now known (touching row).knows (touching row).outputs
+    (outputs.Server (orders.Repair leader repair)) tt told)
 
 free-reaches : (now : Ticks) (known : Knowledge) (o : Outcome) → Reaches now known o
     → Reaches now known (finds_free now o)
@@ -211,7 +212,8 @@ got-reaches now points known sequence snapshot o r =
       touches = touch-reaches now known read told;
       follows = λ leader _ _. follow-reaches now known leader.holder read told;
       free = λ _ _. free-reaches now known read told;
-      runs_on = λ _. one-more now known read.knows o.outputs (outputs.Note (notings.Agent agent_notes.RunsWithoutKey)) tt told;
+      runs_on = λ _.
+          one-more now known read.knows o.outputs (outputs.Note (notings.Agent agent_notes.RunsWithoutKey)) tt told;
       asks_on = λ _. ask-reaches now known Creating (seconds_after now read.knows.settings.retry_timeout) _
           (running_without_key read) (is-spanned read.knows.settings) (λ _. refl) (λ e. absurd (both e))
           (one-more now known read.knows o.outputs (outputs.Note (notings.Agent agent_notes.RunsWithoutKey)) tt told);
@@ -274,7 +276,8 @@ plan-reaches now known revision (plans.Withdraw standbys) o r = write-reaches no
 plan-reaches now known revision (plans.AddRequired members) o r = require-reaches now known (needs.All members)
     (noting o) (goes-on now known o.knows (noting o).knows o.outputs refl refl refl refl r)
 plan-reaches now known revision (plans.Publish standbys) o r =
-    write-reaches now known KeepsList (txns.Sync (sync_txns.SetSync revision (expected_of (sync_read_if o.knows.seen)) standbys)) o tt r
+    write-reaches now known KeepsList
+    (txns.Sync (sync_txns.SetSync revision (expected_of (sync_read_if o.knows.seen)) standbys)) o tt r
 plan-reaches now known revision (plans.DropRequired members) o r =
     require-reaches now known (waiting_for o.knows.settings members) o r
 
@@ -321,14 +324,16 @@ unleased-reaches now ttl known revision o r = let armed-now : Outcome = arming n
 begin-reaches : (now : Ticks) (known : Knowledge) (revision : ℕ) (o : Outcome) → Reaches now known o
     → Reaches now known (begins now revision o)
 begin-reaches now known revision o r = goes-on now known o.knows _ _ refl refl refl refl
-    (one-more now known o.knows _ (outputs.Server orders.Begin) tt (require-reaches now known (unnamed o.knows.turn_settings) o r))
+    (one-more now known o.knows _ (outputs.Server orders.Begin) tt
+    (require-reaches now known (unnamed o.knows.turn_settings) o r))
 
 -- a claim, behind what is noted of the sync key
 claim-reaches : (now : Ticks) (known : Knowledge) (revision : ℕ) (o : Outcome) → Reaches now known o
     → Reaches now known (claims now revision (passing o))
 claim-reaches now known revision o r =
     ask-reaches now known Claiming _ _ (passing o) tt (λ e. absurd (both e)) (λ _. tt)
-    (passing-by (AsksAnew now known o.knows) o r (one-more now known o.knows o.outputs (outputs.Tell tellings.ClaimsOutsideSync) tt r))
+    (passing-by (AsksAnew now known o.knows) o r
+    (one-more now known o.knows o.outputs (outputs.Tell tellings.ClaimsOutsideSync) tt r))
 
 cannot-reaches : (now : Ticks) (known : Knowledge) (revision : ℕ) (o : Outcome) → Reaches now known o
     → Reaches now known (cannot_arm revision o)
@@ -358,9 +363,12 @@ takes-reaches now ttl known revision o r =
 rests-told : (now : Ticks) (known after : Knowledge) (renews : Bool) (deadline : Option Ticks) (outs : List Output)
     → AsksAnew now known after outs → AsksAnew now known after (disabling_told renews deadline outs)
 rests-told now known after renews None outs r = r
-rests-told now known after true (Some deadline) outs r = one-more now known after (with_output (outputs.Watchdog feedings.Disarmed) outs)
-    (outputs.Note (notings.Agent agent_notes.DisablesWatchdog)) tt (one-more now known after outs (outputs.Watchdog feedings.Disarmed) tt r)
-rests-told now known after false (Some deadline) outs r = one-more now known after outs (outputs.Watchdog feedings.Disarmed) tt r
+rests-told now known after true (Some deadline) outs r =
+    one-more now known after (with_output (outputs.Watchdog feedings.Disarmed) outs)
+    (outputs.Note (notings.Agent agent_notes.DisablesWatchdog)) tt
+    (one-more now known after outs (outputs.Watchdog feedings.Disarmed) tt r)
+rests-told now known after false (Some deadline) outs r =
+    one-more now known after outs (outputs.Watchdog feedings.Disarmed) tt r
 
 disabled-reaches : (now : Ticks) (known : Knowledge) (renews : Bool) (o : Outcome) → Reaches now known o
     → Reaches now known (disabling_watchdog renews o)
@@ -381,7 +389,8 @@ granted-reaches now known sequence grant snapshot o r =
       keeps_late = λ held _. start-reaches now known grant.revision (kept_on grant.revision told) next;
       ends_late = λ _. one-more now known told.knows told.outputs _ tt next;
       refuses_late = λ _. cannot-reaches now known grant.revision told next;
-      returns_late = λ _. send-reaches now known (bodies.Request (txns.Lease (lease_txns.Release grant.revision))) told tt next;
+      returns_late =
+          λ _. send-reaches now known (bodies.Request (txns.Lease (lease_txns.Release grant.revision))) told tt next;
       leads_in_pause = λ renews _ held _. duties-reach now known grant.revision
           (leading_in_pause renews grant.revision told) (disabled-reaches now known renews told next);
       unleased_in_pause = λ renews _ _. goes-on now known told.knows _
@@ -437,7 +446,8 @@ operated-reaches now known request asked o r = operated-by (Reaches now known) n
       (one-more now known o.knows o.outputs (outputs.Server orders.Wipe) tt r);
   holds = λ ttl told _. one-more now known o.knows (holding_for now o.knows.who.me unnumbered ttl o).outputs
       (outputs.Tell (tellings.Told request told)) tt
-      (one-more now known o.knows o.outputs (outputs.Tell (tellings.HoldTaken (span_after now ttl) o.knows.who.me unnumbered)) tt r);
+      (one-more now known o.knows o.outputs
+      (outputs.Tell (tellings.HoldTaken (span_after now ttl) o.knows.who.me unnumbered)) tt r);
   refuses = λ told. one-more now known o.knows o.outputs (outputs.Tell (tellings.Told request told)) tt r;
 })
 
@@ -462,8 +472,10 @@ step-reaches now points (FailsafeAsked from incarnation sequence ttl) known o r 
     failsafe-asked-by (Reaches now known) now from incarnation sequence ttl first
     (λ _. one-more now known first.knows (holding_for now from sequence ttl first).outputs
     (outputs.Message (outgoing.FailsafeAnswer from incarnation sequence true)) tt
-    (one-more now known first.knows first.outputs (outputs.Tell (tellings.HoldTaken (span_after now ttl) from sequence)) tt fresh))
-    (one-more now known first.knows first.outputs (outputs.Message (outgoing.FailsafeAnswer from incarnation sequence false)) tt fresh)
+    (one-more now known first.knows first.outputs
+    (outputs.Tell (tellings.HoldTaken (span_after now ttl) from sequence)) tt fresh))
+    (one-more now known first.knows first.outputs
+    (outputs.Message (outgoing.FailsafeAnswer from incarnation sequence false)) tt fresh)
 step-reaches now points (FailsafeAnswered from sequence accepted sent) known o r =
     staying-reaches now known from sequence accepted sent (reconciled now o) (before-reaches now known o r)
 step-reaches now points (Operated action) known o r =

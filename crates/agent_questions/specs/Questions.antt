@@ -33,7 +33,8 @@ IsAskedOf (targets.Member member) body = IsAsk body
 
 -- a message that is sent is a question under a number above the first of these and at most the second
 abbrev pub SendsBetween : ℕ → ℕ → Output → Type 0
-SendsBetween low high (outputs.Message (outgoing.Send to sequence body)) = (low < sequence) × (sequence ≤ high) × IsAskedOf to body
+SendsBetween low high (outputs.Message (outgoing.Send to sequence body)) =
+    (low < sequence) × (sequence ≤ high) × IsAskedOf to body
 SendsBetween low high _ = Unit {0}
 
 -- the question is put by this request: a claim, or a write of the sync

@@ -114,7 +114,8 @@ stay-told : (outs : List Output) (until : Ticks) (members : MemberSet) (sequence
     ≡ true
 stay-told outs until members sequence since true is =
     one-before is_feeding (with_output (outputs.Watchdog (feedings.FedByFailsafe until members sequence since)) outs)
-    (outputs.Note notings.StaysByFailsafe) (one-last is_feeding outs (outputs.Watchdog (feedings.FedByFailsafe until members sequence since)) refl)
+    (outputs.Note notings.StaysByFailsafe)
+    (one-last is_feeding outs (outputs.Watchdog (feedings.FedByFailsafe until members sequence since)) refl)
 stay-told outs until members sequence since false is = absurd (no-way is)
 
 leader-is : (role : RoleFacts) (held : ℕ) → role ≡ Leader held → is_leader role ≡ true

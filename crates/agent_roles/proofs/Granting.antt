@@ -112,8 +112,10 @@ ask-told : (who : Who) (sequence : ℕ) (member : Option MemberId) (outs : List 
     → has_one is_feeding outs ≡ true → has_one is_feeding (asking_one who sequence member outs) ≡ true
 ask-told who sequence None outs told = told
 ask-told who sequence (Some member) outs told = if-cases (λ (l : List Output). has_one is_feeding l ≡ true)
-    (is_other who member) (with_output (outputs.Message (outgoing.Send (targets.Member member) sequence bodies.Ask)) outs) outs
-    (λ _. one-before is_feeding outs (outputs.Message (outgoing.Send (targets.Member member) sequence bodies.Ask)) told) (λ _. told)
+    (is_other who member)
+    (with_output (outputs.Message (outgoing.Send (targets.Member member) sequence bodies.Ask)) outs) outs
+    (λ _. one-before is_feeding outs (outputs.Message (outgoing.Send (targets.Member member) sequence bodies.Ask)) told)
+    (λ _. told)
 
 asks-told : (who : Who) (sequence count : ℕ) (outs : List Output) → has_one is_feeding outs ≡ true
     → has_one is_feeding (asking_first who sequence count outs) ≡ true
@@ -166,8 +168,10 @@ renewed-may now sequence grant snapshot o awaited in_time =
             (hands_over now grant.revision candidate (waiting_no_more (unheard led))) awaited in_time refl
             refl refl refl refl
             (λ armable. one-before is_feeding
-            (with_output (outputs.Note (notings.Agent (agent_notes.HandsOver candidate))) led.outputs) (outputs.Server orders.ShutDown)
-            (one-before is_feeding led.outputs (outputs.Note (notings.Agent (agent_notes.HandsOver candidate))) (told armable)))
+            (with_output (outputs.Note (notings.Agent (agent_notes.HandsOver candidate))) led.outputs)
+            (outputs.Server orders.ShutDown)
+            (one-before is_feeding led.outputs
+            (outputs.Note (notings.Agent (agent_notes.HandsOver candidate))) (told armable)))
             (stop-live now o.machine.server);
       };
     })
@@ -196,7 +200,10 @@ arms-may : (now : Ticks) (sequence : ℕ) (grant : Granted) (snapshot : Snapshot
     → GrantMay now sequence grant snapshot o (arms now awaited.waited.ttl grant.revision (Told snapshot o))
 arms-may now sequence grant snapshot o awaited in_time ended free =
     let back : Outcome = gives_back grant.revision
-    (record (Told snapshot o) { outputs = with_output (outputs.Note (notings.Agent agent_notes.CannotArm)) o.outputs }) in
+    (record (Told snapshot o) {
+      outputs =
+          with_output (outputs.Note (notings.Agent agent_notes.CannotArm)) o.outputs;
+    }) in
     let arm : Outcome = arming now awaited.waited.ttl (Told snapshot o) in
     let told : is_armable o.machine.watchdog.mode o.machine.watchdog.works ≡ true
     → has_one is_feeding arm.outputs ≡ true =
@@ -207,7 +214,8 @@ arms-may now sequence grant snapshot o awaited in_time ended free =
     (λ ready. begins-or-claims-by (GrantMay now sequence grant snapshot o) now grant.revision arm
     (Leads awaited in_time refl refl refl (λ e. absurd (no-way e)) refl
     (λ armable.
-    one-before is_feeding (with_output (outputs.Require (unnamed arm.knows.turn_settings)) arm.outputs) (outputs.Server orders.Begin)
+    one-before is_feeding (with_output (outputs.Require (unnamed arm.knows.turn_settings)) arm.outputs)
+    (outputs.Server orders.Begin)
     (one-before is_feeding arm.outputs (outputs.Require (unnamed arm.knows.turn_settings)) (told armable)))
     (λ _. inr free) (λ _. inr ready))
     (Leads awaited in_time refl refl refl (λ _. ended) refl

@@ -463,7 +463,10 @@ arms-onward : (now ttl : Ticks) (revision : ℕ) (snapshot : SnapshotFacts) (o :
     → Onward (Some snapshot) o (arms now ttl revision (Told snapshot o))
 arms-onward now ttl revision snapshot o =
     let back : Outcome = gives_back revision
-    (record (Told snapshot o) { outputs = with_output (outputs.Note (notings.Agent agent_notes.CannotArm)) o.outputs }) in
+    (record (Told snapshot o) {
+      outputs =
+          with_output (outputs.Note (notings.Agent agent_notes.CannotArm)) o.outputs;
+    }) in
     let arm : Outcome = arming now ttl (Told snapshot o) in
     if-cases (Onward (Some snapshot) o) (is_refusing o.machine.watchdog.mode o.machine.watchdog.works) back
     (begins_or_claims now revision arm)

@@ -46,7 +46,8 @@ use Rattle.agent_model.specs.Pausing.{is_paused}
 abbrev pub FeedsAlone : Ticks → Output → Type 0
 FeedsAlone now (outputs.Watchdog (feedings.Armed until)) = ⊥
 FeedsAlone now (outputs.Watchdog (feedings.Fed until)) = ⊥
-FeedsAlone now (outputs.Watchdog (feedings.FedByFailsafe until members sequence since)) = (members.bits ≡ 0) × (since ≡ now)
+FeedsAlone now (outputs.Watchdog (feedings.FedByFailsafe until members sequence since)) =
+    (members.bits ≡ 0) × (since ≡ now)
 FeedsAlone now _ = Unit {0}
 
 abbrev NoneFed : Ticks → Outcome → Type 0
@@ -86,7 +87,10 @@ none-requested now ttl members sequence (Some member) outs all = none-list (has 
   where
     none-list : (test : Bool)
         → All (FeedsAlone now)
-        (cond test (with_output (outputs.Message (outgoing.Send (targets.Member member) sequence (bodies.FailsafeRequest ttl))) outs) outs)
+        (cond test
+        (with_output (outputs.Message (outgoing.Send (targets.Member member) sequence (bodies.FailsafeRequest ttl)))
+        outs)
+        outs)
     none-list true = All-push (FeedsAlone now) outs _ all tt
     none-list false = all
 
@@ -99,11 +103,16 @@ none-requests now ttl members sequence (suc count) outs all = none-requested now
 -- a leader that has nobody to ask feeds by the word of nobody
 none-alone : (now : Ticks) (deadline : Option Ticks) (members : MemberSet) (sequence : ℕ) (outs : List Output)
     → members.bits ≡ 0 → All (FeedsAlone now) outs
-    → All (FeedsAlone now) (with_output (outputs.Note notings.StaysByFailsafe) (fed_by_failsafe deadline members sequence now outs))
-none-alone now None members sequence outs nobody all = All-push (FeedsAlone now) outs (outputs.Note notings.StaysByFailsafe) all tt
+    → All (FeedsAlone now)
+    (with_output (outputs.Note notings.StaysByFailsafe) (fed_by_failsafe deadline members sequence now outs))
+none-alone now None members sequence outs nobody all =
+    All-push (FeedsAlone now) outs (outputs.Note notings.StaysByFailsafe) all tt
 none-alone now (Some until) members sequence outs nobody all = All-push (FeedsAlone now)
-    (with_output (outputs.Watchdog (feedings.FedByFailsafe until members sequence now)) outs) (outputs.Note notings.StaysByFailsafe)
-    (All-push (FeedsAlone now) outs (outputs.Watchdog (feedings.FedByFailsafe until members sequence now)) all (nobody, refl)) tt
+    (with_output (outputs.Watchdog (feedings.FedByFailsafe until members sequence now)) outs)
+    (outputs.Note notings.StaysByFailsafe)
+    (All-push (FeedsAlone now) outs (outputs.Watchdog (feedings.FedByFailsafe until members sequence now)) all
+    (nobody, refl))
+    tt
 
 none-seeks : (now : Ticks) (o : Outcome) → NoneFed now o → NoneFed now (seeks_to_stay now (others_known o.knows) o)
 none-seeks now o all = by ((others_known o.knows).bits == 0) refl

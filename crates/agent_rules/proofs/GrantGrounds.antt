@@ -69,8 +69,10 @@ module _ (now : Ticks) (heard : Heard) (b : Outcome) where
   disabled-keeps : (outs : List Output) (renews : Bool) (deadline : Option Ticks) → All KeepsLeases outs
       → All KeepsLeases (disabling_told renews deadline outs)
   disabled-keeps outs renews None all = all
-  disabled-keeps outs true (Some deadline) all = All-push KeepsLeases (with_output (outputs.Watchdog feedings.Disarmed) outs)
-      (outputs.Note (notings.Agent agent_notes.DisablesWatchdog)) (All-push KeepsLeases outs (outputs.Watchdog feedings.Disarmed) all tt) tt
+  disabled-keeps outs true (Some deadline) all =
+      All-push KeepsLeases (with_output (outputs.Watchdog feedings.Disarmed) outs)
+      (outputs.Note (notings.Agent agent_notes.DisablesWatchdog))
+      (All-push KeepsLeases outs (outputs.Watchdog feedings.Disarmed) all tt) tt
   disabled-keeps outs false (Some deadline) all = All-push KeepsLeases outs (outputs.Watchdog feedings.Disarmed) all tt
 
   gives-so : (revision : ℕ) (x : Outcome) → So now heard b x → So now heard b (gives_back revision x)
@@ -144,7 +146,8 @@ module _ (now : Ticks) (heard : Heard) (b : Outcome) where
       }
 
       write-so : (settling : Settling) (txn : Txn) → RequestGround now heard b txn
-          → KeepsLeases (outputs.Message (outgoing.Send targets.Store (Led.knows.sequence + 1) (bodies.Request txn))) → So now heard b Led
+          → KeepsLeases (outputs.Message (outgoing.Send targets.Store (Led.knows.sequence + 1) (bodies.Request txn)))
+          → So now heard b Led
           → So now heard b (writing_sync now settling txn Led)
       write-so settling txn ground keeps s =
           waits now heard b _ Led.role None _ refl (more now heard b outs Led.role None _ ground keeps s)
@@ -153,19 +156,21 @@ module _ (now : Ticks) (heard : Heard) (b : Outcome) where
           → PlanGround now heard b grant.revision snapshot plans.SwitchOff → So now heard b Led
           → So now heard b (switching_off now grant.revision read Led)
       drop-so None found ground s = s
-      drop-so (Some read) found ground s = write-so ClearsList (txns.Sync (sync_txns.DropSync grant.revision read.revision)) (record {
-        snapshot = snapshot;
-        plan = plans.SwitchOff;
-        ground = ground;
-        names = tt;
-        compared = ap expected_of (sym found);
-      }) tt s
+      drop-so (Some read) found ground s =
+          write-so ClearsList (txns.Sync (sync_txns.DropSync grant.revision read.revision)) (record {
+            snapshot = snapshot;
+            plan = plans.SwitchOff;
+            ground = ground;
+            names = tt;
+            compared = ap expected_of (sym found);
+          }) tt s
 
       name-so : (plan : Plan) (settling : Settling) (standbys : MemberSet)
           → PlanGround now heard b grant.revision snapshot plan → NamesByPlan plan standbys → So now heard b Led
           → So now heard b (naming now grant.revision settling standbys Led)
       name-so plan settling standbys ground names s =
-          write-so settling (txns.Sync (sync_txns.SetSync grant.revision (expected_of (sync_read_in snapshot)) standbys))
+          write-so settling
+          (txns.Sync (sync_txns.SetSync grant.revision (expected_of (sync_read_in snapshot)) standbys))
           (record { snapshot = snapshot; plan = plan; ground = ground; names = names; compared = refl }) tt s
 
       plan-so : (plan : Plan) → PlanGround now heard b grant.revision snapshot plan → So now heard b Led

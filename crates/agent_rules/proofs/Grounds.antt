@@ -73,7 +73,10 @@ use Rattle.agent_rules.proofs.Reaching.{asked-to-lead, carries-leading, heard-ye
 
 -- an output that gives no lease back
 abbrev pub KeepsLeases : Output → Type 0
-KeepsLeases (outputs.Message (outgoing.Send targets.Store sequence (bodies.Request (txns.Lease (lease_txns.Release revision))))) = ⊥
+KeepsLeases
+    (outputs.Message (outgoing.Send targets.Store sequence
+    (bodies.Request (txns.Lease (lease_txns.Release revision))))) =
+    ⊥
 KeepsLeases _ = Unit {0}
 
 -- over what precedes the input, `b`, which hears this
@@ -140,22 +143,27 @@ module _ (now : Ticks) (heard : Heard) (b : Outcome) where
       (armable : Bool)
       → (armable ≡ true → Ground (outputs.Watchdog (feedings.Armed until)))
       → Sofar outs role waited → Sofar (armed (if armable then Some until else None) outs) role waited
-  arm-so outs role waited until true is s = more outs role waited (outputs.Watchdog (feedings.Armed until)) (is refl) tt s
+  arm-so outs role waited until true is s =
+      more outs role waited (outputs.Watchdog (feedings.Armed until)) (is refl) tt s
   arm-so outs role waited until false is s = s
 
   pub feed-so : (outs : List Output) (role : RoleFacts) (waited : Option PendingQuestion) (until : Ticks)
       (armable : Bool)
       → (armable ≡ true → Ground (outputs.Watchdog (feedings.Fed until)))
       → Sofar outs role waited → Sofar (fed_until (if armable then Some until else None) outs) role waited
-  feed-so outs role waited until true is s = more outs role waited (outputs.Watchdog (feedings.Fed until)) (is refl) tt s
+  feed-so outs role waited until true is s =
+      more outs role waited (outputs.Watchdog (feedings.Fed until)) (is refl) tt s
   feed-so outs role waited until false is s = s
 
   pub disabled-so : (outs : List Output) (role : RoleFacts) (waited : Option PendingQuestion) (renews : Bool)
       (deadline : Option Ticks) → Sofar outs role waited → Sofar (disabling_told renews deadline outs) role waited
   disabled-so outs role waited renews None s = s
-  disabled-so outs role waited true (Some deadline) s = more (with_output (outputs.Watchdog feedings.Disarmed) outs) role waited
-      (outputs.Note (notings.Agent agent_notes.DisablesWatchdog)) tt tt (more outs role waited (outputs.Watchdog feedings.Disarmed) tt tt s)
-  disabled-so outs role waited false (Some deadline) s = more outs role waited (outputs.Watchdog feedings.Disarmed) tt tt s
+  disabled-so outs role waited true (Some deadline) s =
+      more (with_output (outputs.Watchdog feedings.Disarmed) outs) role waited
+      (outputs.Note (notings.Agent agent_notes.DisablesWatchdog)) tt tt
+      (more outs role waited (outputs.Watchdog feedings.Disarmed) tt tt s)
+  disabled-so outs role waited false (Some deadline) s =
+      more outs role waited (outputs.Watchdog feedings.Disarmed) tt tt s
 
   touch-so : (x : Outcome) → So x → So (touching x)
   touch-so x s = more x.outputs x.role x.knows.waited _ tt tt s
@@ -172,7 +180,8 @@ module _ (now : Ticks) (heard : Heard) (b : Outcome) where
   ask-so who sequence (Some member) outs role waited s =
       if-cases (λ (l : List Output). Sofar l role waited) (is_other who member)
       (with_output (outputs.Message (outgoing.Send (targets.Member member) sequence bodies.Ask)) outs) outs
-      (λ _. more outs role waited (outputs.Message (outgoing.Send (targets.Member member) sequence bodies.Ask)) tt tt s) (λ _. s)
+      (λ _. more outs role waited (outputs.Message (outgoing.Send (targets.Member member) sequence bodies.Ask)) tt tt s)
+      (λ _. s)
 
   asks-so : (who : Who) (sequence count : ℕ) (outs : List Output) (role : RoleFacts) (waited : Option PendingQuestion)
       → Sofar outs role waited → Sofar (asking_first who sequence count outs) role waited
@@ -194,9 +203,11 @@ module _ (now : Ticks) (heard : Heard) (b : Outcome) where
   request-so members sequence ttl None outs role waited may s = s
   request-so members sequence ttl (Some member) outs role waited may s =
       if-cases (λ (l : List Output). Sofar l role waited) (has members member.number)
-      (with_output (outputs.Message (outgoing.Send (targets.Member member) sequence (bodies.FailsafeRequest ttl))) outs) outs
+      (with_output (outputs.Message (outgoing.Send (targets.Member member) sequence (bodies.FailsafeRequest ttl))) outs)
+      outs
       (λ known. more outs role waited
-      (outputs.Message (outgoing.Send (targets.Member member) sequence (bodies.FailsafeRequest ttl))) (may member known) tt s)
+      (outputs.Message (outgoing.Send (targets.Member member) sequence (bodies.FailsafeRequest ttl)))
+      (may member known) tt s)
       (λ _. s)
 
   requests-so : (members : MemberSet) (sequence : ℕ) (ttl : Ticks) (count : ℕ) (outs : List Output)
@@ -210,7 +221,8 @@ module _ (now : Ticks) (heard : Heard) (b : Outcome) where
 
   by-failsafe-so : (outs : List Output) (role : RoleFacts) (waited : Option PendingQuestion) (until : Ticks)
       (members : MemberSet) (sequence : ℕ) (since : Ticks) (armable : Bool)
-      → (armable ≡ true → Ground (outputs.Watchdog (feedings.FedByFailsafe until members sequence since))) → Sofar outs role waited
+      → (armable ≡ true → Ground (outputs.Watchdog (feedings.FedByFailsafe until members sequence since)))
+      → Sofar outs role waited
       → Sofar (fed_by_failsafe (if armable then Some until else None) members sequence since outs) role waited
   by-failsafe-so outs role waited until members sequence since true is s =
       more outs role waited (outputs.Watchdog (feedings.FedByFailsafe until members sequence since)) (is refl) tt s
@@ -241,7 +253,10 @@ module _ (now : Ticks) (heard : Heard) (b : Outcome) where
   judged-so x may s = judged-by So now x
       (waits _ x.role None _ refl (more x.outputs x.role None _ may tt (quiet x s)))
       (λ bar. touch-so
-      (record (waiting_no_more x) { outputs = with_output (outputs.Note (notings.Agent (agent_notes.DoesNotRace bar))) x.outputs })
+      (record (waiting_no_more x) {
+        outputs =
+            with_output (outputs.Note (notings.Agent (agent_notes.DoesNotRace bar))) x.outputs;
+      })
       (more x.outputs x.role None (outputs.Note (notings.Agent (agent_notes.DoesNotRace bar))) tt tt (quiet x s)))
 
   -- a leader hands over
@@ -250,13 +265,15 @@ module _ (now : Ticks) (heard : Heard) (b : Outcome) where
     kept = quiet x s;
     clears = λ compared. more x.outputs x.role None _ tt tt (quiet x s);
     hands = λ candidate.
-        let told : List Output = with_output (outputs.Note (notings.Agent (agent_notes.HandsOver candidate))) x.outputs in
+        let told : List Output =
+        with_output (outputs.Note (notings.Agent (agent_notes.HandsOver candidate))) x.outputs in
         let again : All KeepsLeases told =
         All-push KeepsLeases x.outputs (outputs.Note (notings.Agent (agent_notes.HandsOver candidate))) all tt in
         with-role (with_output (outputs.Server orders.ShutDown) told) x.role (Ending revision HandOver) None
         (All-push KeepsLeases told (outputs.Server orders.ShutDown) again tt)
         (more told x.role None (outputs.Server orders.ShutDown) tt tt
-        (more x.outputs x.role None (outputs.Note (notings.Agent (agent_notes.HandsOver candidate))) tt tt (quiet x s)));
+        (more x.outputs x.role None (outputs.Note (notings.Agent (agent_notes.HandsOver candidate))) tt tt
+        (quiet x s)));
   }
 
   pub reply-so : (x : Outcome) → So x → ReplyRows So x
@@ -273,7 +290,8 @@ module _ (now : Ticks) (heard : Heard) (b : Outcome) where
       (more outs x.role x.knows.waited (outputs.Note (notings.Agent agent_notes.PostponesPromotion)) tt tt
       (disarm-so x.outputs x.role x.knows.waited x.machine.watchdog.deadline s))
 
-  pub begin-so : (revision : ℕ) (x : Outcome) → Ground (outputs.Server orders.Begin) → x.knows.turn_settings ≡ b.knows.turn_settings
+  pub begin-so : (revision : ℕ) (x : Outcome) → Ground (outputs.Server orders.Begin)
+      → x.knows.turn_settings ≡ b.knows.turn_settings
       → All KeepsLeases x.outputs → So x → So (begins now revision x)
   begin-so revision x may settings all s =
       let required : Output = outputs.Require (unnamed x.knows.turn_settings) in
@@ -295,7 +313,8 @@ module _ (now : Ticks) (heard : Heard) (b : Outcome) where
       (more x.outputs Follower x.knows.waited (outputs.Server orders.ShutDown) tt tt z)) in
       repaired-fitting So x.knows.settings leader x.machine.server (touching row) told
       (λ repair fits. more (touching row).outputs (touching row).role (touching row).knows.waited
-      (outputs.Server (orders.Repair leader repair)) (subst (λ (m : Machine). IsFitting repair m.server) same fits) tt told)
+      (outputs.Server (orders.Repair leader repair))
+      (subst (λ (m : Machine). IsFitting repair m.server) same fits) tt told)
 
   free-so : (x : Outcome) → HearsNoLeader heard → may_create b.role ≡ true → So x → So (finds_free now x)
   free-so x free may s =
@@ -307,7 +326,9 @@ module _ (now : Ticks) (heard : Heard) (b : Outcome) where
         touches = touch-so y z;
         bars = λ bar. touch-so (record y {
           outputs = with_output (outputs.Note (notings.Agent (agent_notes.DoesNotRace bar))) y.outputs;
-        }) (more x.outputs Follower x.knows.waited (outputs.Note (notings.Agent (agent_notes.DoesNotRace bar))) tt tt z);
+        })
+            (more x.outputs Follower x.knows.waited
+            (outputs.Note (notings.Agent (agent_notes.DoesNotRace bar))) tt tt z);
         judges = judged-so (unheard y) (Finds free may) z;
         asks = record {
           grounds =
@@ -483,10 +504,12 @@ module _ (now : Ticks) (heard : Heard) (b : Outcome) where
       → AsksHold now heard (span_after now ttl) → Fits b.role (live b.machine.server.state) → So b
       → So (failsafe_asked now from incarnation sequence ttl b)
   stay-asked-so from incarnation sequence ttl asked fits s = failsafe-asked-by So now from incarnation sequence ttl b
-      (λ may. more _ b.role b.knows.waited (outputs.Message (outgoing.FailsafeAnswer from incarnation sequence true)) tt tt
+      (λ may.
+      more _ b.role b.knows.waited (outputs.Message (outgoing.FailsafeAnswer from incarnation sequence true)) tt tt
       (more b.outputs b.role b.knows.waited (outputs.Tell (tellings.HoldTaken (span_after now ttl) from sequence))
       (hold-ground (span_after now ttl) asked fits may) tt s))
-      (more b.outputs b.role b.knows.waited (outputs.Message (outgoing.FailsafeAnswer from incarnation sequence false)) tt tt s)
+      (more b.outputs b.role b.knows.waited
+      (outputs.Message (outgoing.FailsafeAnswer from incarnation sequence false)) tt tt s)
 
   pub refused-so : (sequence : ℕ) (x : Outcome) → So x → So (refused now sequence x)
   refused-so sequence x s = refused-when So now sequence x (record {
@@ -556,9 +579,12 @@ module _ (now : Ticks) (heard : Heard) (b : Outcome) where
       more b.outputs b.role b.knows.waited _ tt tt s
   operated-so request (requests.Configuration config) reinit holds fits s =
       more b.outputs b.role b.knows.waited _ tt tt s
-  operated-so request requests.Restart reinit holds fits s = more _ b.role b.knows.waited (outputs.Tell (tellings.Told request _)) tt tt
-      (more b.outputs b.role b.knows.waited (outputs.Server (orders.Restart (is_primary b.machine.server.state))) tt tt s)
-  operated-so request requests.Reinit reinit holds fits s = more _ b.role b.knows.waited (outputs.Tell (tellings.Told request _)) tt tt
+  operated-so request requests.Restart reinit holds fits s =
+      more _ b.role b.knows.waited (outputs.Tell (tellings.Told request _)) tt tt
+      (more b.outputs b.role b.knows.waited
+      (outputs.Server (orders.Restart (is_primary b.machine.server.state))) tt tt s)
+  operated-so request requests.Reinit reinit holds fits s =
+      more _ b.role b.knows.waited (outputs.Tell (tellings.Told request _)) tt tt
       (more b.outputs b.role b.knows.waited (outputs.Server orders.Wipe) (reinit refl) tt s)
   operated-so request (requests.Hold from ttl) reinit holds fits s =
       asked-to-hold-by So now request (record { 0 = ttl }) b
@@ -602,4 +628,5 @@ module _ (now : Ticks) (heard : Heard) (b : Outcome) where
       → (StayGround now heard b → ((others_known b.knows).bits ≡ 0 → ⊥) → AsksEachKnown b after) → So after
       → HasGrounds now heard b after
   unwiped after none stays s = grounds-of after s
-      (λ wipes lives. absurd (none (All-contains Ground after.outputs (outputs.Server orders.Wipe) s.grounds wipes))) stays
+      (λ wipes lives. absurd (none (All-contains Ground after.outputs (outputs.Server orders.Wipe) s.grounds wipes)))
+      stays

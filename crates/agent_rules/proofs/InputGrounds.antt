@@ -42,7 +42,8 @@ use Rattle.agent_rules.proofs.Reaching.{none-out, wake-asks-each}
 abbrev Fresh : Outcome → Type 0
 Fresh x = All KeepsLeases x.outputs ⊎ ((lease_of x.role ≡ None) × (x.knows.waited ≡ None))
 
-disarmed-all : (P : Output → Type 0) → P (outputs.Watchdog feedings.Disarmed) → (deadline : Option Ticks) (outs : List Output)
+disarmed-all : (P : Output → Type 0) → P (outputs.Watchdog feedings.Disarmed)
+    → (deadline : Option Ticks) (outs : List Output)
     → All P outs → All P (disarmed deadline outs)
 disarmed-all P is None outs all = all
 disarmed-all P is (Some deadline) outs all = All-push P outs (outputs.Watchdog feedings.Disarmed) all is

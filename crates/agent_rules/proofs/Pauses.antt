@@ -115,15 +115,18 @@ calm-disabled : (renews : Bool) (deadline : Option Ticks) (outs : List Output) �
     → Calm (disabling_told renews deadline outs)
 calm-disabled renews None outs all = all
 calm-disabled true (Some deadline) outs all = calmly (with_output (outputs.Watchdog feedings.Disarmed) outs)
-    (outputs.Note (notings.Agent agent_notes.DisablesWatchdog)) tt (calmly outs (outputs.Watchdog feedings.Disarmed) tt all)
+    (outputs.Note (notings.Agent agent_notes.DisablesWatchdog)) tt
+    (calmly outs (outputs.Watchdog feedings.Disarmed) tt all)
 calm-disabled false (Some deadline) outs all = calmly outs (outputs.Watchdog feedings.Disarmed) tt all
 
 calm-ask : (who : Who) (sequence : ℕ) (member : Option MemberId) (outs : List Output) → Calm outs
     → Calm (asking_one who sequence member outs)
 calm-ask who sequence None outs all = all
 calm-ask who sequence (Some member) outs all =
-    if-cases Calm (is_other who member) (with_output (outputs.Message (outgoing.Send (targets.Member member) sequence bodies.Ask)) outs)
-    outs (λ _. calmly outs (outputs.Message (outgoing.Send (targets.Member member) sequence bodies.Ask)) tt all) (λ _. all)
+    if-cases Calm (is_other who member)
+    (with_output (outputs.Message (outgoing.Send (targets.Member member) sequence bodies.Ask)) outs)
+    outs (λ _. calmly outs (outputs.Message (outgoing.Send (targets.Member member) sequence bodies.Ask)) tt all)
+    (λ _. all)
 
 calm-asks : (who : Who) (sequence count : ℕ) (outs : List Output) → Calm outs
     → Calm (asking_first who sequence count outs)
@@ -203,7 +206,8 @@ module _ (now : Ticks) (heard : Heard) (b : Outcome) where
 
   judged-calm : (x : Outcome) → Calm x.outputs → R (judged now x)
   judged-calm x all = judged-by R now x (calm _ _ _ (calmly x.outputs _ tt all))
-      (λ bar. calm _ _ _ (calmly _ _ tt (calmly x.outputs (outputs.Note (notings.Agent (agent_notes.DoesNotRace bar))) tt all)))
+      (λ bar.
+      calm _ _ _ (calmly _ _ tt (calmly x.outputs (outputs.Note (notings.Agent (agent_notes.DoesNotRace bar))) tt all)))
 
   handover-calm : (revision : ℕ) (x : Outcome) → Calm x.outputs → HandoverRows R now revision x
   handover-calm revision x all = record {
@@ -271,7 +275,8 @@ module _ (now : Ticks) (heard : Heard) (b : Outcome) where
   starts-calm true leader x over all =
       if-cases R x.machine.server.diverged x (starting_replica now (Some leader) x)
       (λ _. calm x.outputs x.role x.knows.settings all)
-      (λ _. order x.outputs x.role x.knows.settings (outputs.Server (orders.StartReplica (Some leader))) all (over refl))
+      (λ _.
+      order x.outputs x.role x.knows.settings (outputs.Server (orders.StartReplica (Some leader))) all (over refl))
 
   anew-calm : (leader : MemberId) (x : Outcome) → Calm x.outputs → R (follows_anew now leader x)
   anew-calm leader x all =
@@ -298,7 +303,8 @@ module _ (now : Ticks) (heard : Heard) (b : Outcome) where
   -- the order of a repair behind that
   repair-calm : (leader : MemberId) (repair : Repair) (x : Outcome)
       → (repair ≡ Rewind → is_paused x.knows ≡ true → ⊥) → R x → R (repairing leader repair x)
-  repair-calm leader Clone x lets r = behind x.outputs x.role x.knows.settings (outputs.Server (orders.Repair leader Clone)) tt r
+  repair-calm leader Clone x lets r =
+      behind x.outputs x.role x.knows.settings (outputs.Server (orders.Repair leader Clone)) tt r
   repair-calm leader Rewind x lets r = record { all = λ paused. absurd (lets refl paused) }
 
   repaired-calm : (leader : MemberId) (found : Option Repair) (x : Outcome)
@@ -365,7 +371,8 @@ module _ (now : Ticks) (heard : Heard) (b : Outcome) where
         free = λ _ _. free-calm read all;
         runs_on = λ _. calm _ _ _ (calmly x.outputs (outputs.Note (notings.Agent agent_notes.RunsWithoutKey)) tt all);
         asks_on =
-            λ _ _ _. calm _ _ _ (calmly _ _ tt (calmly x.outputs (outputs.Note (notings.Agent agent_notes.RunsWithoutKey)) tt all));
+            λ _ _ _. calm _ _ _
+            (calmly _ _ tt (calmly x.outputs (outputs.Note (notings.Agent agent_notes.RunsWithoutKey)) tt all));
       })
 
   refused-calm : (sequence : ℕ) (x : Outcome) → Calm x.outputs → R (refused now sequence x)
@@ -406,19 +413,22 @@ module _ (now : Ticks) (heard : Heard) (b : Outcome) where
   }
 
   begin-calm : (revision : ℕ) (x : Outcome)
-      → (is_paused x.knows ≡ true → IsRestrained heard b (Leader revision) (outputs.Server orders.Begin)) → Calm x.outputs
+      → (is_paused x.knows ≡ true → IsRestrained heard b (Leader revision) (outputs.Server orders.Begin))
+      → Calm x.outputs
       → R (begins now revision x)
   begin-calm revision x may all = order (with_output (outputs.Require (unnamed x.knows.turn_settings)) x.outputs)
       (Leader revision) x.knows.settings (outputs.Server orders.Begin)
       (calmly x.outputs (outputs.Require (unnamed x.knows.turn_settings)) tt all) may
 
   claim-calm : (revision : ℕ) (x : Outcome)
-      → (is_paused x.knows ≡ true → IsRestrained heard b (Leader revision) (outputs.Server orders.Begin)) → Calm x.outputs
+      → (is_paused x.knows ≡ true → IsRestrained heard b (Leader revision) (outputs.Server orders.Begin))
+      → Calm x.outputs
       → R (begins_or_claims now revision x)
   claim-calm revision x may all =
       begins-or-claims-by R now revision x (begin-calm revision x may all)
       (calm _ _ _
-      (calmly (passing x).outputs _ tt (passing-by Calm x all (calmly x.outputs (outputs.Tell tellings.ClaimsOutsideSync) tt all))))
+      (calmly (passing x).outputs _ tt
+      (passing-by Calm x all (calmly x.outputs (outputs.Tell tellings.ClaimsOutsideSync) tt all))))
 
   takes-calm : (ttl : Ticks) (revision : ℕ) (x : Outcome) → is_paused x.knows ≡ false → Calm x.outputs
       → R (takes_key now ttl revision x)
@@ -451,8 +461,10 @@ module _ (now : Ticks) (heard : Heard) (b : Outcome) where
     may-begin : (revision : ℕ)
         → (is_candidate b.knows.who.me b.knows.turn_failover ≡ true)
         ⊎ (is_candidate b.knows.who.me (failover_in snapshot) ≡ true)
-        → is_replica b.machine.server.state ≡ true → IsRestrained heard b (Leader revision) (outputs.Server orders.Begin)
-    may-begin revision named runs = subst (λ (h : Heard). IsRestrained h b (Leader revision) (outputs.Server orders.Begin))
+        → is_replica b.machine.server.state ≡ true
+        → IsRestrained heard b (Leader revision) (outputs.Server orders.Begin)
+    may-begin revision named runs =
+        subst (λ (h : Heard). IsRestrained h b (Leader revision) (outputs.Server orders.Begin))
         (sym is) (named, replica b.machine.server.state runs)
 
     by-turn : (revision : ℕ) → is_wanted b.knows.who.me b.knows.turn_failover b.machine.server.state ≡ true
@@ -521,12 +533,14 @@ module _ (now : Ticks) (heard : Heard) (b : Outcome) where
       (behind b.outputs b.role b.knows.settings (outputs.Server (orders.Restart (is_primary b.machine.server.state)))
       (restart refl) (calm b.outputs b.role b.knows.settings all))
   operated-calm request requests.Reinit restart reinit all = behind _ b.role b.knows.settings _ tt
-      (behind b.outputs b.role b.knows.settings (outputs.Server orders.Wipe) (reinit refl) (calm b.outputs b.role b.knows.settings all))
+      (behind b.outputs b.role b.knows.settings (outputs.Server orders.Wipe) (reinit refl)
+      (calm b.outputs b.role b.knows.settings all))
   operated-calm request (requests.Hold from ttl) restart reinit all =
       asked-to-hold-by R now request (record { 0 = ttl }) b
       (λ text _. calm _ _ _
       (calmly _ (outputs.Tell (tellings.Told request _)) tt
-      (calmly b.outputs (outputs.Tell (tellings.HoldTaken (span_after now (record { 0 = ttl })) b.knows.who.me unnumbered)) tt all)))
+      (calmly b.outputs
+      (outputs.Tell (tellings.HoldTaken (span_after now (record { 0 = ttl })) b.knows.who.me unnumbered)) tt all)))
       (λ text. calm _ _ _ (calmly b.outputs (outputs.Tell (tellings.Told request _)) tt all))
 
 -- ---- what precedes the input's own rows orders nothing
@@ -553,7 +567,10 @@ before-calm now o all =
 
 told-calm : (b : Outcome) → Calm b.outputs → ReplyRows (Before b) b
 told-calm b all =
-    record { kept = (all, refl); answers = λ request told. (calmly b.outputs (outputs.Tell (tellings.Told request told)) tt all, refl) }
+    record {
+      kept = (all, refl);
+      answers = λ request told. (calmly b.outputs (outputs.Tell (tellings.Told request told)) tt all, refl);
+    }
 
 step-calm : (now : Ticks) (points : List HistoryPoint) (heard : Heard) (o : Outcome) → Calm o.outputs
     → R now heard (reconciled now o) (step now points heard o)

@@ -73,7 +73,8 @@ ask-keeps : (members : MemberSet) (sequence : ℕ) (ttl : Ticks) (member : Optio
 ask-keeps members sequence ttl None outs output among = among
 ask-keeps members sequence ttl (Some member) outs output among =
     if-cases (λ (l : List Output). Contains l output) (has members member.number)
-    (with_output (outputs.Message (outgoing.Send (targets.Member member) sequence (bodies.FailsafeRequest ttl))) outs) outs
+    (with_output (outputs.Message (outgoing.Send (targets.Member member) sequence (bodies.FailsafeRequest ttl))) outs)
+    outs
     (λ _. Contains-append_left outs
     (outputs.Message (outgoing.Send (targets.Member member) sequence (bodies.FailsafeRequest ttl)) ∷ []) output among)
     (λ _. among)
@@ -86,7 +87,9 @@ ask-sent members sequence ttl member outs known =
     subst (λ (l : List Output).
     Contains l (outputs.Message (outgoing.Send (targets.Member member) sequence (bodies.FailsafeRequest ttl))))
     (sym (ap (λ (b : Bool). cond b
-    (with_output (outputs.Message (outgoing.Send (targets.Member member) sequence (bodies.FailsafeRequest ttl))) outs) outs) known))
+    (with_output (outputs.Message (outgoing.Send (targets.Member member) sequence (bodies.FailsafeRequest ttl))) outs)
+    outs)
+    known))
     (Contains-push outs (outputs.Message (outgoing.Send (targets.Member member) sequence (bodies.FailsafeRequest ttl))))
 
 below-or : (a n : ℕ) → a < suc n → (a < n) ⊎ (a ≡ n)

@@ -298,12 +298,14 @@ pub record HoldGround (now : Ticks) (heard : Heard) (o : Outcome) (until : Ticks
 -- mode; another write of it, that the plan calls for it
 abbrev pub RequestGround : Ticks → Heard → Outcome → Txn → Type 0
 RequestGround now heard o (txns.Lease (lease_txns.Create info ttl failsafe sync)) = CreateGround heard o
-RequestGround now heard o (txns.Lease (lease_txns.Renew revision info ttl status row failsafe)) = RenewGround heard o revision failsafe
+RequestGround now heard o (txns.Lease (lease_txns.Renew revision info ttl status row failsafe)) =
+    RenewGround heard o revision failsafe
 RequestGround now heard o (txns.Sync (sync_txns.Claim revision expected)) = TakeGround now heard o revision
     × (o.knows.turn_settings.synchronous_mode ≡ true) × (expected ≡ expected_of o.knows.turn_sync)
 RequestGround now heard o (txns.Sync (sync_txns.SetSync revision sync standbys)) =
     SyncGround now heard o revision sync (λ plan. NamesByPlan plan standbys)
-RequestGround now heard o (txns.Sync (sync_txns.DropSync revision sync)) = SyncGround now heard o revision (Revision sync) RemovesByPlan
+RequestGround now heard o (txns.Sync (sync_txns.DropSync revision sync)) =
+    SyncGround now heard o revision (Revision sync) RemovesByPlan
 RequestGround now heard o _ = Unit {0}
 
 -- what a message to another member needs: a failsafe request, that its sender can't reach the key store
@@ -314,13 +316,17 @@ AskGround now heard o to _ = Unit {0}
 -- the ground of an output in an input that hears this, over what
 -- precedes each input. A watchdog that is off or broken gets no deadline
 abbrev pub HasGround : Ticks → Heard → Outcome → Output → Type 0
-HasGround now heard o (outputs.Message (outgoing.Send targets.Store sequence (bodies.Request txn))) = RequestGround now heard o txn
-HasGround now heard o (outputs.Message (outgoing.Send (targets.Member to) sequence body)) = AskGround now heard o to body
+HasGround now heard o (outputs.Message (outgoing.Send targets.Store sequence (bodies.Request txn))) =
+    RequestGround now heard o txn
+HasGround now heard o (outputs.Message (outgoing.Send (targets.Member to) sequence body)) =
+    AskGround now heard o to body
 HasGround now heard o (outputs.Server orders.Begin) = BeginGround now heard o
 HasGround now heard o (outputs.Require required) = RequireGround now heard o required
-HasGround now heard o (outputs.Watchdog (feedings.Armed until)) = (is_armable o.machine.watchdog.mode o.machine.watchdog.works ≡ true)
+HasGround now heard o (outputs.Watchdog (feedings.Armed until)) =
+    (is_armable o.machine.watchdog.mode o.machine.watchdog.works ≡ true)
     × GrantDeadline now heard o until
-HasGround now heard o (outputs.Watchdog (feedings.Fed until)) = (is_armable o.machine.watchdog.mode o.machine.watchdog.works ≡ true)
+HasGround now heard o (outputs.Watchdog (feedings.Fed until)) =
+    (is_armable o.machine.watchdog.mode o.machine.watchdog.works ≡ true)
     × GrantDeadline now heard o until
 HasGround now heard o (outputs.Watchdog (feedings.FedByFailsafe until members sequence since)) =
     (is_armable o.machine.watchdog.mode o.machine.watchdog.works ≡ true)
@@ -341,7 +347,8 @@ pub record AsksEachKnown (o after : Outcome) : Type 0 where
   pub awaited : after.knows.failsafe.members ≡ others_known o.knows
   pub each : (member : MemberId) → has (others_known o.knows) member.number ≡ true
       → Contains after.outputs
-      (outputs.Message (outgoing.Send (targets.Member member) waited.sequence (bodies.FailsafeRequest (lease_span o.knows.settings))))
+      (outputs.Message (outgoing.Send (targets.Member member) waited.sequence
+      (bodies.FailsafeRequest (lease_span o.knows.settings))))
 
 -- an input has its grounds: each output does; the other members are waited for only since a turn read that nobody
 -- leads; a leader that can't reach the key store and may stay primary asks each other member that failsafe keys
@@ -354,5 +361,7 @@ pub record HasGrounds (now : Ticks) (heard : Heard) (o after : Outcome) : Type 0
   pub wipes : Contains after.outputs (outputs.Server orders.Wipe) → live o.machine.server.state ≡ true
       → after.machine.server ≡ o.machine.server
   pub releases : (sequence revision : ℕ)
-      → Contains after.outputs (outputs.Message (outgoing.Send targets.Store sequence (bodies.Request (txns.Lease (lease_txns.Release revision)))))
+      → Contains after.outputs
+      (outputs.Message (outgoing.Send targets.Store sequence
+      (bodies.Request (txns.Lease (lease_txns.Release revision)))))
       → lease_of after.role ≡ Some revision → ⊥

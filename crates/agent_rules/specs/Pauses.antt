@@ -38,7 +38,8 @@ abbrev pub IsRestrained : Heard → Outcome → RoleFacts → Output → Type 0
 IsRestrained heard o role (outputs.Server (orders.Stop reason)) = ⊥
 IsRestrained heard o role (outputs.Server orders.ShutDown) = HandsOver role
 IsRestrained heard o role (outputs.Server (orders.StartReplica leader)) = o.knows.handed_over ≡ true
-IsRestrained heard o role (outputs.Server orders.Begin) = NamesAsCandidate heard o × (o.machine.server.state ≡ states.Replica)
+IsRestrained heard o role (outputs.Server orders.Begin) =
+    NamesAsCandidate heard o × (o.machine.server.state ≡ states.Replica)
 IsRestrained heard o role (outputs.Server (orders.Repair leader Rewind)) = ⊥
 IsRestrained heard o role (outputs.Server (orders.Restart as_primary)) = IsRestart heard
 IsRestrained heard o role (outputs.Server orders.Wipe) = IsReinit heard

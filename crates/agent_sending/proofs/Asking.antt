@@ -97,21 +97,24 @@ silent-spans number ttl _ silent = tt
 -- one more request behind silent outputs, that is waited for
 asked-now : (now : Ticks) (o after : Outcome) (outs : List Output) (asked : PendingQuestion) (txn : Txn)
     → All IsSilent outs
-    → after.outputs ≡ with_output (outputs.Message (outgoing.Send targets.Store asked.sequence (bodies.Request txn))) outs
+    → after.outputs
+    ≡ with_output (outputs.Message (outgoing.Send targets.Store asked.sequence (bodies.Request txn))) outs
     → after.knows.waited ≡ Some asked → asked.sent ≡ now
     → span_asked (query_of txn) ≡ asked.ttl.0 → o.knows.sequence < asked.sequence → Holds now o after
 asked-now now o after outs asked txn silent is waits sent span later waited waits-now asks =
     let same : asked ≡ waited = some-is asked waited (sym waits ∙ waits-now) in
     let all : All (SpansAs asked.sequence asked.ttl.0) after.outputs =
     subst (λ (l : List Output). All (SpansAs asked.sequence asked.ttl.0) l) (sym is)
-    (All-push (SpansAs asked.sequence asked.ttl.0) outs (outputs.Message (outgoing.Send targets.Store asked.sequence (bodies.Request txn)))
+    (All-push (SpansAs asked.sequence asked.ttl.0) outs
+    (outputs.Message (outgoing.Send targets.Store asked.sequence (bodies.Request txn)))
     (All-weaker IsSilent (SpansAs asked.sequence asked.ttl.0) (silent-spans asked.sequence asked.ttl.0) outs silent)
     (λ _. span)) in
     inr (subst (λ (w : PendingQuestion). IsAskedNow now o after w) same (record {
       later = later;
       sent = sent;
       ttl = λ request among. subst (λ (y : Output). SpansAs asked.sequence asked.ttl.0 y) among.2
-          (all among.0 (outputs.Message (outgoing.Send targets.Store asked.sequence (bodies.Request request))) among.1) refl;
+          (all among.0 (outputs.Message (outgoing.Send targets.Store asked.sequence (bodies.Request request))) among.1)
+          refl;
     }))
 
 more-than : (a b : ℕ) → a ≤ b → a < b + 1
@@ -172,7 +175,8 @@ same-holds now o b x holds outs waits waited is asks = elim (holds waited (sym w
     later = asked.later;
     sent = asked.sent;
     ttl = λ txn among. asked.ttl txn
-        (subst (λ (l : List Output). Contains l (outputs.Message (outgoing.Send targets.Store waited.sequence (bodies.Request txn))))
+        (subst (λ (l : List Output).
+        Contains l (outputs.Message (outgoing.Send targets.Store waited.sequence (bodies.Request txn))))
         outs among);
   })
 ]
@@ -559,7 +563,8 @@ stands-put C heard G o after is (outputs.Tell (tellings.HoldTaken until from seq
 ]
 stands-put C heard G o after is (outputs.Message (outgoing.FailsafeAnswer to run sequence accepted)) may =
     λ e. is.acknowledges to run sequence (may e)
-stands-put C heard G o after is (outputs.Watchdog (feedings.FedByFailsafe until members sequence since)) may = is.feeds members sequence may
+stands-put C heard G o after is (outputs.Watchdog (feedings.FedByFailsafe until members sequence since)) may =
+    is.feeds members sequence may
 stands-put C heard G o after is _ may = tt
 
 -- an operator's configuration has failsafe mode as it is declared, and so has what is asked for

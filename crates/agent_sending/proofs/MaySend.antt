@@ -173,13 +173,16 @@ pub silent-disabled : (renews : Bool) (deadline : Option Ticks) (outs : List Out
     → All IsSilent (disabling_told renews deadline outs)
 silent-disabled renews None outs all = all
 silent-disabled true (Some deadline) outs all = silently (with_output (outputs.Watchdog feedings.Disarmed) outs)
-    (outputs.Note (notings.Agent agent_notes.DisablesWatchdog)) (silently outs (outputs.Watchdog feedings.Disarmed) all tt) tt
+    (outputs.Note (notings.Agent agent_notes.DisablesWatchdog))
+    (silently outs (outputs.Watchdog feedings.Disarmed) all tt) tt
 silent-disabled false (Some deadline) outs all = silently outs (outputs.Watchdog feedings.Disarmed) all tt
 
 -- the release of this revision under this number, or a silent output
 abbrev pub IsReleaseOr : ℕ → ℕ → Output → Type 0
 IsReleaseOr sequence revision output =
-    IsSilent output ⊎ (output ≡ outputs.Message (outgoing.Send targets.Store sequence (bodies.Request (txns.Lease (lease_txns.Release revision)))))
+    IsSilent output
+    ⊎ (output ≡ outputs.Message
+    (outgoing.Send targets.Store sequence (bodies.Request (txns.Lease (lease_txns.Release revision)))))
 
 -- what comes before an input sends nothing; or the lease is released
 -- of an agent whose server has ended, and that waits for nothing
@@ -212,7 +215,8 @@ IsPositionAsk _ = ⊥
 
 -- an output that is silent, or sends such a question, or asks another member, under a number between these
 abbrev pub IsMild : (Option Expected → Type 0) → ℕ → ℕ → Output → Type 0
-IsMild K low high (outputs.Message (outgoing.Send targets.Store sequence body)) = (low < sequence) × (sequence ≤ high) × IsPlainBody K body
+IsMild K low high (outputs.Message (outgoing.Send targets.Store sequence body)) =
+    (low < sequence) × (sequence ≤ high) × IsPlainBody K body
 IsMild K low high (outputs.Message (outgoing.Send (targets.Member member) sequence body)) =
     (low < sequence) × (sequence ≤ high) × IsPositionAsk body
 IsMild K low high (outputs.Message (outgoing.FailsafeAnswer to incarnation sequence accepted)) = ⊥
@@ -298,7 +302,8 @@ judged-mild K low now o may less silent =
     let later : low < high = omega (arith, less) in
     judged-by (AllMild K low) now o
     (All-push (IsMild K low high) o.outputs _ (mild-front K low high o.outputs silent) (later, omega arith, may))
-    (λ bar. All-push (IsMild K low high) (with_output (outputs.Note (notings.Agent (agent_notes.DoesNotRace bar))) o.outputs) _
+    (λ bar.
+    All-push (IsMild K low high) (with_output (outputs.Note (notings.Agent (agent_notes.DoesNotRace bar))) o.outputs) _
     (mild-front K low high (with_output (outputs.Note (notings.Agent (agent_notes.DoesNotRace bar))) o.outputs)
     (silently o.outputs (outputs.Note (notings.Agent (agent_notes.DoesNotRace bar))) silent tt))
     (later, omega arith, tt))
@@ -312,7 +317,8 @@ ask-mild K low high who sequence (Some member) outs later less all =
     if-cases (λ (l : List Output). All (IsMild K low high) l) (is_other who member)
     (with_output (outputs.Message (outgoing.Send (targets.Member member) sequence bodies.Ask)) outs) outs
     (λ _.
-    All-push (IsMild K low high) outs (outputs.Message (outgoing.Send (targets.Member member) sequence bodies.Ask)) all (later, less, tt))
+    All-push (IsMild K low high) outs
+    (outputs.Message (outgoing.Send (targets.Member member) sequence bodies.Ask)) all (later, less, tt))
     (λ _. all)
 
 asks-mild : (K : Option Expected → Type 0) (low high : ℕ) (who : Who) (sequence count : ℕ) (outs : List Output)
@@ -336,8 +342,10 @@ handover-mild K low now held o less silent = let out : ℕ = o.knows.sequence in
   clears = λ compared. All-push (IsMild K low (out + 1)) o.outputs _
       (mild-front K low (out + 1) o.outputs silent) (omega (arith, less), omega arith, tt);
   hands = λ candidate. mild-front K low out
-      (with_output (outputs.Server orders.ShutDown) (with_output (outputs.Note (notings.Agent (agent_notes.HandsOver candidate))) o.outputs))
-      (silently (with_output (outputs.Note (notings.Agent (agent_notes.HandsOver candidate))) o.outputs) (outputs.Server orders.ShutDown)
+      (with_output (outputs.Server orders.ShutDown)
+      (with_output (outputs.Note (notings.Agent (agent_notes.HandsOver candidate))) o.outputs))
+      (silently (with_output (outputs.Note (notings.Agent (agent_notes.HandsOver candidate))) o.outputs)
+      (outputs.Server orders.ShutDown)
       (silently o.outputs (outputs.Note (notings.Agent (agent_notes.HandsOver candidate))) silent tt) tt);
 }
 
@@ -361,7 +369,8 @@ ended-fronts : (why : Why) (held : ℕ) (o : Outcome) → o.role ≡ Ending held
 ended-fronts HandOver held o is ended alone silent =
     Released held (rw is refl) (alone (rw is refl)) refl ended (omega arith)
     (All-push (IsReleaseOr (o.knows.sequence + 1) held) (disarmed o.machine.watchdog.deadline o.outputs)
-    (outputs.Message (outgoing.Send targets.Store (o.knows.sequence + 1) (bodies.Request (txns.Lease (lease_txns.Release held)))))
+    (outputs.Message (outgoing.Send targets.Store (o.knows.sequence + 1)
+    (bodies.Request (txns.Lease (lease_txns.Release held)))))
     (All-weaker IsSilent (IsReleaseOr (o.knows.sequence + 1) held) (λ output e. inl e)
     (disarmed o.machine.watchdog.deadline o.outputs) (silent-disarmed o.machine.watchdog.deadline o.outputs silent))
     (inr refl))
@@ -407,7 +416,8 @@ before-may G now o alone silent = fronts-may G o (reconciled now o) (before-fron
 -- a promotion that is postponed sends nothing
 pub postpones-silent : (held : ℕ) (o : Outcome) → All IsSilent o.outputs → All IsSilent (postpones held o).outputs
 postpones-silent held o silent = silently (disarmed o.machine.watchdog.deadline o.outputs)
-    (outputs.Note (notings.Agent agent_notes.PostponesPromotion)) (silent-disarmed o.machine.watchdog.deadline o.outputs silent) tt
+    (outputs.Note (notings.Agent agent_notes.PostponesPromotion))
+    (silent-disarmed o.machine.watchdog.deadline o.outputs silent) tt
 
 -- a read is sent under the next number
 pub reads-new : (G : Grounds) (now : Ticks) (o b : Outcome) → o.knows.sequence ≤ b.knows.sequence
@@ -428,10 +438,12 @@ pub told-fronts : (o b : Outcome) → Fronts o b → ReplyRows (Fronts o) b
 told-fronts o b fronts = record { kept = fronts; answers = λ request told. answers-front request told fronts }
   where
     answers-front : (request : ℕ) (told : Tells) → Fronts o b → Fronts o (answering request told b)
-    answers-front request told (Silent all) = Silent (silently b.outputs (outputs.Tell (tellings.Told request told)) all tt)
+    answers-front request told (Silent all) =
+        Silent (silently b.outputs (outputs.Tell (tellings.Told request told)) all tt)
     answers-front request told (Released revision held alone role ended counted all) =
         Released revision held alone role ended counted
-        (All-push (IsReleaseOr (o.knows.sequence + 1) revision) b.outputs (outputs.Tell (tellings.Told request told)) all (inl tt))
+        (All-push (IsReleaseOr (o.knows.sequence + 1) revision) b.outputs
+        (outputs.Tell (tellings.Told request told)) all (inl tt))
 
 -- what precedes an input leaves what a create expects
 abbrev pub ComparesAs : Outcome → Outcome → Type 0

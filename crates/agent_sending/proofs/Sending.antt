@@ -116,7 +116,8 @@ follow-may G now leader o b later silent = let x : Outcome = led_by_another b in
     (touches G o x x.outputs later silent)
     (touches G o (starting_replica now (Some leader) x) x.outputs later
     (silently b.outputs (outputs.Server (orders.StartReplica (Some leader))) silent tt))
-    (touches G o (following_server leader x) x.outputs later (silently b.outputs (outputs.Server (orders.Follow leader)) silent tt))
+    (touches G o (following_server leader x) x.outputs later
+    (silently b.outputs (outputs.Server (orders.Follow leader)) silent tt))
     (touches G o (shutting_down now x) x.outputs later (silently b.outputs (outputs.Server orders.ShutDown) silent tt)))
     (λ r.
     follow-by (λ (y : Outcome). AllMay G o (repairing leader r (touching y))) may now leader b.machine.server.state x
@@ -125,7 +126,8 @@ follow-may G now leader o b later silent = let x : Outcome = led_by_another b in
     (silently b.outputs (outputs.Server (orders.StartReplica (Some leader))) silent tt))
     (touches-repairing G leader r o (following_server leader x) later
     (silently b.outputs (outputs.Server (orders.Follow leader)) silent tt))
-    (touches-repairing G leader r o (shutting_down now x) later (silently b.outputs (outputs.Server orders.ShutDown) silent tt)))
+    (touches-repairing G leader r o (shutting_down now x) later
+    (silently b.outputs (outputs.Server orders.ShutDown) silent tt)))
 
 -- what a member without a lease does while nobody leads, where it is known that nothing bars it as it races
 pub free-when : (P : Outcome → Type 0) (now : Ticks) (o : Outcome)
@@ -239,7 +241,8 @@ got-silent G now points sequence snapshot o b creates fits later silent =
       follows = λ leader _ _. follow-may G now leader.holder o read later silent;
       free = λ _ _. free-may G now o read creates.free later silent;
       runs_on = λ _. let runs : Outcome = running_without_key read in
-          front G o runs runs.outputs (silently b.outputs (outputs.Note (notings.Agent agent_notes.RunsWithoutKey)) silent tt);
+          front G o runs runs.outputs
+          (silently b.outputs (outputs.Note (notings.Agent agent_notes.RunsWithoutKey)) silent tt);
       asks_on = λ paused. let asks : Outcome = asks_as_unleased now read in
           let runs : List Output = with_output (outputs.Note (notings.Agent agent_notes.RunsWithoutKey)) b.outputs in
           push G o asks runs _
@@ -447,7 +450,8 @@ cannot-arm-may : (G : Grounds) (revision : ℕ) (o b : Outcome) → o.knows.sequ
     → live b.machine.server.state ≡ false → G.gives revision → All IsSilent b.outputs
     → AllMay G o (cannot_arm revision b)
 cannot-arm-may G revision o b later ended given silent =
-    gives-back-may G revision o (record b { outputs = with_output (outputs.Note (notings.Agent agent_notes.CannotArm)) b.outputs })
+    gives-back-may G revision o
+    (record b { outputs = with_output (outputs.Note (notings.Agent agent_notes.CannotArm)) b.outputs })
     later ended given (silently b.outputs (outputs.Note (notings.Agent agent_notes.CannotArm)) silent tt)
 
 begins-may : (G : Grounds) (now : Ticks) (revision : ℕ) (o b : Outcome) → G.gives revision
@@ -459,7 +463,8 @@ begins-may G now revision o b given silent = let begun : Outcome = begins now re
 
 -- a note of the sync key is silent
 pub silent-passing : (o : Outcome) → All IsSilent o.outputs → All IsSilent (passing o).outputs
-silent-passing o silent = passing-by (All IsSilent) o silent (silently o.outputs (outputs.Tell tellings.ClaimsOutsideSync) silent tt)
+silent-passing o silent =
+    passing-by (All IsSilent) o silent (silently o.outputs (outputs.Tell tellings.ClaimsOutsideSync) silent tt)
 
 claims-may : (G : Grounds) (now : Ticks) (revision : ℕ) (o b : Outcome) → o.knows.sequence ≤ b.knows.sequence
     → All IsSilent b.outputs → AllMay G o (claims now revision b)
@@ -509,7 +514,8 @@ confirm-put G snapshot o after (outputs.Message (outgoing.Send targets.Store seq
     confirm-txn : (txn : Txn) → MayTransact G o after sequence txn
         → MayTransact G o (confirming snapshot after) sequence txn
     confirm-txn (txns.Lease (lease_txns.Create info ttl failsafe sync)) asks = asks
-    confirm-txn (txns.Lease (lease_txns.Renew revision info ttl status row failsafe)) asks = (asks.0, asks.1, confirm-set failsafe asks.2)
+    confirm-txn (txns.Lease (lease_txns.Renew revision info ttl status row failsafe)) asks =
+        (asks.0, asks.1, confirm-set failsafe asks.2)
     confirm-txn (txns.Lease (lease_txns.Release revision)) asks = asks
     confirm-txn (txns.Operators (operator_txns.SetConfig revision config)) asks = asks
     confirm-txn _ asks = tt
@@ -660,7 +666,8 @@ acts-may G now request o b fronts who later primary asked configures = by asked 
     by (requests.Failover kind failover) configures =
         put (FailingOver kind) (txns.Operators (operator_txns.SetFailover failover (lease_span b.knows.settings))) tt
     by (requests.Configuration config) configures =
-        put Configuring (txns.Operators (operator_txns.SetConfig (config_revision b.knows.seen) config)) (configures config refl)
+        put Configuring (txns.Operators (operator_txns.SetConfig (config_revision b.knows.seen) config))
+        (configures config refl)
     by requests.Restart configures = restarts (tolds.Text ok texts.Restarted)
     by requests.Reinit configures = wipes (tolds.Text ok texts.ReinitializeStarted)
 

@@ -55,7 +55,8 @@ turn-mild G now o b later mild = let noted : Outcome = record b { knows = turn_n
     turn-by (AllMay G o) now b (record {
       kept = mild-all G o b mild;
       quiet = mild-all G o noted mild;
-      reads = λ _. push G o (reading now noted) b.outputs (outputs.Message (outgoing.Send targets.Store (high + 1) bodies.Read))
+      reads = λ _.
+          push G o (reading now noted) b.outputs (outputs.Message (outgoing.Send targets.Store (high + 1) bodies.Read))
           (All-weaker (IsMild K low (high + 1)) (MayPut G o (reading now noted))
           (mild-may G o (reading now noted)) b.outputs
           (All-weaker (IsMild K low high) (IsMild K low (high + 1))
@@ -72,7 +73,8 @@ turn-released G now o b revision held role ended counted all =
       kept = released G o b revision b.outputs held role ended counted all;
       quiet = released G o noted revision b.outputs held role ended counted all;
       reads =
-          λ _. push G o (reading now noted) b.outputs (outputs.Message (outgoing.Send targets.Store (b.knows.sequence + 1) bodies.Read))
+          λ _. push G o (reading now noted) b.outputs
+          (outputs.Message (outgoing.Send targets.Store (b.knows.sequence + 1) bodies.Read))
           (released G o (reading now noted) revision b.outputs held role ended (omega (arith, counted)) all)
           (reads-new G now o b (omega (arith, counted)));
     })
@@ -110,8 +112,10 @@ request-may : (G : Grounds) (o after : Outcome) (members : MemberSet) (sequence 
 request-may G o after members sequence ttl None outs later counted may all = all
 request-may G o after members sequence ttl (Some member) outs later counted may all =
     if-cases (λ (l : List Output). All (MayPut G o after) l) (has members member.number)
-    (with_output (outputs.Message (outgoing.Send (targets.Member member) sequence (bodies.FailsafeRequest ttl))) outs) outs
-    (λ _. push G o after outs (outputs.Message (outgoing.Send (targets.Member member) sequence (bodies.FailsafeRequest ttl))) all
+    (with_output (outputs.Message (outgoing.Send (targets.Member member) sequence (bodies.FailsafeRequest ttl))) outs)
+    outs
+    (λ _. push G o after outs
+    (outputs.Message (outgoing.Send (targets.Member member) sequence (bodies.FailsafeRequest ttl))) all
     (later, counted, may))
     (λ _. all)
 
@@ -136,7 +140,8 @@ seeks-may G now o b members later silent =
 -- an output that is silent, or feeds the watchdog on the acknowledgements of these members
 abbrev IsSteady : MemberSet → ℕ → Output → Type 0
 IsSteady members sequence output = IsSilent output
-    ⊎ ((until : Ticks) × ((since : Ticks) × (output ≡ outputs.Watchdog (feedings.FedByFailsafe until members sequence since))))
+    ⊎ ((until : Ticks) ×
+    ((since : Ticks) × (output ≡ outputs.Watchdog (feedings.FedByFailsafe until members sequence since))))
 
 steady-may : (G : Grounds) (o after : Outcome) (members : MemberSet) (sequence : ℕ) → G.feeds members sequence
     → (output : Output) → IsSteady members sequence output → MayPut G o after output
@@ -162,7 +167,8 @@ stays-steady now ttl sequence since o silent =
         → All Steady (fed_by_failsafe deadline o.knows.failsafe.members sequence since o.outputs)
     fed-steady None = before-it
     fed-steady (Some until) = All-push Steady o.outputs
-        (outputs.Watchdog (feedings.FedByFailsafe until o.knows.failsafe.members sequence since)) before-it (inr (until, (since, refl)))
+        (outputs.Watchdog (feedings.FedByFailsafe until o.knows.failsafe.members sequence since)) before-it
+        (inr (until, (since, refl)))
 
 steady-all : (G : Grounds) (o after x : Outcome) (members : MemberSet) (sequence : ℕ)
     → G.feeds members sequence → All (IsSteady members sequence) x.outputs → All (MayPut G o after) x.outputs
@@ -178,7 +184,8 @@ turn-steady G now o x members sequence later may all =
       kept = steady-all G o x x members sequence may all;
       quiet = steady-all G o noted x members sequence may all;
       reads =
-          λ _. push G o (reading now noted) x.outputs (outputs.Message (outgoing.Send targets.Store (x.knows.sequence + 1) bodies.Read))
+          λ _. push G o (reading now noted) x.outputs
+          (outputs.Message (outgoing.Send targets.Store (x.knows.sequence + 1) bodies.Read))
           (steady-all G o (reading now noted) x members sequence may all) (reads-new G now o x later);
     })
 
@@ -196,7 +203,8 @@ overdue-asking : (G : Grounds) (now : Ticks) (o b : Outcome)
     → o.knows.sequence ≤ b.knows.sequence → All IsSilent b.outputs → Turns G now o (overdue now b)
 overdue-asking G now o b creates feeds later silent =
     let low : ℕ = o.knows.sequence in let out : ℕ = b.knows.sequence in let K : Option Expected → Type 0 = G.creates in
-    let stopped : (reason : Reason) → All (IsMild K low out) (with_output (outputs.Server (orders.Stop reason)) b.outputs) =
+    let stopped : (reason : Reason)
+    → All (IsMild K low out) (with_output (outputs.Server (orders.Stop reason)) b.outputs) =
     λ reason. mild-front K low out (with_output (outputs.Server (orders.Stop reason)) b.outputs)
     (silently b.outputs (outputs.Server (orders.Stop reason)) silent tt) in
     let mild : All (IsMild K low out) b.outputs = mild-front K low out b.outputs silent in
@@ -365,7 +373,8 @@ failsafe-answered-all G now from sequence accepted sent o b feeds silent =
           (feeds waited is staying))
           (stays-steady now waited.ttl waited.sequence since (counting from sent b) silent);
       fails = λ held _ _. let ended : Outcome = leader_unacknowledged now held (waiting_no_more b) in
-          front G o ended ended.outputs (silently b.outputs (outputs.Server (orders.Stop FailsafeNotAcknowledged)) silent tt);
+          front G o ended ended.outputs
+          (silently b.outputs (outputs.Server (orders.Stop FailsafeNotAcknowledged)) silent tt);
     })
   where
     heard-same : (ask : Ask) → (ask_heard ask from true sent).members ≡ ask.members

@@ -29,7 +29,8 @@ IsNumbered above most _ = Unit {0}
 pub record IsAskedNow (now : Ticks) (o after : Outcome) (waited : PendingQuestion) : Type 0 where
   pub later : o.knows.sequence < waited.sequence
   pub sent : waited.sent ≡ now
-  pub ttl : (txn : Txn) → Contains after.outputs (outputs.Message (outgoing.Send targets.Store waited.sequence (bodies.Request txn)))
+  pub ttl : (txn : Txn)
+      → Contains after.outputs (outputs.Message (outgoing.Send targets.Store waited.sequence (bodies.Request txn)))
       → span_asked (query_of txn) ≡ waited.ttl.0
 
 -- the acknowledgements of a failsafe request are waited for
@@ -55,7 +56,8 @@ StandsOn heard knows (outputs.Tell (tellings.HoldTaken until from sequence)) =
     ((sequence ≡ 0) × (from ≡ knows.who.me)) ⊎ ((run : ℕ) × HearsFailsafe heard from run sequence)
 StandsOn heard knows (outputs.Message (outgoing.FailsafeAnswer to run sequence accepted)) =
     accepted ≡ true → HearsFailsafe heard to run sequence
-StandsOn heard knows (outputs.Watchdog (feedings.FedByFailsafe until members sequence since)) = FeedsAsAsked knows members sequence
+StandsOn heard knows (outputs.Watchdog (feedings.FedByFailsafe until members sequence since)) =
+    FeedsAsAsked knows members sequence
 StandsOn heard knows _ = Unit {0}
 
 -- an input asks under new numbers that are counted, and the create or the renewal that its agent waits for

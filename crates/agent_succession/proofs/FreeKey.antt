@@ -204,13 +204,16 @@ ask-keeps who sequence None outs output among = among
 ask-keeps who sequence (Some member) outs output among =
     if-cases (λ (l : List Output). Contains l output) (is_other who member)
     (with_output (outputs.Message (outgoing.Send (targets.Member member) sequence bodies.Ask)) outs) outs
-    (λ _. Contains-append_left outs (outputs.Message (outgoing.Send (targets.Member member) sequence bodies.Ask) ∷ []) output among)
+    (λ _. Contains-append_left outs
+    (outputs.Message (outgoing.Send (targets.Member member) sequence bodies.Ask) ∷ []) output among)
     (λ _. among)
 
 ask-sent : (who : Who) (sequence : ℕ) (member : MemberId) (outs : List Output) → is_other who member ≡ true
-    → Contains (asking_one who sequence (Some member) outs) (outputs.Message (outgoing.Send (targets.Member member) sequence bodies.Ask))
+    → Contains (asking_one who sequence (Some member) outs)
+    (outputs.Message (outgoing.Send (targets.Member member) sequence bodies.Ask))
 ask-sent who sequence member outs other =
-    subst (λ (l : List Output). Contains l (outputs.Message (outgoing.Send (targets.Member member) sequence bodies.Ask)))
+    subst (λ (l : List Output).
+    Contains l (outputs.Message (outgoing.Send (targets.Member member) sequence bodies.Ask)))
     (sym (if-true (is_other who member)
     (with_output (outputs.Message (outgoing.Send (targets.Member member) sequence bodies.Ask)) outs) outs other))
     (Contains-push outs (outputs.Message (outgoing.Send (targets.Member member) sequence bodies.Ask)))
@@ -221,7 +224,8 @@ below-or a n less = grind (arith, less)
 -- each other member is asked
 each-asked : (who : Who) (sequence count : ℕ) (member : MemberId) (outs : List Output)
     → is_other who member ≡ true → member.number < count
-    → Contains (asking_first who sequence count outs) (outputs.Message (outgoing.Send (targets.Member member) sequence bodies.Ask))
+    → Contains (asking_first who sequence count outs)
+    (outputs.Message (outgoing.Send (targets.Member member) sequence bodies.Ask))
 each-asked who sequence zero member outs other less = absurd (omega (arith, less))
 each-asked who sequence (suc count) member outs other less = elim (below-or member.number count less) [
   | inl before-it ↦ ask-keeps who sequence (member_of count) (asking_first who sequence count outs)

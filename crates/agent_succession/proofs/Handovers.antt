@@ -126,25 +126,30 @@ asks-nobody : (sent : Output) (o : Outcome) (candidate : MemberId)
     → Contains o.outputs (outputs.Note (notings.Agent (agent_notes.HandsOver candidate)))
 asks-nobody sent o candidate other among =
     elim (Contains-push_cases o.outputs sent
-    (outputs.Note (notings.Agent (agent_notes.HandsOver candidate))) among) [ inl before-it ↦ before-it | inr is ↦ absurd (other is) ]
+    (outputs.Note (notings.Agent (agent_notes.HandsOver candidate)))
+    among) [ inl before-it ↦ before-it | inr is ↦ absurd (other is) ]
 
 same-candidate : (member candidate : MemberId)
-    → ◌≡◌ {A = Output} (outputs.Note (notings.Agent (agent_notes.HandsOver member))) (outputs.Note (notings.Agent (agent_notes.HandsOver candidate)))
+    → ◌≡◌ {A = Output} (outputs.Note (notings.Agent (agent_notes.HandsOver member)))
+    (outputs.Note (notings.Agent (agent_notes.HandsOver candidate)))
     → member ≡ candidate
 same-candidate member candidate e = cc
 
 ends-nobody : (candidate : MemberId)
-    → ◌≡◌ {A = Output} (outputs.Server orders.ShutDown) (outputs.Note (notings.Agent (agent_notes.HandsOver candidate))) → ⊥
+    → ◌≡◌ {A = Output} (outputs.Server orders.ShutDown) (outputs.Note (notings.Agent (agent_notes.HandsOver candidate)))
+    → ⊥
 ends-nobody candidate e = cc
 
 module _ (now : Ticks) (revision : ℕ) (candidate : MemberId) (o : Outcome) where
   abbrev Right : Outcome → Type 0
   Right after = Contains after.outputs (outputs.Note (notings.Agent (agent_notes.HandsOver candidate)))
-      → Contains o.outputs (outputs.Note (notings.Agent (agent_notes.HandsOver candidate))) ⊎ HandsOverTo revision candidate o after
+      → Contains o.outputs (outputs.Note (notings.Agent (agent_notes.HandsOver candidate)))
+      ⊎ HandsOverTo revision candidate o after
 
   clears : Right (clearing (waiting_no_more o))
   clears among =
-      inl (clearing-by (λ (after : Outcome). Contains after.outputs (outputs.Note (notings.Agent (agent_notes.HandsOver candidate))) →
+      inl (clearing-by (λ (after : Outcome).
+      Contains after.outputs (outputs.Note (notings.Agent (agent_notes.HandsOver candidate))) →
       Contains o.outputs (outputs.Note (notings.Agent (agent_notes.HandsOver candidate))))
       (waiting_no_more o) (λ before-it. before-it) (λ compared. asks-nobody _ o candidate (λ e. cc)) among)
 
@@ -155,7 +160,8 @@ module _ (now : Ticks) (revision : ℕ) (candidate : MemberId) (o : Outcome) whe
       let noted : List Output = with_output (outputs.Note (notings.Agent (agent_notes.HandsOver member))) o.outputs in
       elim (Contains-push_cases o.outputs (outputs.Note (notings.Agent (agent_notes.HandsOver member)))
       (outputs.Note (notings.Agent (agent_notes.HandsOver candidate)))
-      (asks-nobody (outputs.Server orders.ShutDown) (record o { outputs = noted }) candidate (ends-nobody candidate) among)) [
+      (asks-nobody (outputs.Server orders.ShutDown) (record o { outputs = noted }) candidate
+      (ends-nobody candidate) among)) [
         | inl before-it ↦ inl before-it
         | inr same ↦ inr (record {
           failover = failover;

@@ -167,9 +167,10 @@ module _ (P : EventKind → Type 0) (cluster : Cluster) (member : Member) where
   send-holds all target to is incarnation sequence body =
       all-kinds P cluster
       (kinds.Message (messages.Sent (cluster.facts.sent + 1) (agent_message member to incarnation sequence body))
-      ∷ lost_at_once (nat_le most_in_flight (length cluster.facts.flight)) (cluster.facts.sent + 1))
-      (all.sent target to is incarnation sequence body,
-      lost-holds all (nat_le most_in_flight (length cluster.facts.flight)))
+      ∷ lost_at_once (nat_le most_in_flight (length cluster.facts.flight)) (cluster.facts.sent + 1)) (
+        all.sent target to is incarnation sequence body,
+        lost-holds all (nat_le most_in_flight (length cluster.facts.flight)),
+      )
 
   sending-holds : HoldsOfMessages P cluster member → (found : Option AgentProcess) (target : Target)
       (to : Option LinkEnd) → receiver_of cluster.facts.members target ≡ to → (sequence : ℕ) (body : Body)
@@ -183,7 +184,8 @@ module _ (P : EventKind → Type 0) (cluster : Cluster) (member : Member) where
       → receiver_of cluster.facts.members target ≡ to → (incarnation sequence : ℕ) (body : Body)
       → AllAre P (replying_events cluster member to incarnation sequence body)
   replying-holds all target None is incarnation sequence body = tt
-  replying-holds all target (Some to) is incarnation sequence body = send-holds all target to is incarnation sequence body
+  replying-holds all target (Some to) is incarnation sequence body =
+      send-holds all target to is incarnation sequence body
 
   pub message-holds : HoldsOfMessages P cluster member → (written : Outgoing)
       → AllAre P (outgoing_events cluster member written)
@@ -264,7 +266,8 @@ module _ (P : EventKind → Type 0) (cluster : Cluster) (member : Member) where
       (all.wiped tt))
   order-holds (orders.Follow leader) all =
       let found = slice_get cluster.facts.members leader.number in
-      server-holds (upstream_of member found) (λ s. upstream-holds (orders.Follow leader) all found (is_replica s.state))
+      server-holds (upstream_of member found)
+      (λ s. upstream-holds (orders.Follow leader) all found (is_replica s.state))
   order-holds (orders.Repair leader repair) all =
       let found = slice_get cluster.facts.members leader.number in
       kind-holds (option_and_then (repair_over cluster.facts.cuts cluster.facts.servers member repair) found)

@@ -72,7 +72,9 @@ none-above past facts j same above =
 
 renew-flying : (m incarnation sequence revision : ℕ) (info : MemberInfo) (ttl : Ticks) (status : Option Lsn)
     (row : Option HistoryRow) (failsafe : Option MemberSet)
-    → query_in_flight_of (query_of m incarnation sequence (txns.Lease (lease_txns.Renew revision info ttl status row failsafe))) ≡ None
+    → query_in_flight_of (query_of m incarnation sequence
+    (txns.Lease (lease_txns.Renew revision info ttl status row failsafe)))
+    ≡ None
 renew-flying m incarnation sequence revision info ttl status row None = refl
 renew-flying m incarnation sequence revision info ttl status row (Some members) = refl
 
@@ -130,11 +132,13 @@ other-allowed setup past volatile_states tick i j by incarnation sequence txn st
 create-allowed : (setup : Setup) (past : Past) (volatile_states : ℕ → VolatileState) (tick : Ticks) (i j : ℕ)
     (by : Member) (incarnation sequence : ℕ) (info : MemberInfo) (ttl : Ticks)
     (failsafe sync : Option Expected) (standbys : List Name)
-    → IsAsked past i by incarnation sequence (txns.Lease (lease_txns.Create info ttl failsafe sync)) → setup.creates_compare ≡ false
+    → IsAsked past i by incarnation sequence (txns.Lease (lease_txns.Create info ttl failsafe sync))
+    → setup.creates_compare ≡ false
     → MayBeGranted (state_of setup past volatile_states) by.id.number incarnation sequence
     (txns.Lease (lease_txns.Create info ttl failsafe sync))
     → AreAllowed setup past volatile_states
-    (granted_actions volatile_states tick i j by incarnation sequence (txns.Lease (lease_txns.Create info ttl failsafe sync)) standbys)
+    (granted_actions volatile_states tick i j by incarnation sequence
+    (txns.Lease (lease_txns.Create info ttl failsafe sync)) standbys)
 create-allowed setup past volatile_states tick i j by incarnation sequence info ttl failsafe None standbys is none may =
     allowed-one setup past volatile_states (Create by.id.number incarnation sequence j) tick i j by incarnation sequence
     (txns.Lease (lease_txns.Create info ttl failsafe None)) standbys (may, none)
@@ -172,7 +176,8 @@ granted-allowed : (setup : Setup) (past : Past) (facts : Facts) (volatile_states
     → MayBeGranted (state_of setup past volatile_states) by.id.number incarnation sequence txn
     → AreAllowed setup past volatile_states
     (granted_actions volatile_states tick i j by incarnation sequence txn standbys)
-granted-allowed setup past facts volatile_states tick i j by incarnation sequence (txns.Lease (lease_txns.Create info ttl failsafe sync))
+granted-allowed setup past facts volatile_states tick i j by incarnation sequence
+    (txns.Lease (lease_txns.Create info ttl failsafe sync))
     standbys is same granted none may =
     create-allowed setup past volatile_states tick i j by incarnation sequence info ttl failsafe sync standbys
     is none may
@@ -180,24 +185,29 @@ granted-allowed setup past facts volatile_states tick i j by incarnation sequenc
     (txns.Lease (lease_txns.Renew revision info ttl status row failsafe)) standbys is same granted none may =
     renew-allowed setup past facts volatile_states tick i j by incarnation sequence revision info ttl status
     row failsafe standbys is same granted none may
-granted-allowed setup past facts volatile_states tick i j by incarnation sequence (txns.Sync (sync_txns.Claim revision sync)) standbys is
+granted-allowed setup past facts volatile_states tick i j by incarnation sequence
+    (txns.Sync (sync_txns.Claim revision sync)) standbys is
     same granted none may =
     allowed-one setup past volatile_states (Decide i j) tick i j by incarnation sequence
     (txns.Sync (sync_txns.Claim revision sync)) standbys tt
     (claim-shown setup past volatile_states tick i j by incarnation sequence revision sync standbys is.flying is.asked
     (sym (claim-decided past facts by.id.number incarnation sequence revision sync same) ∙ ap is_grant granted))
-granted-allowed setup past facts volatile_states tick i j by incarnation sequence (txns.Sync (sync_txns.SetSync revision sync set))
+granted-allowed setup past facts volatile_states tick i j by incarnation sequence
+    (txns.Sync (sync_txns.SetSync revision sync set))
     standbys is same granted none may =
     allowed-one setup past volatile_states (Decide i j) tick i j by incarnation sequence
     (txns.Sync (sync_txns.SetSync revision sync set)) standbys tt
     (publish-shown setup past volatile_states tick i j by incarnation sequence revision sync set standbys
     is.flying is.asked
     (sym (publish-decided past facts by.id.number incarnation sequence revision sync set same) ∙ ap is_grant granted))
-granted-allowed setup past facts volatile_states tick i j by incarnation sequence (txns.Lease (lease_txns.Release revision)) standbys is
+granted-allowed setup past facts volatile_states tick i j by incarnation sequence
+    (txns.Lease (lease_txns.Release revision)) standbys is
     same granted none may =
-    allowed-two setup past volatile_states Release tick i j by incarnation sequence (txns.Lease (lease_txns.Release revision)) standbys tt
+    allowed-two setup past volatile_states Release tick i j by incarnation sequence
+    (txns.Lease (lease_txns.Release revision)) standbys tt
     (release-shown setup past volatile_states tick i by revision standbys is.flying) is.asked
-granted-allowed setup past facts volatile_states tick i j by incarnation sequence (txns.Sync (sync_txns.DropSync revision sync)) standbys
+granted-allowed setup past facts volatile_states tick i j by incarnation sequence
+    (txns.Sync (sync_txns.DropSync revision sync)) standbys
     is same granted none may =
     absurd may
 granted-allowed setup past facts volatile_states tick i j by incarnation sequence (txns.Touch info ttl) standbys is same
@@ -214,12 +224,18 @@ granted-whole : (volatile_states : ℕ → VolatileState) (tick : Ticks) (i j : 
     (incarnation sequence : ℕ) (txn : Txn) (standbys : List Name)
     → book_of (granted_actions volatile_states tick i j by incarnation sequence txn standbys)
     ≡ granted_events tick i j by incarnation sequence txn standbys
-granted-whole volatile_states tick i j by incarnation sequence (txns.Lease (lease_txns.Create info ttl failsafe sync)) standbys = refl
-granted-whole volatile_states tick i j by incarnation sequence (txns.Lease (lease_txns.Renew revision info ttl status row failsafe))
+granted-whole volatile_states tick i j by incarnation sequence (txns.Lease (lease_txns.Create info ttl failsafe sync))
     standbys =
     refl
-granted-whole volatile_states tick i j by incarnation sequence (txns.Sync (sync_txns.Claim revision sync)) standbys = refl
-granted-whole volatile_states tick i j by incarnation sequence (txns.Sync (sync_txns.SetSync revision sync set)) standbys = refl
+granted-whole volatile_states tick i j by incarnation sequence
+    (txns.Lease (lease_txns.Renew revision info ttl status row failsafe))
+    standbys =
+    refl
+granted-whole volatile_states tick i j by incarnation sequence (txns.Sync (sync_txns.Claim revision sync)) standbys =
+    refl
+granted-whole volatile_states tick i j by incarnation sequence (txns.Sync (sync_txns.SetSync revision sync set))
+    standbys =
+    refl
 granted-whole volatile_states tick i j by incarnation sequence _ standbys = refl
 
 pub granted-delivery : (setup : Setup) (past : Past) (facts : Facts) (volatile_states : ℕ → VolatileState)
@@ -289,18 +305,21 @@ refused-is : (setup : Setup) (past : Past) (facts : Facts) (volatile_states : �
     → decision_on facts.keys facts.clock txn ≡ Refusing key found → ComparesNoSync txn → past.flight j ≡ None
     → RefusedShown setup past volatile_states
     (refused_action i j txn) tick i j by incarnation sequence request key found
-refused-is setup past facts volatile_states tick i j by incarnation sequence (txns.Sync (sync_txns.Claim revision sync)) request key
+refused-is setup past facts volatile_states tick i j by incarnation sequence
+    (txns.Sync (sync_txns.Claim revision sync)) request key
     found is same refused none new =
     refused-shown setup past volatile_states tick i j by incarnation sequence request key found
     (claim_request by.id.number incarnation sequence revision sync) is.flying
     (sym (claim-decided past facts by.id.number incarnation sequence revision sync same) ∙ ap is_grant refused) new
-refused-is setup past facts volatile_states tick i j by incarnation sequence (txns.Sync (sync_txns.SetSync revision sync set)) request
+refused-is setup past facts volatile_states tick i j by incarnation sequence
+    (txns.Sync (sync_txns.SetSync revision sync set)) request
     key found is same refused none new =
     refused-shown setup past volatile_states tick i j by incarnation sequence request key found
     (publish_request by.id.number incarnation sequence revision sync set) is.flying
     (sym (publish-decided past facts by.id.number incarnation sequence revision sync set same) ∙ ap is_grant refused)
     new
-refused-is setup past facts volatile_states tick i j by incarnation sequence (txns.Lease (lease_txns.Create info ttl failsafe sync))
+refused-is setup past facts volatile_states tick i j by incarnation sequence
+    (txns.Lease (lease_txns.Create info ttl failsafe sync))
     request key found is same refused none new =
     create-unread setup past volatile_states tick i j by incarnation sequence info ttl failsafe sync request
     key found is none new

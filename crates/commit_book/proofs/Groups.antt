@@ -87,7 +87,9 @@ create-leasing member incarnation sequence info ttl failsafe (Some sync) = refl
 
 renew-leasing : (member incarnation sequence revision : ℕ) (info : MemberInfo) (ttl : Ticks)
     (status : Option Lsn) (row : Option HistoryRow) (failsafe : Option MemberSet)
-    → is_leasing (query_of member incarnation sequence (txns.Lease (lease_txns.Renew revision info ttl status row failsafe))) ≡ true
+    → is_leasing (query_of member incarnation sequence
+    (txns.Lease (lease_txns.Renew revision info ttl status row failsafe)))
+    ≡ true
 renew-leasing member incarnation sequence revision info ttl status row None = refl
 renew-leasing member incarnation sequence revision info ttl status row (Some members) = refl
 
@@ -100,7 +102,8 @@ leasing-is member incarnation sequence (txns.Lease (lease_txns.Renew revision in
 leasing-is member incarnation sequence _ = refl
 
 create-named : (member incarnation sequence : ℕ) (info : MemberInfo) (ttl : Ticks) (failsafe sync : Option Expected)
-    → IsNamed member incarnation sequence (query_of member incarnation sequence (txns.Lease (lease_txns.Create info ttl failsafe sync)))
+    → IsNamed member incarnation sequence
+    (query_of member incarnation sequence (txns.Lease (lease_txns.Create info ttl failsafe sync)))
 create-named member incarnation sequence info ttl failsafe None = tt
 create-named member incarnation sequence info ttl failsafe (Some sync) = (refl, (refl, refl))
 
@@ -145,14 +148,18 @@ renew-written past i by incarnation sequence revision info ttl status row (Some 
 written-is : (past : Past) (facts : Facts) (i : ℕ) (by : Member) (incarnation sequence : ℕ) (txn : Txn)
     (standbys : List Name) → IsSameKeys past facts → decision_on facts.keys facts.clock txn ≡ Granting
     → IsWritten (Granted past i by txn standbys) (query_of by.id.number incarnation sequence txn)
-written-is past facts i by incarnation sequence (txns.Lease (lease_txns.Create info ttl failsafe sync)) standbys same granted =
+written-is past facts i by incarnation sequence (txns.Lease (lease_txns.Create info ttl failsafe sync)) standbys same
+    granted =
     create-written past i by incarnation sequence info ttl failsafe sync standbys
-written-is past facts i by incarnation sequence (txns.Lease (lease_txns.Renew revision info ttl status row failsafe)) standbys same
+written-is past facts i by incarnation sequence
+    (txns.Lease (lease_txns.Renew revision info ttl status row failsafe)) standbys same
     granted =
     let key = granted-leader past facts revision same granted in
     renew-written past i by incarnation sequence revision info ttl status row failsafe standbys key.0 key.1
 written-is past facts i by incarnation sequence (txns.Sync (sync_txns.Claim revision sync)) standbys same granted = refl
-written-is past facts i by incarnation sequence (txns.Sync (sync_txns.SetSync revision sync members)) standbys same granted = refl
+written-is past facts i by incarnation sequence (txns.Sync (sync_txns.SetSync revision sync members)) standbys same
+    granted =
+    refl
 written-is past facts i by incarnation sequence _ standbys same granted = tt
 
 pub granted-causal : (past : Past) (facts : Facts) (tick : Ticks) (i j : ℕ) (carried : InFlightFacts)

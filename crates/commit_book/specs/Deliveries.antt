@@ -43,10 +43,13 @@ told_events tick number answer by incarnation sequence txn =
 abbrev pub granted_action : ℕ → ℕ → ℕ → ℕ → ℕ → Txn → Action
 granted_action number answer member incarnation sequence (txns.Lease (lease_txns.Create info ttl failsafe sync)) =
     Create member incarnation sequence answer
-granted_action number answer member incarnation sequence (txns.Lease (lease_txns.Renew revision info ttl status row failsafe)) =
+granted_action number answer member incarnation sequence
+    (txns.Lease (lease_txns.Renew revision info ttl status row failsafe)) =
     Renew member incarnation sequence answer (carries_set failsafe)
-granted_action number answer member incarnation sequence (txns.Sync (sync_txns.Claim revision sync)) = Decide number answer
-granted_action number answer member incarnation sequence (txns.Sync (sync_txns.SetSync revision sync standbys)) = Decide number answer
+granted_action number answer member incarnation sequence (txns.Sync (sync_txns.Claim revision sync)) =
+    Decide number answer
+granted_action number answer member incarnation sequence (txns.Sync (sync_txns.SetSync revision sync standbys)) =
+    Decide number answer
 granted_action number answer member incarnation sequence (txns.Lease (lease_txns.Release revision)) = Release
 granted_action number answer member incarnation sequence _ = OtherWrite
 

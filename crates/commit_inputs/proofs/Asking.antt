@@ -94,12 +94,14 @@ put-by member incarnation sequence on Claiming (txns.Sync (sync_txns.Claim revis
   refl,
   record { writes = refl; standbys = λ r n. refl },
 )
-put-by member incarnation sequence on (Syncing KeepsList) (txns.Sync (sync_txns.SetSync revision sync standbys)) puts follows = (
-  publish_request member.id.number incarnation sequence revision sync standbys,
-  refl,
-  record { writes = refl; standbys = λ r. tt },
-)
-put-by member incarnation sequence on (Syncing (NamesStandbys set)) (txns.Sync (sync_txns.SetSync revision sync standbys)) puts
+put-by member incarnation sequence on (Syncing KeepsList) (txns.Sync (sync_txns.SetSync revision sync standbys)) puts
+    follows = (
+      publish_request member.id.number incarnation sequence revision sync standbys,
+      refl,
+      record { writes = refl; standbys = λ r. tt },
+    )
+put-by member incarnation sequence on (Syncing (NamesStandbys set))
+    (txns.Sync (sync_txns.SetSync revision sync standbys)) puts
     follows = (
       publish_request member.id.number incarnation sequence revision sync standbys,
       refl,

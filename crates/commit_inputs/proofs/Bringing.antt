@@ -79,7 +79,8 @@ all-back P xs ys outs is all = by xs (subst (λ (l : List Output). All P l) (sym
 
 -- ---- no request that the law knows
 pub carried-unasking : (output : Output) → IsCarried output → IsUnasking false output
-carried-unasking (outputs.Message (outgoing.Send to sequence body)) is = alone-unasking (outputs.Message (outgoing.Send to sequence body)) is
+carried-unasking (outputs.Message (outgoing.Send to sequence body)) is =
+    alone-unasking (outputs.Message (outgoing.Send to sequence body)) is
 carried-unasking (outputs.Server orders.Begin) is = absurd is
 carried-unasking _ is = tt
 

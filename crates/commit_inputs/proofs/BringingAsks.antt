@@ -103,7 +103,9 @@ carries_in body = is_carrying (outputs.Message (outgoing.Send targets.Store 0 bo
 live-renew : (was : Bool) (leader : Option LeaderKey) (m revision : ℕ) (info : MemberInfo) (ttl : Ticks)
     (status : Option Lsn) (row : Option HistoryRow) (failsafe : Option MemberSet)
     → was_live_by_txn was leader m (txns.Lease (lease_txns.Renew revision info ttl status row failsafe))
-    ≡ (was || (carries_in (bodies.Request (txns.Lease (lease_txns.Renew revision info ttl status row failsafe))) && is_holder leader m))
+    ≡ (was
+    || (carries_in (bodies.Request (txns.Lease (lease_txns.Renew revision info ttl status row failsafe)))
+    && is_holder leader m))
 live-renew was leader m revision info ttl status row None = sym (or-false was)
 live-renew was leader m revision info ttl status row (Some members) = refl
 
@@ -122,10 +124,13 @@ live-body was leader by _ = sym (or-false was)
 carries-last : (front : List Output) (sequence : ℕ) (body : Body) → All (IsUnasking false) front
     → has_one is_carrying (front ++ outputs.Message (outgoing.Send targets.Store sequence body) ∷ []) ≡ carries_in body
 carries-last [] sequence (bodies.Request (txns.Lease (lease_txns.Renew revision info ttl status row None))) all = refl
-carries-last [] sequence (bodies.Request (txns.Lease (lease_txns.Renew revision info ttl status row (Some members)))) all = refl
+carries-last [] sequence (bodies.Request (txns.Lease (lease_txns.Renew revision info ttl status row (Some members))))
+    all =
+    refl
 carries-last [] sequence _ all = refl
 carries-last (output ∷ front) sequence body all =
-    ap (λ (b : Bool). b || has_one is_carrying (front ++ outputs.Message (outgoing.Send targets.Store sequence body) ∷ []))
+    ap (λ (b : Bool).
+    b || has_one is_carrying (front ++ outputs.Message (outgoing.Send targets.Store sequence body) ∷ []))
     (uncarried output (All-head (IsUnasking false) output front all))
     ∙ carries-last front sequence body (All-tail (IsUnasking false) output front all)
 
@@ -169,7 +174,8 @@ lost-leave cluster false number = tt
 module _ (head : HeadText) (book : List Event) (cluster : Cluster) (good : CommitsBridged head book cluster)
     (few : member_count head ≤ MOST_MEMBERS) (a : Acting head book cluster)
     (front : List Output) (sequence : ℕ) (body : Body) (all : All IsCarried front)
-    (whole : front ++ outputs.Message (outgoing.Send targets.Store sequence body) ∷ [] ≡ (After head book cluster good a).outputs) where
+    (whole : front ++ outputs.Message (outgoing.Send targets.Store sequence body) ∷ []
+    ≡ (After head book cluster good a).outputs) where
   abbrev M : ℕ
   M = a.member.id.number
 
@@ -355,7 +361,8 @@ module _ (head : HeadText) (book : List Event) (cluster : Cluster) (good : Commi
       let written : ℕ = quorum_written (txns.Sync (sync_txns.SetSync revision sync standbys)) in
       let noted : ℕ = noted_position (After head book cluster good a).knows.noted in
       let request : SyncRequest = publish_request M a.agent.knows.incarnation sequence revision sync standbys in
-      let on : IsSynchronousTxn (member_count head) strict_quorum (txns.Sync (sync_txns.SetSync revision sync standbys)) =
+      let on : IsSynchronousTxn (member_count head) strict_quorum
+      (txns.Sync (sync_txns.SetSync revision sync standbys)) =
       subst (λ (b : Body). IsSynchronousBody (member_count head) strict_quorum b) (sym is) synchronous in
       strict-publication (member_count head) P M noted request (set_members standbys)
       (subst (λ (quorum : ℕ). MayBePublished (member_count head) P M noted request (set_members standbys) quorum)

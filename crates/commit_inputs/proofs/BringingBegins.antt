@@ -63,7 +63,8 @@ kept-by now machine (outputs.Tell (tellings.Told request told)) covered = refl
 kept-by now machine _ covered = absurd covered
 
 begun-by : (now : Ticks) (machine : Machine) (front : List Output) (required : Required) → All IsCovered front
-    → (machine_after_outputs now machine (front ++ outputs.Require required ∷ (outputs.Server orders.Begin) ∷ [])).server
+    → (machine_after_outputs now machine
+    (front ++ outputs.Require required ∷ (outputs.Server orders.Begin) ∷ [])).server
     ≡ status_begun now machine.server
 begun-by now machine [] required covered = refl
 begun-by now machine (output ∷ front) required covered =
@@ -128,7 +129,8 @@ one-begins (output ∷ front) required =
 module _ (head : HeadText) (book : List Event) (cluster : Cluster) (good : CommitsBridged head book cluster)
     (few : member_count head ≤ MOST_MEMBERS) (a : Acting head book cluster)
     (front : List Output) (required : Required) (covered : All IsCovered front)
-    (whole : front ++ outputs.Require required ∷ (outputs.Server orders.Begin) ∷ [] ≡ (After head book cluster good a).outputs) where
+    (whole : front ++ outputs.Require required ∷ (outputs.Server orders.Begin) ∷ []
+    ≡ (After head book cluster good a).outputs) where
   abbrev M : ℕ
   M = a.member.id.number
 
@@ -174,7 +176,8 @@ module _ (head : HeadText) (book : List Event) (cluster : Cluster) (good : Commi
   begin-quiet = All-cons RequiresNone (outputs.Server orders.Begin) [] tt (All-nil RequiresNone)
 
   abbrev Kept : All IsOfTable front
-  Kept = of_table head book cluster good few a front required ((outputs.Server orders.Begin) ∷ []) covered whole begin-quiet
+  Kept = of_table head book cluster good few a front required
+      ((outputs.Server orders.Begin) ∷ []) covered whole begin-quiet
 
   abbrev Upto : List Event
   Upto = Up head book cluster good few a front required ((outputs.Server orders.Begin) ∷ []) covered whole begin-quiet
@@ -189,7 +192,8 @@ module _ (head : HeadText) (book : List Event) (cluster : Cluster) (good : Commi
   Ready = cluster_over cluster Covered
 
   page : PageOf head book cluster good a Covered None
-  page = required-page head book cluster good few a front required ((outputs.Server orders.Begin) ∷ []) covered whole begin-quiet
+  page = required-page head book cluster good few a front required
+      ((outputs.Server orders.Begin) ∷ []) covered whole begin-quiet
       sent uncarried (server-found head book cluster good few a).0 (server-found head book cluster good few a).1
 
   abbrev Begun : List Event
@@ -246,7 +250,8 @@ module _ (head : HeadText) (book : List Event) (cluster : Cluster) (good : Commi
   -- the server is there, and has data
   server-ready : (s : ServerFacts) × (slice_get Ready.facts.servers M ≡ Some s) × (has_data s.state ≡ true)
   server-ready =
-      let set = now-set head book cluster good few a front required ((outputs.Server orders.Begin) ∷ []) covered whole begin-quiet sent
+      let set = now-set head book cluster good few a front required
+      ((outputs.Server orders.Begin) ∷ []) covered whole begin-quiet sent
       uncarried (server-found head book cluster good few a).0 (server-found head book cluster good few a).1 in (
         set.server,
         ap (λ (c : Cluster). slice_get c.facts.servers M) (over-append cluster Upto Set) ∙ set.server_is,

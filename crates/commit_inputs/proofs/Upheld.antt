@@ -139,21 +139,31 @@ upheld-aside head book cluster events good leave leave_order ordered upheld = re
 answer-none : (heard : Heard)
     → ((from : MemberId) (incarnation sequence : ℕ) → heard ≡ heards.Asked from incarnation sequence → ⊥)
     → (output : Output) → RepliesTo heard output → AnswersNone output
-answer-none (heards.Asked from asked number) other (outputs.Message (outgoing.Answer to incarnation sequence answer)) replies =
+answer-none (heards.Asked from asked number) other (outputs.Message (outgoing.Answer to incarnation sequence answer))
+    replies =
     absurd (other from asked number refl)
 answer-none heards.Wake other (outputs.Message (outgoing.Answer to incarnation sequence answer)) replies = replies
-answer-none (heards.ReadAnswered number snapshot) other (outputs.Message (outgoing.Answer to incarnation sequence answer)) replies =
+answer-none (heards.ReadAnswered number snapshot) other
+    (outputs.Message (outgoing.Answer to incarnation sequence answer)) replies =
     replies
-answer-none (heards.Granted number grant snapshot) other (outputs.Message (outgoing.Answer to incarnation sequence answer)) replies =
+answer-none (heards.Granted number grant snapshot) other
+    (outputs.Message (outgoing.Answer to incarnation sequence answer)) replies =
     replies
-answer-none (heards.Mismatch number key found) other (outputs.Message (outgoing.Answer to incarnation sequence answer)) replies = replies
-answer-none (heards.Answered number given) other (outputs.Message (outgoing.Answer to incarnation sequence answer)) replies = replies
-answer-none (heards.FailsafeAsked from asked number ttl) other (outputs.Message (outgoing.Answer to incarnation sequence answer)) replies =
-    replies
-answer-none (heards.FailsafeAnswered from number accepted sent) other (outputs.Message (outgoing.Answer to incarnation sequence answer))
+answer-none (heards.Mismatch number key found) other (outputs.Message (outgoing.Answer to incarnation sequence answer))
     replies =
     replies
-answer-none (heards.Operated action) other (outputs.Message (outgoing.Answer to incarnation sequence answer)) replies = replies
+answer-none (heards.Answered number given) other (outputs.Message (outgoing.Answer to incarnation sequence answer))
+    replies =
+    replies
+answer-none (heards.FailsafeAsked from asked number ttl) other
+    (outputs.Message (outgoing.Answer to incarnation sequence answer)) replies =
+    replies
+answer-none (heards.FailsafeAnswered from number accepted sent) other
+    (outputs.Message (outgoing.Answer to incarnation sequence answer))
+    replies =
+    replies
+answer-none (heards.Operated action) other (outputs.Message (outgoing.Answer to incarnation sequence answer)) replies =
+    replies
 answer-none heard other _ replies = tt
 
 wake-asks : (from : MemberId) (incarnation sequence : ℕ)
@@ -235,13 +245,16 @@ at-most a b e = omega (arith, e)
 
 -- who takes the leader key past the sync key breaks the premise
 passing-breaks : (member : Member) (message : HeardMessage) (cluster : Cluster) (front behind : List Output)
-    → KeepMode true (each (output_events member message) cluster (front ++ (outputs.Tell tellings.ClaimsOutsideSync) ∷ behind)) → ⊥
+    → KeepMode true
+    (each (output_events member message) cluster (front ++ (outputs.Tell tellings.ClaimsOutsideSync) ∷ behind))
+    → ⊥
 passing-breaks member message cluster [] behind mode = mode.0
 passing-breaks member message cluster (output ∷ front) behind mode =
     let events : List Event = output_events member message cluster output in
     passing-breaks member message (cluster_over cluster events) front behind
     (mode-back events
-    (each (output_events member message) (cluster_over cluster events) (front ++ (outputs.Tell tellings.ClaimsOutsideSync) ∷ behind))
+    (each (output_events member message) (cluster_over cluster events)
+    (front ++ (outputs.Tell tellings.ClaimsOutsideSync) ∷ behind))
     mode)
 
 module _ (head : HeadText) (book : List Event) (cluster : Cluster) (good : CommitsBridged head book cluster)
@@ -410,7 +423,8 @@ module _ (head : HeadText) (book : List Event) (cluster : Cluster) (good : Commi
       (requires-moves head book cluster good few a front required behind covered alone whole none)
 
   begins-upheld : IsKept head book cluster All_ → (front : List Output) (required : Required) → All IsCovered front
-      → front ++ outputs.Require required ∷ (outputs.Server orders.Begin) ∷ [] ≡ Outs → Upholds (kept_commits head) book cluster All_
+      → front ++ outputs.Require required ∷ (outputs.Server orders.Begin) ∷ [] ≡ Outs
+      → Upholds (kept_commits head) book cluster All_
   begins-upheld kept front required covered whole =
       upheld-by-moves kept
       (ordered-by (quietly-up-to front (outputs.Require required ∷ (outputs.Server orders.Begin) ∷ []) covered
@@ -420,7 +434,8 @@ module _ (head : HeadText) (book : List Event) (cluster : Cluster) (good : Commi
       (begins-moves head book cluster good few a front required covered whole)
 
   asks-upheld : IsKept head book cluster All_ → (front : List Output) (sequence : ℕ) (body : Body) → All IsCovered front
-      → front ++ outputs.Message (outgoing.Send targets.Store sequence body) ∷ [] ≡ Outs → Upholds (kept_commits head) book cluster All_
+      → front ++ outputs.Message (outgoing.Send targets.Store sequence body) ∷ [] ≡ Outs
+      → Upholds (kept_commits head) book cluster All_
   asks-upheld kept front sequence body covered whole =
       let all : All IsCarried front = carried front covered in
       let passes-none : All PassesNone (front ++ outputs.Message (outgoing.Send targets.Store sequence body) ∷ []) =
@@ -455,13 +470,16 @@ module _ (head : HeadText) (book : List Event) (cluster : Cluster) (good : Commi
       (subst (λ (l : List Output). front ++ outputs.Require required ∷ l ≡ Outs) begins whole)
   form-upheld kept none (Ordered front (AsksLast sequence body) behind covered last whole) =
       asks-upheld kept front sequence body covered
-      (subst (λ (l : List Output). front ++ outputs.Message (outgoing.Send targets.Store sequence body) ∷ l ≡ Outs) last whole)
+      (subst (λ (l : List Output). front ++ outputs.Message (outgoing.Send targets.Store sequence body) ∷ l ≡ Outs)
+      last whole)
   form-upheld kept none (ClaimsOutsideSync front sequence revision sync covered whole) =
       let claim : Body = bodies.Request (txns.Sync (sync_txns.Claim revision sync)) in
       let noted : List Output = front ++ (outputs.Tell tellings.ClaimsOutsideSync) ∷ [] in
-      let all : All IsCarried noted = All-push IsCarried front (outputs.Tell tellings.ClaimsOutsideSync) (carried front covered) tt in
+      let all : All IsCarried noted =
+      All-push IsCarried front (outputs.Tell tellings.ClaimsOutsideSync) (carried front covered) tt in
       let upto : noted ++ outputs.Message (outgoing.Send targets.Store sequence claim) ∷ [] ≡ Outs =
-      append_assoc front ((outputs.Tell tellings.ClaimsOutsideSync) ∷ []) (outputs.Message (outgoing.Send targets.Store sequence claim) ∷ []) ∙ whole in
+      append_assoc front ((outputs.Tell tellings.ClaimsOutsideSync) ∷ [])
+      (outputs.Message (outgoing.Send targets.Store sequence claim) ∷ []) ∙ whole in
       upheld-aside head book cluster All_ good (asks-leave head book cluster good few a noted sequence claim all upto)
       (asks-aside head book cluster good few a noted sequence claim all upto)
       (asks-ordered head book cluster good few a noted sequence claim all upto tt)

@@ -211,16 +211,19 @@ module _ (setup : Setup) (member : Member) where
     output-moves past cluster (outputs.Message (outgoing.Send targets.Store sequence body)) fits table alone answers =
         question-moves setup member past cluster
         (slice_get cluster.facts.processes member.id.number) sequence body fits alone
-    output-moves past cluster (outputs.Message (outgoing.Send (targets.Member id) sequence body)) fits table alone answers =
+    output-moves past cluster (outputs.Message (outgoing.Send (targets.Member id) sequence body)) fits table alone
+        answers =
         member-moves setup member past cluster (slice_get cluster.facts.processes member.id.number)
         (slice_get cluster.facts.members id.number) sequence body fits table
-    output-moves past cluster (outputs.Message (outgoing.Answer to incarnation sequence answer)) fits table alone answers =
+    output-moves past cluster (outputs.Message (outgoing.Answer to incarnation sequence answer)) fits table alone
+        answers =
         absurd answers
     output-moves past cluster (outputs.Message (outgoing.FailsafeAnswer to incarnation sequence accepted)) fits table
         alone answers =
         failsafe-moves setup member past cluster
         (slice_get cluster.facts.members to.number) incarnation sequence accepted fits
-    output-moves past cluster (outputs.Server order) fits table alone answers = order-moves past cluster order fits alone
+    output-moves past cluster (outputs.Server order) fits table alone answers =
+        order-moves past cluster order fits alone
     output-moves past cluster (outputs.Require required) fits table alone answers = absurd alone
     output-moves past cluster (outputs.Watchdog fed) fits table alone answers =
         free-moves past cluster (events_of cluster (feeding_kinds member message fed)) fits

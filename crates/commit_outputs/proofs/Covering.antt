@@ -222,7 +222,8 @@ pub record SaysNothing (past : Past) (message : Message) : Type 0 where
 
 quiet-txn-ordered : (past : Past) (cluster : Cluster) (by : Member) (incarnation sequence : ℕ) (txn : Txn)
     → IsQuietTxn txn → AsksInOrder past cluster (ends.Member by) incarnation sequence (bodies.Request txn)
-quiet-txn-ordered past cluster by incarnation sequence (txns.Sync (sync_txns.SetSync revision sync standbys)) quiet = absurd quiet
+quiet-txn-ordered past cluster by incarnation sequence (txns.Sync (sync_txns.SetSync revision sync standbys)) quiet =
+    absurd quiet
 quiet-txn-ordered past cluster by incarnation sequence _ quiet = tt
 
 pub quiet-ordered : (past : Past) (cluster : Cluster) (by : Member) (incarnation sequence : ℕ) (body : Body)
@@ -376,7 +377,8 @@ module _ (member : Member) (message : HeardMessage) where
       → IsCarried output → IsOfTable output → Covers M past cluster (output_events member message cluster output)
   output-covers past cluster none (outputs.Message (outgoing.Send targets.Store sequence body)) is table =
       question-covers past cluster none (slice_get cluster.facts.processes M) sequence body is
-  output-covers past cluster none (outputs.Message (outgoing.Send (targets.Member id) sequence body)) is table = member-covers past cluster
+  output-covers past cluster none (outputs.Message (outgoing.Send (targets.Member id) sequence body)) is table =
+      member-covers past cluster
       none (slice_get cluster.facts.processes M) (slice_get cluster.facts.members id.number) sequence body table
   output-covers past cluster none (outputs.Watchdog (feedings.Armed until)) is table = record {
     own = (tt, (tt, tt));

@@ -165,9 +165,13 @@ compares-none count quorum _ is = tt
 granted-may : (count quorum : ℕ) (s : State) (m incarnation sequence : ℕ) (txn : Txn)
     → IsSynchronousTxn count quorum txn → IsNumbered (s.members m) incarnation sequence
     → MayBeGranted s m incarnation sequence txn
-granted-may count quorum s m incarnation sequence (txns.Lease (lease_txns.Create info ttl failsafe None)) is numbered = numbered
-granted-may count quorum s m incarnation sequence (txns.Lease (lease_txns.Create info ttl failsafe (Some sync))) is numbered = absurd is
-granted-may count quorum s m incarnation sequence (txns.Lease (lease_txns.Renew revision info ttl status row failsafe)) is numbered =
+granted-may count quorum s m incarnation sequence (txns.Lease (lease_txns.Create info ttl failsafe None)) is numbered =
+    numbered
+granted-may count quorum s m incarnation sequence (txns.Lease (lease_txns.Create info ttl failsafe (Some sync))) is
+    numbered =
+    absurd is
+granted-may count quorum s m incarnation sequence (txns.Lease (lease_txns.Renew revision info ttl status row failsafe))
+    is numbered =
     numbered
 granted-may count quorum s m incarnation sequence (txns.Sync (sync_txns.DropSync revision sync)) is numbered = absurd is
 granted-may count quorum s m incarnation sequence _ is numbered = tt

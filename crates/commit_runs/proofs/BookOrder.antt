@@ -198,7 +198,10 @@ order-by-book head book seen = record {
   claims = λ front back tick number leader by sync names whole.
       named-by head front by.id.number
       (at-event head book seen front back
-      (record { tick = tick; kind = kinds.Store (stores.Granted number by (txns.Sync (sync_txns.Claim leader sync)) names) }) whole);
+      (record {
+        tick = tick;
+        kind = kinds.Store (stores.Granted number by (txns.Sync (sync_txns.Claim leader sync)) names);
+      }) whole);
   publishes = λ front back tick number incarnation sequence leader by to sync standbys whole.
       publishes-by head front by.id.number incarnation sequence leader (noted_in head front by.id.number) sync standbys
       (at-event head book seen front back

@@ -105,7 +105,8 @@ pub publish-shown : (setup : Setup) (past : Past) (volatile_states : ℕ → Vol
     (publish_request by.id.number incarnation sequence revision sync set) ≡ true →
     IsShown setup past volatile_states (record {
       action = Decide i j;
-      events = granted_events tick i j by incarnation sequence (txns.Sync (sync_txns.SetSync revision sync set)) standbys;
+      events =
+          granted_events tick i j by incarnation sequence (txns.Sync (sync_txns.SetSync revision sync set)) standbys;
       volatile_states = volatile_states;
     })
 publish-shown setup past volatile_states tick i j by incarnation sequence revision sync set standbys at asked granted =
@@ -126,7 +127,8 @@ pub create-shown : (setup : Setup) (past : Past) (volatile_states : ℕ → Vola
     past.flight i ≡ None → past.asked i ≡ LeaseQuery →
     IsShown setup past volatile_states (record {
       action = Create by.id.number incarnation sequence j;
-      events = granted_events tick i j by incarnation sequence (txns.Lease (lease_txns.Create info ttl failsafe None)) standbys;
+      events = granted_events tick i j by incarnation sequence
+          (txns.Lease (lease_txns.Create info ttl failsafe None)) standbys;
       volatile_states = volatile_states;
     })
 create-shown setup past volatile_states tick i j by incarnation sequence info ttl failsafe standbys none asked =
@@ -151,7 +153,8 @@ pub create-as-read-shown : (setup : Setup) (past : Past) (volatile_states : ℕ 
     → past.lease.leader ≡ None → is_as_read past.sync (revision_in sync) ≡ true →
     IsShown setup past volatile_states (record {
       action = Decide i j;
-      events = granted_events tick i j by incarnation sequence (txns.Lease (lease_txns.Create info ttl failsafe (Some sync))) standbys;
+      events = granted_events tick i j by incarnation sequence
+          (txns.Lease (lease_txns.Create info ttl failsafe (Some sync))) standbys;
       volatile_states = volatile_states;
     })
 create-as-read-shown setup past volatile_states tick i j by incarnation sequence info ttl failsafe sync standbys at
@@ -190,13 +193,15 @@ pub renew-shown : (setup : Setup) (past : Past) (volatile_states : ℕ → Volat
     IsShown setup past volatile_states (record {
       action = Renew by.id.number incarnation sequence j (carries_set failsafe);
       events =
-          granted_events tick i j by incarnation sequence (txns.Lease (lease_txns.Renew revision info ttl status row failsafe)) standbys;
+          granted_events tick i j by incarnation sequence
+          (txns.Lease (lease_txns.Renew revision info ttl status row failsafe)) standbys;
       volatile_states = volatile_states;
     })
 renew-shown setup past volatile_states tick i j by incarnation sequence revision info ttl status row failsafe standbys
     key is none asked =
     let mid : Past = past_after (past_after past (kinds.Message (messages.Delivered i)))
-    (kinds.Store (stores.Granted i by (txns.Lease (lease_txns.Renew revision info ttl status row failsafe)) standbys)) in
+    (kinds.Store (stores.Granted i by
+    (txns.Lease (lease_txns.Renew revision info ttl status row failsafe)) standbys)) in
     let renewed : Option LeaderKey → Option ℕ → (ℕ → Option Flying) → Option Flying → State = λ l failsafe_revision f o.
     record (state_of setup past volatile_states) {
       leader = leader_revision l;

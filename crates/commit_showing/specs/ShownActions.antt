@@ -183,7 +183,8 @@ pub record ActionsAreShown : Type 0 where
       (publish_request by.id.number incarnation sequence revision sync set)
       ≡ true → IsShown setup past volatile_states (record {
         action = Decide i j;
-        events = granted_events tick i j by incarnation sequence (txns.Sync (sync_txns.SetSync revision sync set)) standbys;
+        events =
+            granted_events tick i j by incarnation sequence (txns.Sync (sync_txns.SetSync revision sync set)) standbys;
         volatile_states = volatile_states;
       })
   pub create : (setup : Setup) (past : Past) (volatile_states : ℕ → VolatileState) (tick : Ticks) (i j : ℕ)
@@ -191,7 +192,8 @@ pub record ActionsAreShown : Type 0 where
       (standbys : List Name) → past.flight i ≡ None → past.asked i ≡ LeaseQuery
       → IsShown setup past volatile_states (record {
         action = Create by.id.number incarnation sequence j;
-        events = granted_events tick i j by incarnation sequence (txns.Lease (lease_txns.Create info ttl failsafe None)) standbys;
+        events = granted_events tick i j by incarnation sequence
+            (txns.Lease (lease_txns.Create info ttl failsafe None)) standbys;
         volatile_states = volatile_states;
       })
   -- a create that compares the sync key
@@ -202,7 +204,8 @@ pub record ActionsAreShown : Type 0 where
       → past.asked i ≡ SyncQuery (create_request by.id.number incarnation sequence sync) → past.lease.leader ≡ None
       → is_as_read past.sync (revision_in sync) ≡ true → IsShown setup past volatile_states (record {
         action = Decide i j;
-        events = granted_events tick i j by incarnation sequence (txns.Lease (lease_txns.Create info ttl failsafe (Some sync))) standbys;
+        events = granted_events tick i j by incarnation sequence
+            (txns.Lease (lease_txns.Create info ttl failsafe (Some sync))) standbys;
         volatile_states = volatile_states;
       })
   pub renew : (setup : Setup) (past : Past) (volatile_states : ℕ → VolatileState) (tick : Ticks) (i j : ℕ)
@@ -212,7 +215,8 @@ pub record ActionsAreShown : Type 0 where
       → IsShown setup past volatile_states (record {
         action = Renew by.id.number incarnation sequence j (carries_set failsafe);
         events =
-            granted_events tick i j by incarnation sequence (txns.Lease (lease_txns.Renew revision info ttl status row failsafe)) standbys;
+            granted_events tick i j by incarnation sequence
+            (txns.Lease (lease_txns.Renew revision info ttl status row failsafe)) standbys;
         volatile_states = volatile_states;
       })
   pub other : (setup : Setup) (past : Past) (volatile_states : ℕ → VolatileState) (tick : Ticks) (i : ℕ)

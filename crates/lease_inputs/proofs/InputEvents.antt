@@ -141,7 +141,8 @@ module _ (member : Member) (incarnation heard : ℕ) (Q : Output → Type 0) whe
       )
 
   holds-mine : (until : Ticks) (run sequence : ℕ) (id : MemberId) (peer : Option Member)
-      → ((found : Member) → peer ≡ Some found → found.id.number ≡ id.number) → Q (outputs.Tell (tellings.HoldTaken until id sequence))
+      → ((found : Member) → peer ≡ Some found → found.id.number ≡ id.number)
+      → Q (outputs.Tell (tellings.HoldTaken until id sequence))
       → HoldsIf Mine (option_map (hold_taken member until run sequence) peer)
   holds-mine until run sequence id None at is = tt
   holds-mine until run sequence id (Some peer) at is = (refl, record { id = id; at = at peer refl; by = is })
@@ -189,7 +190,8 @@ module _ (member : Member) (incarnation heard : ℕ) (Q : Output → Type 0) whe
   output-mine cluster message at runs (outputs.Watchdog (feedings.Fed until)) table is =
       all-kinds Mine cluster (feed_kinds member message.sent (feeding member until message))
       (refl, ((refl, ByGrant (ap (λ (n : ℕ). bases.Grant n) at) is), tt))
-  output-mine cluster message at runs (outputs.Watchdog (feedings.FedByFailsafe until members sequence since)) table is =
+  output-mine cluster message at runs (outputs.Watchdog (feedings.FedByFailsafe until members sequence since)) table
+      is =
       all-kinds Mine cluster (feed_kinds member since (failsafe_feeding member until members sequence))
       (refl, ((refl, ByFailsafe members sequence since refl is), tt))
   output-mine cluster message at runs (outputs.Watchdog feedings.Disarmed) table is = (refl, tt)

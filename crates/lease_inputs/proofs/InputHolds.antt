@@ -75,7 +75,8 @@ fronts-hold P silent asks o b (Released revision held alone role ended counted a
   where
     by : (output : Output) → IsReleaseOr (o.knows.sequence + 1) revision output → P output
     by output (inl is) = silent output is
-    by output (inr is) = subst P (sym is) (asks (o.knows.sequence + 1) (bodies.Request (txns.Lease (lease_txns.Release revision))))
+    by output (inr is) =
+        subst P (sym is) (asks (o.knows.sequence + 1) (bodies.Request (txns.Lease (lease_txns.Release revision))))
 
 -- ---- the holds of each output
 -- no hold is taken by this output

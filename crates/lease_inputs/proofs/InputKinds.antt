@@ -107,7 +107,8 @@ opening-moments n heard _ is = absurd is
 -- this holds of what flies of the messages that outputs with this property send
 pub record MaySend (member : Member) (incarnation : ℕ) (Q : Output → Type 0) (P : Flying → Type 0) (clock : ℕ) : Type
     0 where
-  pub store : (sequence : ℕ) (body : Body) (query : Query) → Q (outputs.Message (outgoing.Send targets.Store sequence body))
+  pub store : (sequence : ℕ) (body : Body) (query : Query)
+      → Q (outputs.Message (outgoing.Send targets.Store sequence body))
       → query_in body ≡ Some query → P (Requested (record {
         member = member.id.number;
         incarnation = incarnation;
@@ -141,7 +142,8 @@ module _ (member : Member) (incarnation heard : ℕ) (Q : Output → Type 0) whe
   mine-own _ is = tt
 
   -- where its outputs take no hold but under number 0
-  pub mine-taken : ((until : Ticks) (id : MemberId) (sequence : ℕ) → Q (outputs.Tell (tellings.HoldTaken until id sequence)) →
+  pub mine-taken :
+      ((until : Ticks) (id : MemberId) (sequence : ℕ) → Q (outputs.Tell (tellings.HoldTaken until id sequence)) →
       sequence ≡ 0)
       → (clock : ℕ) (taken : List Taking) (kind : EventKind) → Mine kind → taken_after clock taken kind ≡ taken
   mine-taken none clock taken (kinds.Watchdog (watchdogs.HoldTaken by until from r sequence)) is =
@@ -215,7 +217,8 @@ module _ (member : Member) (incarnation heard : ℕ) (Q : Output → Type 0) whe
 
   -- a question that is asked of another member, of which the law reads a failsafe request alone
   asks-flies : (P : Flying → Type 0) (clock : ℕ) (peer : Member) (id : MemberId) (sequence : ℕ) (body : Body)
-      → IsAsk body → MaySend member incarnation Q P clock → Q (outputs.Message (outgoing.Send (targets.Member id) sequence body))
+      → IsAsk body → MaySend member incarnation Q P clock
+      → Q (outputs.Message (outgoing.Send (targets.Member id) sequence body))
       → (flying : Flying)
       → flying_from clock (agent_message member (ends.Member peer) incarnation sequence body) ≡ Some flying → P flying
   asks-flies P clock peer id sequence bodies.Ask asks may from flying e =

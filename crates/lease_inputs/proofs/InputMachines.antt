@@ -37,7 +37,6 @@ use Rattle.agent_model.specs.declared.machine.Machine.{Machine}
 use Rattle.agent_model.specs.declared.output.Output.{Output}
 use Rattle.agent_model.specs.declared.output.Output.TheVariants as outputs
 use Rattle.agent_model.specs.declared.output.Feeding.TheVariants as feedings
-use Rattle.agent_model.specs.declared.output.Noting.TheVariants as notings
 use Rattle.agent_model.specs.declared.output.Outgoing.TheVariants as outgoing
 use Rattle.agent_model.specs.declared.output.ServerOrder.TheVariants as orders
 use Rattle.agent_model.specs.declared.output.Telling.TheVariants as tellings
@@ -52,15 +51,16 @@ use Rattle.cluster_model.specs.Beginnings.{beginning_in, begin_kinds, kinds_by, 
 use Rattle.cluster_model.specs.Commands.{kinds_of}
 use Rattle.cluster_model.specs.Inputs.{agent_at}
 use Rattle.cluster_model.specs.Limits.{most_in_flight}
-use Rattle.cluster_model.specs.Messages.{agent_message, lost_at_once, send_events, sending_events, replying_events, receiver_of, output_events}
+use Rattle.cluster_model.specs.Messages.{agent_message, lost_at_once, send_events, sending_events, replying_events, receiver_of, output_events, noting_kind}
 use Rattle.wal_model.specs.Lacking.{lacks_in}
 use Rattle.cluster_model.specs.Losing.{loss_if}
-use Rattle.cluster_model.specs.Orders.{agent_noting, declared_member, following_of, is_same_required, replica_start_kinds, require_of, required_names, server_at, stop_kind, stop_kinds, upstream_of, repair_over, hold_taken, stop_of, wipe_of}
+use Rattle.cluster_model.specs.Orders.{declared_member, following_of, is_same_required, replica_start_kinds, require_of, required_names, server_at, stop_kind, stop_kinds, upstream_of, repair_over, hold_taken, stop_of, wipe_of}
 use Rattle.cluster_model.specs.Parts.{events_of, for_some}
 use Rattle.cluster_model.specs.Requests.{told_kind}
 use Rattle.cluster_model.specs.State.{Cluster}
 use Rattle.cluster_model.proofs.Founds.{repaired-holds, told-holds}
 use Rattle.cluster_model.proofs.Lists.{HoldsIf}
+use Rattle.cluster_model.proofs.Outputs.{noting-holds}
 use Rattle.lease_model.proofs.Tools.{none-some}
 use Rattle.lease_parts.proofs.Quiet.{live-kept}
 use Rattle.lease_parts.specs.Machines.{live_in, live_now}
@@ -120,7 +120,8 @@ may-resemble cluster m machine (Some kind) is old = one-resembles cluster m mach
 -- a repair too
 pub repair-resembles : (cluster : Cluster) (member : Member) (message : HeardMessage) (machine : Machine)
     (leader : MemberId) (repair : Repair) → Resembles cluster member.id.number machine
-    → Resembles (cluster_over cluster (output_events member message cluster (outputs.Server (orders.Repair leader repair))))
+    → Resembles (cluster_over cluster
+    (output_events member message cluster (outputs.Server (orders.Repair leader repair))))
     member.id.number machine
 repair-resembles cluster member message machine leader repair old =
     may-resemble cluster member.id.number machine
@@ -613,8 +614,10 @@ module _ (member : Member) where
       → Here (cluster_over cluster (output_events member message cluster output))
       (machine_after_output (record { 0 = cluster.facts.clock }) machine output)
   output-here cluster message machine (outputs.Server (orders.Repair leader repair)) table none held old = absurd none
-  output-here cluster message machine (outputs.Server orders.ShutDown) table none held old = shut-here cluster machine old
-  output-here cluster message machine (outputs.Message (outgoing.Send to sequence body)) table none held old = sends-here cluster machine
+  output-here cluster message machine (outputs.Server orders.ShutDown) table none held old =
+      shut-here cluster machine old
+  output-here cluster message machine (outputs.Message (outgoing.Send to sequence body)) table none held old =
+      sends-here cluster machine
       (receiver_of cluster.facts.members to) sequence body (slice_get cluster.facts.processes member.id.number) old
   output-here cluster message machine (outputs.Message (outgoing.Answer to asked sequence answer)) table none held old =
       replies-here cluster machine (receiver_of cluster.facts.members (targets.Member to)) asked sequence
@@ -622,7 +625,8 @@ module _ (member : Member) where
   output-here cluster message machine (outputs.Server orders.Begin) table none held old = begin-here cluster machine old
   output-here cluster message machine (outputs.Server (orders.StartReplica leader)) table none held old =
       start-here cluster machine (upstream_id leader) (declared_member cluster.facts.members leader) old
-  output-here cluster message machine (outputs.Server (orders.Stop reason)) table none held old = stop-here cluster machine reason old
+  output-here cluster message machine (outputs.Server (orders.Stop reason)) table none held old =
+      stop-here cluster machine reason old
   output-here cluster message machine (outputs.Server (orders.Follow leader)) table none held old =
       follow-here cluster machine (server_id_of leader) (slice_get cluster.facts.members leader.number) old
   output-here cluster message machine (outputs.Require required) table none held old =
@@ -651,9 +655,9 @@ module _ (member : Member) where
     deadline = item-here cluster.facts.deadlines member.id.number _ machine.watchdog.deadline old.deadline;
     hold = old.hold;
   }
-  output-here cluster message machine (outputs.Note (notings.Agent note)) table none held old =
-      unmoved cluster (cluster_after cluster (agent_noting cluster.facts.members member note))
-      member.id.number machine refl refl refl old
+  output-here cluster message machine (outputs.Note noting) table none held old =
+      note-here cluster machine (Some (noting_kind cluster.facts.members member noting))
+      (noting-holds IsOfNote cluster member (record { agent = λ note about. tt; stays = tt }) noting) old
   output-here cluster message machine (outputs.Tell tellings.ClaimsOutsideSync) table none held old = unmoved cluster
       (cluster_after cluster (kinds.Agent (agents.Passed member))) member.id.number machine refl refl refl old
   output-here cluster message machine (outputs.Server (orders.Restart as_primary)) table none held old =
@@ -664,10 +668,12 @@ module _ (member : Member) where
       (told-holds IsOfNote member (agent_at cluster.agents member.id.number) told (λ reply. tt)) old
   output-here cluster message machine (outputs.Tell (tellings.HoldTaken until from sequence)) table none held old =
       holds-here cluster message machine until sequence held.0 (slice_get cluster.facts.members from.number) held.1 old
-  output-here cluster message machine (outputs.Message (outgoing.FailsafeAnswer to asked sequence accepted)) table none held old =
+  output-here cluster message machine (outputs.Message (outgoing.FailsafeAnswer to asked sequence accepted)) table none
+      held old =
       replies-here cluster machine (receiver_of cluster.facts.members (targets.Member to)) asked sequence
       (bodies.FailsafeAnswer accepted) old
-  output-here cluster message machine (outputs.Watchdog (feedings.FedByFailsafe until members sequence since)) table none held old =
+  output-here cluster message machine (outputs.Watchdog (feedings.FedByFailsafe until members sequence since)) table
+      none held old =
       record {
         server = stays-server cluster
             (cluster_after (cluster_after cluster (kinds.Watchdog (watchdogs.Measured member since)))
@@ -676,5 +682,3 @@ module _ (member : Member) where
         deadline = item-here cluster.facts.deadlines member.id.number _ machine.watchdog.deadline old.deadline;
         hold = old.hold;
       }
-  output-here cluster message machine (outputs.Note notings.StaysByFailsafe) table none held old = unmoved cluster
-      (cluster_after cluster (kinds.Note (notes.StaysByFailsafe member))) member.id.number machine refl refl refl old

@@ -151,9 +151,11 @@ module _ (member : Member) (incarnation : ℕ) (message : HeardMessage) where
       → AreNumberedAbove cluster.facts.sent (Brings cluster output)
   output-numbered cluster (outputs.Message (outgoing.Send to sequence body)) runs table = send-numbered cluster
       (receiver_of cluster.facts.members to) sequence body (slice_get cluster.facts.processes member.id.number)
-  output-numbered cluster (outputs.Message (outgoing.Answer to asked sequence answer)) runs table = reply-numbered cluster
+  output-numbered cluster (outputs.Message (outgoing.Answer to asked sequence answer)) runs table =
+      reply-numbered cluster
       (receiver_of cluster.facts.members (targets.Member to)) asked sequence (bodies.Answer answer)
-  output-numbered cluster (outputs.Message (outgoing.FailsafeAnswer to asked sequence accepted)) runs table = reply-numbered cluster
+  output-numbered cluster (outputs.Message (outgoing.FailsafeAnswer to asked sequence accepted)) runs table =
+      reply-numbered cluster
       (receiver_of cluster.facts.members (targets.Member to)) asked sequence (bodies.FailsafeAnswer accepted)
   output-numbered cluster output runs table = other-numbered cluster output runs table tt
 
@@ -239,7 +241,8 @@ module _ (member : Member) (incarnation : ℕ) (message : HeardMessage) where
       let one = All-head IsOfTable output more table in let next = Later cluster output in
       let members : next.facts.members ≡ cluster.facts.members = (stays-output cluster output runs one).members in
       all-both (GoesBetween cluster.facts.members) (Brings cluster output)
-      (each (output_events member message) next more) (output-holds (GoesBetween cluster.facts.members) cluster member message (holds-between cluster mine runs) output)
+      (each (output_events member message) next more)
+      (output-holds (GoesBetween cluster.facts.members) cluster member message (holds-between cluster mine runs) output)
       (subst (λ (l : List Member). AllAre (GoesBetween l) (each (output_events member message) next more)) members
       (each-between next more (ap (λ (l : List Member). slice_get l member.id.number) members ∙ mine)
       (runs-later cluster output runs one) (All-tail IsOfTable output more table)))
@@ -253,7 +256,8 @@ module _ (member : Member) (incarnation : ℕ) (message : HeardMessage) where
       member.id.number machine
   last-resembles cluster machine leader repair more none old =
       subst (λ (l : List Output).
-      Resembles (cluster_over cluster (each (output_events member message) cluster (outputs.Server (orders.Repair leader repair) ∷ l)))
+      Resembles (cluster_over cluster
+      (each (output_events member message) cluster (outputs.Server (orders.Repair leader repair) ∷ l)))
       member.id.number machine)
       (sym none)
       (subst (λ (c : Cluster). Resembles c member.id.number machine)
@@ -287,7 +291,8 @@ module _ (member : Member) (incarnation : ℕ) (message : HeardMessage) where
 
   repairs-none : (output : Output) (later : List Output) → EndsRepairing output later
       → RepairsNone output
-      ⊎ ((leader : MemberId) × ((repair : Repair) × ((output ≡ outputs.Server (orders.Repair leader repair)) × (later ≡ []))))
+      ⊎ ((leader : MemberId) ×
+      ((repair : Repair) × ((output ≡ outputs.Server (orders.Repair leader repair)) × (later ≡ []))))
   repairs-none (outputs.Server (orders.Repair leader repair)) later ends = inr (leader, (repair, (refl, ends)))
   repairs-none _ later ends = inl tt
 
@@ -311,7 +316,8 @@ module _ (member : Member) (incarnation : ℕ) (message : HeardMessage) where
             member.id.number (machine_after_outputs now (machine_after_output now machine x) more))
             (sym ends.1.1.0)
             (subst (λ (l : List Output). Resembles
-            (cluster_over cluster (each (output_events member message) cluster (outputs.Server (orders.Repair ends.0 ends.1.0) ∷ more)))
+            (cluster_over cluster
+            (each (output_events member message) cluster (outputs.Server (orders.Repair ends.0 ends.1.0) ∷ more)))
             member.id.number (machine_after_outputs now machine l))
             (sym ends.1.1.1)
             (last-resembles cluster machine ends.0 ends.1.0 more ends.1.1.1 old))
@@ -478,9 +484,11 @@ module _ (member : Member) (incarnation : ℕ) (message : HeardMessage) where
   lives-on now machine X (outputs.Server orders.Begin) begin may lives e = may begin
   lives-on now machine X (outputs.Server (orders.StartReplica leader)) begin may lives e =
       lives (start-live now (upstream_of leader) machine.server e)
-  lives-on now machine X (outputs.Server (orders.Stop reason)) begin may lives e = lives (stop-live now machine.server e)
+  lives-on now machine X (outputs.Server (orders.Stop reason)) begin may lives e =
+      lives (stop-live now machine.server e)
   lives-on now machine X (outputs.Server orders.ShutDown) begin may lives e = lives (stop-live now machine.server e)
-  lives-on now machine X (outputs.Server (orders.Restart as_primary)) begin may lives e = lives (restart-live now machine.server e)
+  lives-on now machine X (outputs.Server (orders.Restart as_primary)) begin may lives e =
+      lives (restart-live now machine.server e)
   lives-on now machine X (outputs.Server orders.Wipe) begin may lives e = lives (wipe-live machine.server e)
   lives-on now machine X (outputs.Server (orders.Follow leader)) begin may lives e =
       lives (follow-live (server_id_of leader) machine.server e)
@@ -589,25 +597,30 @@ module _ (member : Member) (incarnation : ℕ) (message : HeardMessage) where
     is = refl;
     fed = (refl, refl);
   }
-  fed-now Q now cluster machine (outputs.Watchdog (feedings.FedByFailsafe until acknowledging sequence since)) rest may e = record {
-    front =
-        record { tick = record { 0 = cluster.facts.clock }; kind = kinds.Watchdog (watchdogs.Measured member since) }
-        ∷ [];
-    event = record {
-      tick = record { 0 = cluster.facts.clock };
-      kind = kinds.Watchdog (watchdogs.Fed member until (bases.Acknowledgements acknowledging sequence));
-    };
-    rest = rest;
-    is = refl;
-    fed = record {
-      until = until;
-      acknowledging = acknowledging;
-      sequence = sequence;
-      since = since;
-      is = refl;
-      from = may;
-    };
-  }
+  fed-now Q now cluster machine (outputs.Watchdog (feedings.FedByFailsafe until acknowledging sequence since)) rest may
+      e =
+      record {
+        front =
+            record {
+              tick = record { 0 = cluster.facts.clock };
+              kind = kinds.Watchdog (watchdogs.Measured member since);
+            }
+            ∷ [];
+        event = record {
+          tick = record { 0 = cluster.facts.clock };
+          kind = kinds.Watchdog (watchdogs.Fed member until (bases.Acknowledgements acknowledging sequence));
+        };
+        rest = rest;
+        is = refl;
+        fed = record {
+          until = until;
+          acknowledging = acknowledging;
+          sequence = sequence;
+          since = since;
+          is = refl;
+          from = may;
+        };
+      }
   fed-now Q now cluster machine _ rest may e = absurd (not-so e)
 
   -- who isn't fed has its deadline from where it had it
@@ -615,7 +628,8 @@ module _ (member : Member) (incarnation : ℕ) (message : HeardMessage) where
       → (machine_after_output now machine output).by_failsafe ≡ machine.by_failsafe
   unfed-one now machine (outputs.Watchdog (feedings.Armed until)) e = absurd (not-so (sym e))
   unfed-one now machine (outputs.Watchdog (feedings.Fed until)) e = absurd (not-so (sym e))
-  unfed-one now machine (outputs.Watchdog (feedings.FedByFailsafe until acknowledging sequence since)) e = absurd (not-so (sym e))
+  unfed-one now machine (outputs.Watchdog (feedings.FedByFailsafe until acknowledging sequence since)) e =
+      absurd (not-so (sym e))
   unfed-one now machine (outputs.Server orders.Begin) e = refl
   unfed-one now machine (outputs.Tell tellings.ClaimsOutsideSync) e = refl
   unfed-one now machine _ e = refl
@@ -709,7 +723,8 @@ module _ (member : Member) (incarnation : ℕ) (message : HeardMessage) where
       item-here cluster.failsafe_deadlines member.id.number (λ was. false) machine.by_failsafe old
   output-basis now cluster machine (outputs.Watchdog (feedings.Fed until)) runs table old =
       item-here cluster.failsafe_deadlines member.id.number (λ was. false) machine.by_failsafe old
-  output-basis now cluster machine (outputs.Watchdog (feedings.FedByFailsafe until acknowledging sequence since)) runs table old =
+  output-basis now cluster machine (outputs.Watchdog (feedings.FedByFailsafe until acknowledging sequence since)) runs
+      table old =
       item-here cluster.failsafe_deadlines member.id.number (λ was. true) machine.by_failsafe old
   output-basis now cluster machine output runs table old =
       unset-output now cluster machine output runs table tt refl old

@@ -120,7 +120,8 @@ module _ (m clock : ℕ) (now : Ticks) (known knows : Knowledge) (outs : List Ou
       | inr sent ↦
           let new = new-of m known.incarnation clock outs q sent in
           let for-it =
-          All-contains (AsksFor waited) outs (outputs.Message (outgoing.Send targets.Store new.sequence new.body)) asks new.among in (
+          All-contains (AsksFor waited) outs
+          (outputs.Message (outgoing.Send targets.Store new.sequence new.body)) asks new.among in (
             ap (λ (x : Question). x.sent) new.is ∙ sym at ∙ sym (ap (λ (t : Ticks). t.0) sent-at),
             ap (λ (x : Question). lease_span x.query) new.is ∙ span-is new.body new.query new.query_is
                 ∙ (for-it (sym (ap (λ (x : Question). x.sequence) new.is) ∙ sequence)).lease leasing,

@@ -51,14 +51,17 @@ pub data IsMessageOf (member : Member) (incarnation : ℕ) (Q : Output → Type 
   Asks : (question : IsQuestionOf member incarnation Q message) → IsMessageOf member incarnation Q message
   AsksPeer : (peer : Member) → (id : MemberId) → (sequence : ℕ) → (body : Body) → (asks : IsAsk body)
       → (is : message ≡ agent_message member (ends.Member peer) incarnation sequence body)
-      → (from : Q (outputs.Message (outgoing.Send (targets.Member id) sequence body))) → IsMessageOf member incarnation Q message
+      → (from : Q (outputs.Message (outgoing.Send (targets.Member id) sequence body)))
+      → IsMessageOf member incarnation Q message
   AnswersPeer : (peer : Member) → (id : MemberId) → (asked sequence : ℕ) → (answer : PeerAnswer)
       → (is : message ≡ agent_message member (ends.Member peer) asked sequence (bodies.Answer answer))
-      → (from : Q (outputs.Message (outgoing.Answer id asked sequence answer))) → IsMessageOf member incarnation Q message
+      → (from : Q (outputs.Message (outgoing.Answer id asked sequence answer)))
+      → IsMessageOf member incarnation Q message
   AnswersRequest : (peer : Member) → (id : MemberId) → (asked sequence : ℕ) → (accepted : Bool)
       → (at : peer.id.number ≡ id.number)
       → (is : message ≡ agent_message member (ends.Member peer) asked sequence (bodies.FailsafeAnswer accepted))
-      → (from : Q (outputs.Message (outgoing.FailsafeAnswer id asked sequence accepted))) → IsMessageOf member incarnation Q message
+      → (from : Q (outputs.Message (outgoing.FailsafeAnswer id asked sequence accepted)))
+      → IsMessageOf member incarnation Q message
 
 -- its server begins to accept writes by an output with this property: it is to begin, or to start again
 abbrev pub IsToBegin : (Output → Type 0) → Type 0
@@ -67,10 +70,12 @@ IsToBegin Q = Q (outputs.Server orders.Begin) ⊎ ((as_primary : Bool) × Q (out
 -- its watchdog is fed by an output with this property: on the grant
 -- that is heard in the message of this number, or on acknowledgements
 pub data IsFeedOf (heard : ℕ) (Q : Output → Type 0) (until : Ticks) (basis : Basis) : Type 0 where
-  ByGrant : (is : basis ≡ bases.Grant heard) → (from : Q (outputs.Watchdog (feedings.Fed until))) → IsFeedOf heard Q until basis
+  ByGrant : (is : basis ≡ bases.Grant heard) → (from : Q (outputs.Watchdog (feedings.Fed until)))
+      → IsFeedOf heard Q until basis
   ByFailsafe : (members : MemberSet) → (sequence : ℕ) → (since : Ticks)
       → (is : basis ≡ bases.Acknowledgements members sequence)
-      → (from : Q (outputs.Watchdog (feedings.FedByFailsafe until members sequence since))) → IsFeedOf heard Q until basis
+      → (from : Q (outputs.Watchdog (feedings.FedByFailsafe until members sequence since)))
+      → IsFeedOf heard Q until basis
 
 -- it takes a hold by an output with this property, for a request of this member
 pub record IsHoldOf (Q : Output → Type 0) (until : Ticks) (from : Member) (sequence : ℕ) : Type 0 where
@@ -105,6 +110,7 @@ IsOfInput member incarnation heard Q (kinds.Watchdog (watchdogs.Measured by from
 IsOfInput member incarnation heard Q (kinds.Replication (replications.RequiredSet server required names)) =
     server ≡ server_of member
 IsOfInput member incarnation heard Q (kinds.Replication (replications.Lacks server)) = server ≡ server_of member
-IsOfInput member incarnation heard Q (kinds.Agent (agents.Passed by)) = (by ≡ member) × Q (outputs.Tell tellings.ClaimsOutsideSync)
+IsOfInput member incarnation heard Q (kinds.Agent (agents.Passed by)) =
+    (by ≡ member) × Q (outputs.Tell tellings.ClaimsOutsideSync)
 IsOfInput member incarnation heard Q (kinds.Note note) = Unit {0}
 IsOfInput member incarnation heard Q _ = ⊥

@@ -31,7 +31,8 @@ module _ (H : Option KeyEntry → Type 0) (revision now : ℕ) (by : MemberId) w
   -- where a transaction sets the configuration, this holds of what it sets
   abbrev pub SetsConfig : Option KeyEntry → Txn → Type 0
   SetsConfig found (txns.Operators (operator_txns.SetConfig compared config)) =
-      H (found_after_all revision now keys.Config found (writes_of by (txns.Operators (operator_txns.SetConfig compared config))))
+      H (found_after_all revision now keys.Config found
+      (writes_of by (txns.Operators (operator_txns.SetConfig compared config))))
   SetsConfig found _ = Unit {0}
 
   -- then it holds of the configuration that the transaction leaves, where it held of the one before

@@ -246,7 +246,8 @@ found-decision_if : (pairs : List (Key × KeyEntry)) (now revision by sent : ℕ
     (is_granted (decision_by pairs now (compares_of txn))) (query_of txn)
     ≡ outcome_by (decision_by pairs now (compares_of txn)) now (leader_key_of found)
     (failsafe_key_of listed) revision by sent (query_of txn)
-found-decision_if pairs now revision by sent found listed (txns.Lease (lease_txns.Create info ttl failsafe sync)) finds leads sets =
+found-decision_if pairs now revision by sent found listed (txns.Lease (lease_txns.Create info ttl failsafe sync)) finds
+    leads sets =
     let others : List (Key × Expected) = compare_if keys.Sync sync in
     let is : decision_by pairs now (compares_of (txns.Lease (lease_txns.Create info ttl failsafe sync)))
     ≡ by_leader found Absent (by_failsafe listed failsafe (decision_by pairs now others)) =
@@ -257,7 +258,8 @@ found-decision_if pairs now revision by sent found listed (txns.Lease (lease_txn
     ≡ outcome_by d now (leader_key_of found) (failsafe_key_of listed) revision by sent (Create ttl.0 failsafe))
     (sym is)
     (create-decision_if (decision_by pairs now others) now revision by sent ttl.0 failsafe found listed leads sets)
-found-decision_if pairs now revision by sent found listed (txns.Lease (lease_txns.Renew compared info ttl status row failsafe)) finds leads
+found-decision_if pairs now revision by sent found listed
+    (txns.Lease (lease_txns.Renew compared info ttl status row failsafe)) finds leads
     sets =
     renew-decision_if now revision by sent compared ttl.0 (members_if failsafe) found (failsafe_key_of listed) leads
     ∙ ap (λ (d : Decision). outcome_by d now (leader_key_of found) (failsafe_key_of listed) revision by sent

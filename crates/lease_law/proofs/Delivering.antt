@@ -166,7 +166,9 @@ granted-grant : (past : Past) (member incarnation sequence sent : ℕ) (txn : Tx
       query = query_of txn;
     })) ≡ lease_given past.clock past.revision past.failsafe sent (query_of txn)
 granted-grant past member incarnation sequence sent (txns.Lease (lease_txns.Create info ttl failsafe sync)) = refl
-granted-grant past member incarnation sequence sent (txns.Lease (lease_txns.Renew compared info ttl status row failsafe)) = refl
+granted-grant past member incarnation sequence sent
+    (txns.Lease (lease_txns.Renew compared info ttl status row failsafe)) =
+    refl
 granted-grant past member incarnation sequence sent _ = refl
 
 delivered-is : (s : State) (i j : ℕ) (granted : Bool) (q : Question) (d : Outcome) → s.flight i ≡ Some (Requested q)

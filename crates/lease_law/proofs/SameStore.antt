@@ -198,9 +198,11 @@ granted-present clock revision by leader (txns.Lease (lease_txns.Create info ttl
   ap (λ (x : LeaderKey). x.expiry)
       (some-is (record { holder = by; revision = revision + 1; expiry = clock + ttl.0 }) k e),
 )
-granted-present clock revision by leader (txns.Lease (lease_txns.Renew compared info ttl status row failsafe)) span old k e =
+granted-present clock revision by leader (txns.Lease (lease_txns.Renew compared info ttl status row failsafe)) span old
+    k e =
     extended-present clock (revision + 1) ttl.0 leader old k e
-granted-present clock revision by leader (txns.Lease (lease_txns.Release compared)) span old k e = absurd (none-some k e)
+granted-present clock revision by leader (txns.Lease (lease_txns.Release compared)) span old k e =
+    absurd (none-some k e)
 granted-present clock revision by leader _ span old k e = old k e
 
 kept-present : (b : Bool) (now : ℕ) (key k : LeaderKey) → nat_le key.expiry now ≡ b → kept_if b key ≡ Some k

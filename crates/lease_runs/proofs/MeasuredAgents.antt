@@ -309,7 +309,8 @@ module _ (H : Type 0) (moments : Moments) (cluster : Cluster) (member : Member) 
     alone-feeds : (output : Output) → FeedsAlone Now output → FeedsIt output
     alone-feeds (outputs.Watchdog (feedings.Armed until)) feeds = absurd feeds
     alone-feeds (outputs.Watchdog (feedings.Fed until)) feeds = absurd feeds
-    alone-feeds (outputs.Watchdog (feedings.FedByFailsafe until members sequence since)) feeds = λ m taken runs_are clock.
+    alone-feeds (outputs.Watchdog (feedings.FedByFailsafe until members sequence since)) feeds =
+        λ m taken runs_are clock.
         subst (IsEarliest m M (bases.Acknowledgements members sequence))
         (clock ∙ kept.clock ∙ knows.sending.clock ∙ ap (λ (t : Ticks). t.0) (sym feeds.1))
         (fed-alone m M members sequence feeds.0)
@@ -594,9 +595,11 @@ module _ (H : Type 0) (moments : Moments) (cluster : Cluster) (member : Member) 
             (each (output_events member message) First
             (with_output (outputs.Message (outgoing.FailsafeAnswer from run sequence false)) b.outputs))
         refuses numbers =
-            each-it It acts it-stays (with_output (outputs.Message (outgoing.FailsafeAnswer from run sequence false)) b.outputs)
+            each-it It acts it-stays
+            (with_output (outputs.Message (outgoing.FailsafeAnswer from run sequence false)) b.outputs)
             (all-quiet-fit 0 (with_output (outputs.Message (outgoing.FailsafeAnswer from run sequence false)) b.outputs)
-            (All-push IsQuiet b.outputs (outputs.Message (outgoing.FailsafeAnswer from run sequence false)) b-quiet refl))
+            (All-push IsQuiet b.outputs
+            (outputs.Message (outgoing.FailsafeAnswer from run sequence false)) b-quiet refl))
             numbers.0 numbers.1
             (All-push (FeedsIt It acts it-stays) b.outputs
             (outputs.Message (outgoing.FailsafeAnswer from run sequence false)) front-feeds tt)

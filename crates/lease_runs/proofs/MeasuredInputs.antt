@@ -289,9 +289,12 @@ module _ (member : Member) (incarnation : ℕ) (message : HeardMessage) where
   output-measured : (moments : Moments) (since : Ticks) (cluster : Cluster) (output : Output)
       → RunsAmong member incarnation cluster.facts → IsOfTable output → FeedsAt moments cluster output
       → AreMeasured moments since (Brings cluster output)
-  output-measured moments since cluster (outputs.Watchdog (feedings.Armed until)) runs table feeds = (tt, (feeds.known, tt))
-  output-measured moments since cluster (outputs.Watchdog (feedings.Fed until)) runs table feeds = (tt, (feeds.known, tt))
-  output-measured moments since cluster (outputs.Watchdog (feedings.FedByFailsafe until members sequence from)) runs table feeds =
+  output-measured moments since cluster (outputs.Watchdog (feedings.Armed until)) runs table feeds =
+      (tt, (feeds.known, tt))
+  output-measured moments since cluster (outputs.Watchdog (feedings.Fed until)) runs table feeds =
+      (tt, (feeds.known, tt))
+  output-measured moments since cluster (outputs.Watchdog (feedings.FedByFailsafe until members sequence from)) runs
+      table feeds =
       (tt, (record { none_earlier = feeds.none_earlier; one = feeds.one }, tt))
   output-measured moments since cluster output runs table feeds = silent moments since cluster output runs table tt
 
@@ -334,7 +337,8 @@ module _ (member : Member) (incarnation : ℕ) (message : HeardMessage) where
     abbrev pub Feeds : Output → Type 0
     Feeds (outputs.Watchdog (feedings.Armed until)) = H
     Feeds (outputs.Watchdog (feedings.Fed until)) = H
-    Feeds (outputs.Watchdog (feedings.FedByFailsafe until members sequence since)) = (moments : Moments) → moments.taken ≡ T
+    Feeds (outputs.Watchdog (feedings.FedByFailsafe until members sequence since)) =
+        (moments : Moments) → moments.taken ≡ T
         → moments.runs ≡ R → moments.clock ≡ C → IsEarliest moments M (bases.Acknowledgements members sequence) since.0
     Feeds _ = Unit {0}
 
@@ -464,7 +468,8 @@ module _ (member : Member) (incarnation : ℕ) (message : HeardMessage) where
               (All-tail (SendsBetween low after.knows.sequence) output more sends) (All-tail Feeds output more feeds))
           | inr asks ↦
               let send : Output =
-              outputs.Message (outgoing.Send (targets.Member asks.id) asks.sequence (bodies.FailsafeRequest asks.ttl)) in
+              outputs.Message (outgoing.Send (targets.Member asks.id) asks.sequence
+              (bodies.FailsafeRequest asks.ttl)) in
               let number = subst (SendsBetween low after.knows.sequence) asks.is
               (All-head (SendsBetween low after.knows.sequence) output more sends) in
               let tells : Measures moments cluster (Brings cluster send) =

@@ -160,7 +160,8 @@ takes-so : (now ttl : Ticks) (revision : ℕ) (o b : Outcome) → awaits_stay b.
     → StaysSo o (takes_key now ttl revision b)
 takes-so now ttl revision o b none =
     let back : Outcome =
-    gives_back revision (record b { outputs = with_output (outputs.Note (notings.Agent agent_notes.CannotArm)) b.outputs }) in
+    gives_back revision
+    (record b { outputs = with_output (outputs.Note (notings.Agent agent_notes.CannotArm)) b.outputs }) in
     let arm : Outcome = arming now ttl b in
     if-cases (StaysSo o) (may_take now b.knows b.machine) (arms now ttl revision b) (gives_back revision b)
     (λ _. if-cases (StaysSo o) (is_refusing b.machine.watchdog.mode b.machine.watchdog.works) back
@@ -418,7 +419,8 @@ wake-quiet now points o alone silent counted so =
             → AsksNobody (targets.Member id) body
         by (bodies.FailsafeRequest ttl) asks = absurd (asks-not sequence ttl may.0 asks)
         by _ asks = tt
-    put (outputs.Tell (tellings.HoldTaken until from sequence)) may = elim may [ inl mine ↦ mine.0 | inr asked ↦ absurd asked.1 ]
+    put (outputs.Tell (tellings.HoldTaken until from sequence)) may =
+        elim may [ inl mine ↦ mine.0 | inr asked ↦ absurd asked.1 ]
     put (outputs.Message (outgoing.FailsafeAnswer to run sequence accepted)) may = false-if accepted may
     put _ may = tt
 
@@ -530,7 +532,8 @@ counted-feeds now points o alone silent from sequence accepted sent = by b.knows
 
     ends : (role : RoleFacts) → P (unacknowledged_as now role (waiting_no_more b))
     ends (Leader held) =
-        All-push (FeedsSo o from sequence accepted sent) b.outputs (outputs.Server (orders.Stop FailsafeNotAcknowledged)) all tt
+        All-push (FeedsSo o from sequence accepted sent) b.outputs
+        (outputs.Server (orders.Stop FailsafeNotAcknowledged)) all tt
     ends Follower = all
     ends (Holder held) = all
     ends (Ready held) = all

@@ -142,7 +142,8 @@ module _ (U F : Type 0) where
   fine-handover now held o all = record {
     kept = all;
     clears = λ compared. more o.outputs _ all tt;
-    hands = λ candidate. more (with_output (outputs.Note (notings.Agent (agent_notes.HandsOver candidate))) o.outputs) (outputs.Server orders.ShutDown)
+    hands = λ candidate. more (with_output (outputs.Note (notings.Agent (agent_notes.HandsOver candidate))) o.outputs)
+        (outputs.Server orders.ShutDown)
         (more o.outputs (outputs.Note (notings.Agent (agent_notes.HandsOver candidate))) all tt) tt;
   }
 
@@ -151,7 +152,8 @@ module _ (U F : Type 0) where
   fine-follows now leader o all = let x : Outcome = led_by_another o in
       let row : Outcome = follow_row (may_start_behind o.knows) now leader o.machine.server.state x in
       let first : Fine row = follow-by Fine (may_start_behind o.knows) now leader o.machine.server.state x all
-      (more o.outputs (outputs.Server (orders.StartReplica (Some leader))) all tt) (more o.outputs (outputs.Server (orders.Follow leader)) all tt)
+      (more o.outputs (outputs.Server (orders.StartReplica (Some leader))) all tt)
+      (more o.outputs (outputs.Server (orders.Follow leader)) all tt)
       (more o.outputs (outputs.Server orders.ShutDown) all tt) in
       let told : Fine (touching row) = more row.outputs _ first tt in
       repaired-by Fine leader (repair_of o.knows.settings leader o.machine.server) (touching row) told
@@ -190,7 +192,8 @@ module _ (U F : Type 0) where
   -- ---- refusals, and what other members ask and answer
   fine-postpones : (deadline : Option Ticks) (outs : List Output) → All Only outs
       → All Only (with_output (outputs.Note (notings.Agent agent_notes.PostponesPromotion)) (disarmed deadline outs))
-  fine-postpones deadline outs all = more (disarmed deadline outs) (outputs.Note (notings.Agent agent_notes.PostponesPromotion))
+  fine-postpones deadline outs all =
+      more (disarmed deadline outs) (outputs.Note (notings.Agent agent_notes.PostponesPromotion))
       (fine-disarmed deadline outs all) tt
 
   fine-refused : (now : Ticks) (sequence : ℕ) (o : Outcome) → Fine o → Fine (refused_any now sequence o)
@@ -241,8 +244,11 @@ module _ (U F : Type 0) where
       → All Only outs → All Only (requesting_one members sequence ttl member outs)
   fine-request members sequence ttl None outs all = all
   fine-request members sequence ttl (Some member) outs all = if-cases (All Only) (has members member.number)
-      (with_output (outputs.Message (outgoing.Send (targets.Member member) sequence (bodies.FailsafeRequest ttl))) outs) outs
-      (λ _. more outs (outputs.Message (outgoing.Send (targets.Member member) sequence (bodies.FailsafeRequest ttl))) all tt) (λ _. all)
+      (with_output (outputs.Message (outgoing.Send (targets.Member member) sequence (bodies.FailsafeRequest ttl))) outs)
+      outs
+      (λ _.
+      more outs (outputs.Message (outgoing.Send (targets.Member member) sequence (bodies.FailsafeRequest ttl))) all tt)
+      (λ _. all)
 
   fine-requests : (members : MemberSet) (sequence : ℕ) (ttl : Ticks) (count : ℕ) (outs : List Output) → All Only outs
       → All Only (requesting_first members sequence ttl count outs)
@@ -272,7 +278,8 @@ module _ (U F : Type 0) where
   fine-turned now o all = turn-by Fine now o (record {
     kept = all;
     quiet = all;
-    reads = λ _. more o.outputs (outputs.Message (outgoing.Send targets.Store (o.knows.sequence + 1) bodies.Read)) all tt;
+    reads =
+        λ _. more o.outputs (outputs.Message (outgoing.Send targets.Store (o.knows.sequence + 1) bodies.Read)) all tt;
   })
 
   fine-woken : (now : Ticks) (o : Outcome) → Fine (reconciled now o) → Fine (woken now o)
@@ -285,10 +292,12 @@ module _ (U F : Type 0) where
       → Fine (operated now request asked o)
   fine-operated now request asked o all = operated-by Fine now request asked o (record {
     asks = λ operation txn is.
-        more o.outputs (outputs.Message (outgoing.Send targets.Store (o.knows.sequence + 1) (bodies.Request txn))) all tt;
+        more o.outputs
+        (outputs.Message (outgoing.Send targets.Store (o.knows.sequence + 1) (bodies.Request txn))) all tt;
     restarts = λ told. more (restarting now o).outputs (outputs.Tell (tellings.Told request told))
         (more o.outputs (outputs.Server (orders.Restart (is_primary o.machine.server.state))) all tt) tt;
-    wipes = λ told. more (wiping o).outputs (outputs.Tell (tellings.Told request told)) (more o.outputs (outputs.Server orders.Wipe) all tt) tt;
+    wipes = λ told. more (wiping o).outputs (outputs.Tell (tellings.Told request told))
+        (more o.outputs (outputs.Server orders.Wipe) all tt) tt;
     holds = λ ttl told _. more _ (outputs.Tell (tellings.Told request told))
         (more o.outputs (outputs.Tell (tellings.HoldTaken (span_after now ttl) o.knows.who.me unnumbered)) all tt) tt;
     refuses = λ told. more o.outputs (outputs.Tell (tellings.Told request told)) all tt;
@@ -332,7 +341,8 @@ module _ (U F : Type 0) (now : Ticks) (sequence : ℕ) (grant : Granted) (snapsh
       kept = goes _ row.outs row.turn row.who;
       clears = λ compared. goes _ (onto led _ row tt) row.turn row.who;
       hands = λ candidate. goes _
-          (more U F (with_output (outputs.Note (notings.Agent (agent_notes.HandsOver candidate))) led.outputs) (outputs.Server orders.ShutDown)
+          (more U F (with_output (outputs.Note (notings.Agent (agent_notes.HandsOver candidate))) led.outputs)
+          (outputs.Server orders.ShutDown)
           (onto led (outputs.Note (notings.Agent (agent_notes.HandsOver candidate))) row tt) tt)
           row.turn row.who;
     };
@@ -350,7 +360,8 @@ module _ (U F : Type 0) (now : Ticks) (sequence : ℕ) (grant : Granted) (snapsh
       → All (TellsOnly U F) (disabling_told renews deadline b.outputs)
   disabled-outs renews None = all
   disabled-outs true (Some until) =
-      more U F (with_output (outputs.Watchdog feedings.Disarmed) b.outputs) (outputs.Note (notings.Agent agent_notes.DisablesWatchdog))
+      more U F (with_output (outputs.Watchdog feedings.Disarmed) b.outputs)
+      (outputs.Note (notings.Agent agent_notes.DisablesWatchdog))
       (more U F b.outputs (outputs.Watchdog feedings.Disarmed) all tt) tt
   disabled-outs false (Some until) = more U F b.outputs (outputs.Watchdog feedings.Disarmed) all tt
 
@@ -363,7 +374,9 @@ module _ (U F : Type 0) (now : Ticks) (sequence : ℕ) (grant : Granted) (snapsh
     -- the member takes the leader key
     begins-row : (revision : ℕ) (x : Outcome) → Row x → Row (begins_or_claims now revision x)
     begins-row revision x row = begins-or-claims-by Row now revision x
-        (goes _ (more U F (with_output (outputs.Require (unnamed x.knows.turn_settings)) x.outputs) (outputs.Server orders.Begin)
+        (goes _
+        (more U F (with_output (outputs.Require (unnamed x.knows.turn_settings)) x.outputs)
+        (outputs.Server orders.Begin)
         (onto x (outputs.Require (unnamed x.knows.turn_settings)) row tt) tt) row.turn row.who)
         (goes _ (more U F (passing x).outputs _
         (passed (is_named_if x.knows.who.me x.knows.turn_sync)
@@ -398,7 +411,8 @@ module _ (U F : Type 0) (now : Ticks) (sequence : ℕ) (grant : Granted) (snapsh
           let row : Row led =
           goes led (fed-outs (deadline_after now ttl b.machine.watchdog) feeds) refl refl in
           renewed-by Row now ttl grant.revision Told
-          (goes _ (onto led (outputs.Server (orders.Stop StartTooLong)) row tt) refl refl) (duty-rows grant.revision led row);
+          (goes _ (onto led (outputs.Server (orders.Stop StartTooLong)) row tt) refl refl)
+          (duty-rows grant.revision led row);
       unleased = λ _. if-cases Row (is_refusing b.machine.watchdog.mode b.machine.watchdog.works)
           (unleased_unarmed now Told) (takes_over now grant.revision (arming now ttl Told))
           (λ _. goes _ (onto Told (outputs.Server (orders.Stop WatchdogNotArmed)) told-row tt) refl refl)
@@ -412,7 +426,8 @@ module _ (U F : Type 0) (now : Ticks) (sequence : ℕ) (grant : Granted) (snapsh
       keeps_late = λ held _. let kept : Outcome = kept_on grant.revision Told in
           let row : Row kept = goes kept all refl refl in
           judges-start-by Row now grant.revision kept
-          (goes _ (onto kept (outputs.Server (orders.Stop StartTooLong)) row tt) refl refl) (duty-rows grant.revision kept row);
+          (goes _ (onto kept (outputs.Server (orders.Stop StartTooLong)) row tt) refl refl)
+          (duty-rows grant.revision kept row);
       ends_late = λ _. goes _ (onto Told (outputs.Server (orders.Stop WatchdogNotArmed)) told-row tt) refl refl;
       refuses_late = λ _. cannot-row grant.revision;
       returns_late = λ _. back-row grant.revision Told told-row;
@@ -453,7 +468,8 @@ module _ (U : Type 0) (now : Ticks) (sequence : ℕ) (grant : Granted) (snapshot
       (record {
         other = does Seen all refl refl;
         begins = λ revision _. does (begins now revision Seen)
-            (more U Mine (with_output (outputs.Require (unnamed b.knows.turn_settings)) b.outputs) (outputs.Server orders.Begin)
+            (more U Mine (with_output (outputs.Require (unnamed b.knows.turn_settings)) b.outputs)
+            (outputs.Server orders.Begin)
             (more U Mine b.outputs (outputs.Require (unnamed b.knows.turn_settings)) all tt) tt) refl refl;
         postpones = λ revision _. does (postpones revision Seen)
             (fine-postpones U Mine b.machine.watchdog.deadline b.outputs all) refl refl;
@@ -464,7 +480,8 @@ module _ (U : Type 0) (now : Ticks) (sequence : ℕ) (grant : Granted) (snapshot
   grant-does : Does (granted_any now sequence grant snapshot b)
   grant-does = granted-any-by Does now sequence grant snapshot b (does b all refl refl) (record {
     kept = does (learned snapshot b) all refl refl;
-    answers = λ request told. does _ (more U Mine b.outputs (outputs.Tell (tellings.Told request told)) all tt) refl refl;
+    answers =
+        λ request told. does _ (more U Mine b.outputs (outputs.Tell (tellings.Told request told)) all tt) refl refl;
   }) own-does
 
 -- ---- a whole input

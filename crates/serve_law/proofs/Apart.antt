@@ -101,10 +101,6 @@ apart-if : (cluster : Cluster) (found : Option EventKind) → HoldsIf IsApart fo
     → AllAre IsApart (events_of cluster (kinds_of found))
 apart-if cluster found is = all-kinds IsApart cluster (kinds_of found) (one-kind IsApart found is)
 
-unless-apart : (kind : EventKind) (test : Bool) → IsApart kind → HoldsIf IsApart (cond test None (Some kind))
-unless-apart kind true is = tt
-unless-apart kind false is = is
-
 -- ---- messages that are sent
 lost-apart : (test : Bool) (number : ℕ) → AllKinds IsApart (lost_at_once test number)
 lost-apart true number = (tt, tt)

@@ -168,7 +168,8 @@ module _ (id : MemberId) (member : Member) (heard : HeardMessage) where
         second (Some reply) e = absurd (none-some _ (sym e))
 
     pub each-replied : (cluster : Cluster) (outs more : List Output) (request status : ℕ) (text : Text)
-        → reply_in id (Brings cluster (outs ++ outputs.Tell (tellings.Told request (tolds.Text status text)) ∷ more)) ≢ None
+        → reply_in id (Brings cluster (outs ++ outputs.Tell (tellings.Told request (tolds.Text status text)) ∷ more))
+        ≢ None
     each-replied cluster [] more request status text none = text-replied cluster request status text more none
     each-replied cluster (output ∷ outs) more request status text none =
         let xs = output_events member heard cluster output in

@@ -142,11 +142,13 @@ store-right _ none = tt
 
 store-wrong : (margin : ℕ → Option ℕ) (moments : Moments) (happening : StoreEvent) (why : Breach)
     → breach_by_store happening ≡ Some why → IsWrong margin moments (kinds.Store happening) why
-store-wrong margin moments (stores.Granted number by (txns.Operators (operator_txns.SetConfig revision config)) standbys) why some =
+store-wrong margin moments
+    (stores.Granted number by (txns.Operators (operator_txns.SetConfig revision config)) standbys) why some =
     let pauses = pause-some config.config.pause why some in
     record {
       told =
-          subst (λ w. IsBreachBy w (kinds.Store (stores.Granted number by (txns.Operators (operator_txns.SetConfig revision config)) standbys)))
+          subst (λ w. IsBreachBy w
+          (kinds.Store (stores.Granted number by (txns.Operators (operator_txns.SetConfig revision config)) standbys)))
           pauses.1 pauses.0;
       fails = λ time off. both (sym off ∙ pauses.0);
     }

@@ -38,7 +38,8 @@ store-keeps on _ keeps = tt
 
 store-breaks : (on : Bool) (happening : StoreEvent) → keeps_mode_in_store on happening ≡ false
     → KeepsMode on (kinds.Store happening) → ⊥
-store-breaks on (stores.Granted number by (txns.Operators (operator_txns.SetConfig revision config)) standbys) breaks keeps =
+store-breaks on (stores.Granted number by (txns.Operators (operator_txns.SetConfig revision config)) standbys) breaks
+    keeps =
     mode-other on config.config.synchronous_mode breaks keeps
 store-breaks on _ breaks keeps = both (sym breaks)
 

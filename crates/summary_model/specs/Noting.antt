@@ -115,7 +115,8 @@ has_mode false mode = not mode
 
 -- a granted configuration has the mode
 abbrev pub keeps_mode_in_txn : Bool → Txn → Bool
-keeps_mode_in_txn on (txns.Operators (operator_txns.SetConfig revision config)) = has_mode on config.config.synchronous_mode
+keeps_mode_in_txn on (txns.Operators (operator_txns.SetConfig revision config)) =
+    has_mode on config.config.synchronous_mode
 keeps_mode_in_txn on _ = true
 
 -- so has one that is granted at the key store

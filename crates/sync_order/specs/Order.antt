@@ -115,7 +115,10 @@ pub record KeepsOrder (start : Facts) (noted : List Event → ℕ → ℕ) (book
   pub claims : (front back : List Event) (tick : Ticks) (number leader : ℕ) (by : Member) (sync : Expected)
       (names : List Name)
       → front
-      ++ record { tick = tick; kind = kinds.Store (stores.Granted number by (txns.Sync (sync_txns.Claim leader sync)) names) } ∷ back
+      ++ record {
+        tick = tick;
+        kind = kinds.Store (stores.Granted number by (txns.Sync (sync_txns.Claim leader sync)) names);
+      } ∷ back
       ≡ book
       → IsNamed (facts_over start front).keys by.id.number
   -- who asked to publish standbys did so in order

@@ -6,11 +6,13 @@ use Rattle.world_acts.proofs.carrying.carry.Goals as goal
 
 pub returns-in-Message : goal.returns-in-Message
 returns-in-Message c = on_ok_weaker c.send.result
-    (carried _ _ _ _ c.args.member c.args.heard c.args.output _ sending_cost c.in-Message.is (omega arith)) c.send.ensures
+    (carried _ _ _ _ c.args.member c.args.heard c.args.output _ sending_cost c.in-Message.is (omega arith))
+    c.send.ensures
 
 pub returns-in-Watchdog : goal.returns-in-Watchdog
 returns-in-Watchdog c = on_ok_weaker c.feed.result
-    (carried _ _ _ _ c.args.member c.args.heard c.args.output _ feeding_cost c.in-Watchdog.is (omega arith)) c.feed.ensures
+    (carried _ _ _ _ c.args.member c.args.heard c.args.output _ feeding_cost c.in-Watchdog.is (omega arith))
+    c.feed.ensures
 
 pub returns-in-Require : goal.returns-in-Require
 returns-in-Require c = on_ok_weaker c.require.result

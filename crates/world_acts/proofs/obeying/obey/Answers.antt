@@ -10,7 +10,8 @@ returns-in-Begin c = on_ok_weaker c.begin.result
 
 pub returns-in-StartReplica : goal.returns-in-StartReplica
 returns-in-StartReplica c = on_ok_weaker c.start_replica.result
-    (obeyed _ _ _ _ c.args.member c.args.order _ replica_start_cost c.in-StartReplica.is (omega arith)) c.start_replica.ensures
+    (obeyed _ _ _ _ c.args.member c.args.order _ replica_start_cost c.in-StartReplica.is (omega arith))
+    c.start_replica.ensures
 
 pub returns-in-Stop : goal.returns-in-Stop
 returns-in-Stop c = on_ok_weaker c.stop.result
