@@ -9,7 +9,7 @@ use Rattle.lease_store.specs.declared.granted.Granted.{Granted}
 use Rattle.store_keys.specs.declared.key.Key.TheVariants as keys
 use Rattle.store_keys.specs.declared.value.KeyEntry.{KeyEntry}
 use Rattle.wal_model.specs.declared.entry.HistoryPoint.{HistoryPoint}
-use Rattle.cluster_view.specs.Snapshots.{SnapshotFacts, entry_in, failsafe_by}
+use Rattle.cluster_view.specs.Snapshots.{SnapshotFacts, entry_in, failsafe_by, found_by}
 use Rattle.event_book.specs.declared.agent_note.AgentNote.TheVariants as agent_notes
 use Rattle.event_book.specs.declared.reason.Reason.TheVariants.{StartTooLong, WatchdogNotArmed}
 use Rattle.lease_model.proofs.Tools.{none-some}
@@ -35,7 +35,7 @@ use Rattle.agent_model.specs.Racing.{creating, barred, finds_free, judged, askin
 use Rattle.agent_model.specs.Peers.{asked, keeping, answered}
 use Rattle.agent_model.specs.HandingOver.{checking, hands_over}
 use Rattle.agent_model.specs.Operators.{answering, given_up, learned, looked, operated, operating, restarting, telling, wiping, unnumbered}
-use Rattle.agent_model.specs.FailsafeKeys.{failsafe_read_by, failsafe_read_in, failsafe_read_of_entry, set_carried}
+use Rattle.agent_model.specs.FailsafeKeys.{failsafe_read_by, failsafe_read_in, set_carried, failsafe_read_at}
 use Rattle.agent_model.specs.StayingPrimary.{answering_failsafe, asking_to_stay, counting, failsafe_answered, failsafe_asked, leader_unacknowledged, others_known, span_after, stays, stays_alone, holding_for}
 use Rattle.event_book.specs.Watchdogs.{prolonged_to}
 use Rattle.agent_model.specs.Table.{step, granted_any, refused_any}
@@ -220,7 +220,7 @@ read-told snapshot = by-entry (entry_in keys.Failsafe snapshot)
     by-members revision None = refl
     by-members revision (Some members) = refl
 
-    by-entry : (found : Option KeyEntry) → failsafe_read_seen (failsafe_read_of_entry found) ≡ failsafe_entry_seen found
+    by-entry : (found : Option KeyEntry) → failsafe_read_seen (found_by failsafe_read_at found) ≡ failsafe_entry_seen found
     by-entry None = refl
     by-entry (Some found) = by-members found.revision (failsafe_by found.value)
 

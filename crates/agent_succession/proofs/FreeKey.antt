@@ -24,9 +24,9 @@ use Rattle.pg_model.specs.Facts.{is_down}
 use Rattle.event_book.specs.declared.message.Body.TheVariants as bodies
 use Rattle.cluster_view.specs.declared.snapshot.LeaderEntry.{LeaderEntry}
 use Rattle.cluster_view.specs.declared.view.AgentView.{AgentView}
-use Rattle.cluster_view.specs.KeyValues.{config_in, failover_in, sync_by, sync_of_entry, sync_in, active_sync_where}
+use Rattle.cluster_view.specs.KeyValues.{config_in, failover_in, sync_by, sync_in, active_sync_where}
 use Rattle.cluster_view.specs.Naming.{is_candidate}
-use Rattle.cluster_view.specs.Snapshots.{IsRead, SnapshotFacts, leader_in, entry_in, settings_by, settings_of_entry, settings_in}
+use Rattle.cluster_view.specs.Snapshots.{IsRead, SnapshotFacts, leader_in, entry_in, settings_by, settings_of_entry, settings_in, found_by, value_by}
 use Rattle.leader_race.specs.Bars.{first_bar}
 use Rattle.leader_race.specs.Eligibility.{eligibility_of}
 use Rattle.leader_race.specs.declared.racer.RaceKeys.{RaceKeys}
@@ -55,7 +55,7 @@ use Rattle.agent_model.specs.HandingOver.{check_answered}
 use Rattle.agent_model.specs.Peers.{is_asking, awaits_answer, awaits_check, judged_if_all, keeping, accepted_answer, answered_for, answered}
 use Rattle.agent_model.specs.Racing.{can_start, bar_of, turn_keys, judged_as, judged, asking_others, unheard, races, races_unless, finds_free, starts_alone}
 use Rattle.agent_model.specs.Snapshots.{no_key, led, is_active, awaits_read, read_noted, accepted, read_answered}
-use Rattle.agent_model.specs.Synchronous.{sync_read_by, sync_read_of_entry}
+use Rattle.agent_model.specs.Synchronous.{sync_read_by, sync_read_at}
 use Rattle.agent_model.specs.Views.{shown}
 use Rattle.agent_model.specs.Operators.{given_up}
 use Rattle.agent_model.specs.Table.{prepared}
@@ -157,7 +157,7 @@ sync-value revision None = refl
 sync-value revision (Some key) = refl
 
 sync-found : (found : Option KeyEntry)
-    → option_map (λ (read : SyncRead). read.key) (sync_read_of_entry found) ≡ sync_of_entry found
+    → option_map (λ (read : SyncRead). read.key) (found_by sync_read_at found) ≡ value_by sync_by found
 sync-found None = refl
 sync-found (Some found) = sync-value found.revision (sync_by found.value)
 
