@@ -3,7 +3,6 @@
 use Rattle.std.specs.Prelude.{◌&&◌, ◌||◌, not, Bool, true, false, List, Option, Some, None}
 use Rattle.pat_base.specs.declared.member_id.MemberId.{MemberId}
 use Rattle.pat_base.specs.declared.server_state.State.{State}
-use Rattle.pat_base.specs.declared.server_state.State.TheVariants as states
 use Rattle.pat_base.specs.declared.ticks.Ticks.{Ticks}
 use Rattle.store_keys.specs.declared.config.Config.{Config}
 use Rattle.store_keys.specs.declared.value.FailoverKey.{FailoverKey}
@@ -19,6 +18,7 @@ use Rattle.agent_model.specs.declared.output.Noting.TheVariants as notings
 use Rattle.agent_model.specs.Acting.{without_deadline}
 use Rattle.agent_model.specs.Agents.{Unleased, Outcome}
 use Rattle.agent_model.specs.Outputs.{with_output}
+use Rattle.pg_model.specs.Facts.{is_replica}
 
 -- the cluster is paused, by the newest snapshot
 abbrev pub is_paused : Knowledge → Bool
@@ -58,11 +58,6 @@ disabling_watchdog renews o = record o {
   machine = without_deadline o.machine;
   outputs = disabling_told renews o.machine.watchdog.deadline o.outputs;
 }
-
--- the server runs as a replica
-abbrev pub is_replica : State → Bool
-is_replica states.Replica = true
-is_replica _ = false
 
 -- an operator wants this member to lead, by a failover key, and its
 -- server is a replica: only such a one takes the leader key in a pause

@@ -16,6 +16,7 @@ use Rattle.store_keys.specs.declared.config.Config.{Config}
 use Rattle.lease_store.specs.declared.granted.Granted.{Granted}
 use Rattle.wal_model.specs.declared.entry.HistoryPoint.{HistoryPoint}
 use Rattle.pg_model.specs.Running.{is_primary}
+use Rattle.pg_model.specs.Facts.{is_replica}
 use Rattle.cluster_view.specs.KeyValues.{failover_in}
 use Rattle.cluster_view.specs.Naming.{is_candidate}
 use Rattle.cluster_view.specs.Snapshots.{SnapshotFacts}
@@ -48,7 +49,7 @@ use Rattle.agent_model.specs.Decisions.{arms, gives_back, granted, may_take, ref
 use Rattle.agent_model.specs.HandingOver.{asking_whom}
 use Rattle.agent_model.specs.Operators.{given_up, learned, looked, operated, unnumbered}
 use Rattle.agent_model.specs.Outputs.{with_output}
-use Rattle.agent_model.specs.Pausing.{ends_forks, is_paused, is_replica, is_wanted, lets_rewind, may_start_behind, disabling_told, disabling_watchdog}
+use Rattle.agent_model.specs.Pausing.{ends_forks, is_paused, is_wanted, lets_rewind, may_start_behind, disabling_told, disabling_watchdog}
 use Rattle.agent_model.specs.Peers.{answered, keeping}
 use Rattle.agent_model.specs.Racing.{asking_others, bar_of, can_start, finds_free, judged, races_unless, starts_alone, unheard}
 use Rattle.agent_model.specs.Repairs.{is_upstream, repair_in, repair_of, repaired_if, repairing, rewind_if}
