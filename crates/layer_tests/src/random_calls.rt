@@ -8,7 +8,9 @@ use lease_store::Store;
 use pat_base::{MemberId, MemberSet, Ticks};
 use std::alloc::Global;
 use std::process::Abort;
-use store_keys::{Expected, FailoverKey, HistoryRow, Key, KeyEntry, LeaseTxn, OperatorTxn, SyncTxn, Txn, Value};
+use store_keys::{
+    Expected, FailoverKey, HistoryRow, Key, KeyEntry, LeaseTxn, OperatorTxn, SyncTxn, Txn, Value,
+};
 
 /// Numbers that follow from a seed.
 #[derive(Drop)]
