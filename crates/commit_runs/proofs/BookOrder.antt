@@ -11,6 +11,7 @@ use Rattle.store_keys.specs.declared.key.Key.TheVariants as keys
 use Rattle.store_keys.specs.declared.txn.Expected.{Expected}
 use Rattle.store_keys.specs.declared.txn.Expected.TheVariants.{Absent, Revision}
 use Rattle.store_keys.specs.declared.txn.Txn.TheVariants as txns
+use Rattle.store_keys.specs.declared.txn.SyncTxn.TheVariants as sync_txns
 use Rattle.store_keys.specs.declared.value.SyncKey.{SyncKey as StoredSync}
 use Rattle.store_keys.specs.declared.value.Value.{Value}
 use Rattle.lease_store.proofs.Fences.{kept_first}
@@ -197,7 +198,10 @@ order-by-book head book seen = record {
   claims = λ front back tick number leader by sync names whole.
       named-by head front by.id.number
       (at-event head book seen front back
-      (record { tick = tick; kind = kinds.Store (stores.Granted number by (txns.Claim leader sync) names) }) whole);
+      (record {
+        tick = tick;
+        kind = kinds.Store (stores.Granted number by (txns.Sync (sync_txns.Claim leader sync)) names);
+      }) whole);
   publishes = λ front back tick number incarnation sequence leader by to sync standbys whole.
       publishes-by head front by.id.number incarnation sequence leader (noted_in head front by.id.number) sync standbys
       (at-event head book seen front back
@@ -208,7 +212,7 @@ order-by-book head book seen = record {
           to = to;
           incarnation = incarnation;
           sequence = sequence;
-          body = bodies.Request (txns.SetSync leader sync standbys);
+          body = bodies.Request (txns.Sync (sync_txns.SetSync leader sync standbys));
         }));
       }) whole);
 }

@@ -3,7 +3,7 @@
 use lease_store::StoreRefusal;
 use pat_base::{MemberId, MemberSet, Ticks};
 use std::process::Abort;
-use store_keys::{Expected, Key, KeyEntry, SyncKey, Txn, Value};
+use store_keys::{Expected, Key, KeyEntry, LeaseTxn, OperatorTxn, SyncKey, SyncTxn, Txn, Value};
 
 /// A store that is searched from its front.
 #[derive(Drop)]
@@ -29,31 +29,37 @@ pub(crate) fn is_present(now: Ticks, entry: &KeyEntry) -> bool {
 fn compares(txn: &Txn) -> [Option<(Key, Expected)>; 3] {
     match txn {
         Txn::Touch { .. } => [None, None, None],
-        Txn::Create { failsafe, sync, .. } => [
+        Txn::Lease(LeaseTxn::Create { failsafe, sync, .. }) => [
             Some((Key::Leader, Expected::Absent)),
             failsafe.map(|expected| (Key::Failsafe, expected)),
             sync.map(|expected| (Key::Sync, expected)),
         ],
-        Txn::Renew { revision, .. } | Txn::Release { revision } | Txn::DropFailover { revision } =>
-            {
-                [
-                    Some((Key::Leader, Expected::Revision(*revision))),
-                    None,
-                    None,
-                ]
-            }
-        Txn::Claim { revision, sync } | Txn::SetSync { revision, sync, .. } => [
+        Txn::Lease(LeaseTxn::Renew { revision, .. })
+        | Txn::Lease(LeaseTxn::Release { revision })
+        | Txn::Operators(OperatorTxn::DropFailover { revision }) => {
+            [
+                Some((Key::Leader, Expected::Revision(*revision))),
+                None,
+                None,
+            ]
+        }
+        Txn::Sync(SyncTxn::Claim { revision, sync })
+        | Txn::Sync(SyncTxn::SetSync { revision, sync, .. }) => [
             Some((Key::Leader, Expected::Revision(*revision))),
             Some((Key::Sync, *sync)),
             None,
         ],
-        Txn::DropSync { revision, sync } => [
+        Txn::Sync(SyncTxn::DropSync { revision, sync }) => [
             Some((Key::Leader, Expected::Revision(*revision))),
             Some((Key::Sync, Expected::Revision(*sync))),
             None,
         ],
-        Txn::SetFailover { .. } => [Some((Key::Failover, Expected::Absent)), None, None],
-        Txn::SetConfig { revision, .. } => {
+        Txn::Operators(OperatorTxn::SetFailover { .. }) => [
+            Some((Key::Failover, Expected::Absent)),
+            None,
+            None,
+        ],
+        Txn::Operators(OperatorTxn::SetConfig { revision, .. }) => {
             [
                 Some((Key::Config, Expected::Revision(*revision))),
                 None,
@@ -134,7 +140,7 @@ impl PlainStore {
                     Some(until(now, *ttl)),
                 );
             }
-            Txn::Create { info, ttl, .. } => {
+            Txn::Lease(LeaseTxn::Create { info, ttl, .. }) => {
                 self.put(rt, Key::Leader, Value::Leader(by), Some(until(now, *ttl)));
                 self.put(
                     rt,
@@ -143,14 +149,16 @@ impl PlainStore {
                     Some(until(now, *ttl)),
                 );
             }
-            Txn::Renew {
-                info,
-                ttl,
-                status,
-                row,
-                failsafe,
-                ..
-            } => {
+            Txn::Lease(
+                LeaseTxn::Renew {
+                    info,
+                    ttl,
+                    status,
+                    row,
+                    failsafe,
+                    ..
+                },
+            ) => {
                 self.extend(until(now, *ttl));
                 self.put(
                     rt,
@@ -168,11 +176,11 @@ impl PlainStore {
                     self.put(rt, Key::Failsafe, Value::Failsafe(members), None);
                 }
             }
-            Txn::Release { .. } => self.delete(Key::Leader),
-            Txn::Claim { .. } => self.put_sync(rt, by, MemberSet::empty()),
-            Txn::SetSync { standbys, .. } => self.put_sync(rt, by, *standbys),
-            Txn::DropSync { .. } => self.delete(Key::Sync),
-            Txn::SetFailover { failover, ttl } => {
+            Txn::Lease(LeaseTxn::Release { .. }) => self.delete(Key::Leader),
+            Txn::Sync(SyncTxn::Claim { .. }) => self.put_sync(rt, by, MemberSet::empty()),
+            Txn::Sync(SyncTxn::SetSync { standbys, .. }) => self.put_sync(rt, by, *standbys),
+            Txn::Sync(SyncTxn::DropSync { .. }) => self.delete(Key::Sync),
+            Txn::Operators(OperatorTxn::SetFailover { failover, ttl }) => {
                 self.put(
                     rt,
                     Key::Failover,
@@ -180,8 +188,8 @@ impl PlainStore {
                     Some(until(now, *ttl)),
                 );
             }
-            Txn::DropFailover { .. } => self.delete(Key::Failover),
-            Txn::SetConfig { config, .. } => {
+            Txn::Operators(OperatorTxn::DropFailover { .. }) => self.delete(Key::Failover),
+            Txn::Operators(OperatorTxn::SetConfig { config, .. }) => {
                 let config = config.try_clone().expect(rt, "memory");
                 self.put(rt, Key::Config, Value::Config(config), None);
             }

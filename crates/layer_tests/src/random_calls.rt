@@ -8,7 +8,9 @@ use lease_store::Store;
 use pat_base::{MemberId, MemberSet, Ticks};
 use std::alloc::Global;
 use std::process::Abort;
-use store_keys::{Expected, FailoverKey, HistoryRow, Key, KeyEntry, Txn, Value};
+use store_keys::{
+    Expected, FailoverKey, HistoryRow, Key, KeyEntry, LeaseTxn, OperatorTxn, SyncTxn, Txn, Value,
+};
 
 /// Numbers that follow from a seed.
 #[derive(Drop)]
@@ -58,7 +60,7 @@ fn renewal(draws: &mut Draws, store: &Store, now: Ticks) -> Txn {
         tick: now,
         leader: B,
     };
-    Txn::Renew {
+    Txn::Lease(LeaseTxn::Renew {
         revision: draws.revision(store, now, Key::Leader),
         info: info(),
         ttl: Ticks(draws.below(9)),
@@ -69,7 +71,7 @@ fn renewal(draws: &mut Draws, store: &Store, now: Ticks) -> Txn {
         } else {
             Some(MemberSet::empty().with(C))
         },
-    }
+    })
 }
 
 fn transaction(
@@ -84,7 +86,7 @@ fn transaction(
     let sync = draws.expected(store, now, Key::Sync);
     match draws.below(12) {
         0 => Txn::Touch { info: info(), ttl },
-        1 | 2 => Txn::Create {
+        1 | 2 => Txn::Lease(LeaseTxn::Create {
             info: info(),
             ttl,
             failsafe: None,
@@ -93,31 +95,31 @@ fn transaction(
             } else {
                 Some(sync)
             },
-        },
+        }),
         3 | 4 => renewal(draws, store, now),
-        5 => Txn::Release { revision },
-        6 => Txn::Claim { revision, sync },
-        7 => Txn::SetSync {
+        5 => Txn::Lease(LeaseTxn::Release { revision }),
+        6 => Txn::Sync(SyncTxn::Claim { revision, sync }),
+        7 => Txn::Sync(SyncTxn::SetSync {
             revision,
             sync,
             standbys: MemberSet::empty().with(B),
-        },
-        8 => Txn::DropSync {
+        }),
+        8 => Txn::Sync(SyncTxn::DropSync {
             revision,
             sync: draws.revision(store, now, Key::Sync),
-        },
-        9 => Txn::SetFailover {
+        }),
+        9 => Txn::Operators(OperatorTxn::SetFailover {
             failover: FailoverKey {
                 leader: Some(A),
                 candidate: None,
             },
             ttl,
-        },
-        10 => Txn::DropFailover { revision },
-        _ => Txn::SetConfig {
+        }),
+        10 => Txn::Operators(OperatorTxn::DropFailover { revision }),
+        _ => Txn::Operators(OperatorTxn::SetConfig {
             revision: draws.revision(store, now, Key::Config),
             config: configuration(rt, alloc, b"{}"),
-        },
+        }),
     }
 }
 

@@ -12,6 +12,7 @@ use Rattle.store_keys.specs.declared.txn.Expected.{Expected}
 use Rattle.store_keys.specs.declared.txn.Expected.TheVariants.{Absent, Revision}
 use Rattle.store_keys.specs.declared.txn.Txn.{Txn}
 use Rattle.store_keys.specs.declared.txn.Txn.TheVariants as txns
+use Rattle.store_keys.specs.declared.txn.LeaseTxn.TheVariants as lease_txns
 use Rattle.lease_store.specs.KeyOrder.{key_cmp}
 use Rattle.lease_store.specs.Kept.{IsKept}
 use Rattle.lease_store.specs.Keys.{Keys, key_in, present, first_keys}
@@ -104,12 +105,12 @@ later-renewal revision by until es (Some stored) is h =
 
 later-leased : (revision by now : ℕ) (member : MemberId) (txn : Txn) (es : List (Key × KeyEntry)) → is_lease txn ≡ true
     → revision < by → Later revision (find key_cmp keys.Leader (pairs_over by now es (writes_of member txn)))
-later-leased revision by now member (txns.Create info ttl failsafe sync) es is h =
+later-leased revision by now member (txns.Lease (lease_txns.Create info ttl failsafe sync)) es is h =
     let stored : KeyEntry =
     record { value = values.Leader member; revision = by; expiry = Some (record { 0 = now + ttl.0 }) } in
     later-all revision by now (Leases (keys.Member member) (values.Member info) ttl ∷ [])
     (put key_cmp keys.Leader stored es) h (later-lease revision stored es h)
-later-leased revision by now member (txns.Renew compared info ttl status row failsafe) es is h =
+later-leased revision by now member (txns.Lease (lease_txns.Renew compared info ttl status row failsafe)) es is h =
     later-all revision by now
     (Leases (keys.Member member) (values.Member info) ttl
     ∷ (status_writes status ++ (row_writes row ++ failsafe_writes failsafe)))

@@ -11,6 +11,9 @@ use Rattle.script_words.specs.Numbers.{number}
 use Rattle.script_words.proofs.NumberLaws.{number-decimal}
 use Rattle.store_keys.specs.declared.txn.Txn.{Txn}
 use Rattle.store_keys.specs.declared.txn.Txn.TheVariants as txns
+use Rattle.store_keys.specs.declared.txn.LeaseTxn.TheVariants as lease_txns
+use Rattle.store_keys.specs.declared.txn.OperatorTxn.TheVariants as operator_txns
+use Rattle.store_keys.specs.declared.txn.SyncTxn.TheVariants as sync_txns
 use Rattle.event_book.specs.Listing.{listed}
 use Rattle.event_book.specs.NoteText.{answered_line, note_line}
 use Rattle.event_book.specs.Reasons.{agent_note_text, ineligibility_text, name_or_another, reason_text}
@@ -148,22 +151,22 @@ watchdog-read trace tick (watchdogs.HoldTaken member until from incarnation sequ
 
 write-read : (tick : ℕ) (name : Name) (txn : Txn) (standbys : List Name) → tick < 2 ^ 64
     → IsReadAgain (granted_line tick (name_bytes name) txn standbys) (told_in_write tick name txn)
-write-read tick name (txns.Create info ttl failsafe sync) standbys fits =
+write-read tick name (txns.Lease (lease_txns.Create info ttl failsafe sync)) standbys fits =
     plain tick name (codes "takes the leader key") happenings.TakesKey fits (form-read happenings.TakesKey [] refl refl)
-write-read tick name (txns.Release revision) standbys fits = plain tick name
+write-read tick name (txns.Lease (lease_txns.Release revision)) standbys fits = plain tick name
     (codes "releases the leader key") happenings.ReleasesKey fits (form-read happenings.ReleasesKey [] refl refl)
-write-read tick name (txns.Claim revision sync) standbys fits = plain tick name
+write-read tick name (txns.Sync (sync_txns.Claim revision sync)) standbys fits = plain tick name
     (codes "claims the sync key") happenings.ClaimsSync fits (form-read happenings.ClaimsSync [] refl refl)
-write-read tick name (txns.SetSync revision sync members) standbys fits =
+write-read tick name (txns.Sync (sync_txns.SetSync revision sync members)) standbys fits =
     worded tick name (codes "publishes sync standbys ") (listed (codes "none") standbys) happenings.PublishesSync fits
     (form-read happenings.PublishesSync (listed (codes "none") standbys) refl refl)
-write-read tick name (txns.DropSync revision sync) standbys fits = plain tick name
+write-read tick name (txns.Sync (sync_txns.DropSync revision sync)) standbys fits = plain tick name
     (codes "removes the sync key") happenings.RemovesSync fits (form-read happenings.RemovesSync [] refl refl)
-write-read tick name (txns.SetFailover failover ttl) standbys fits = plain tick name
+write-read tick name (txns.Operators (operator_txns.SetFailover failover ttl)) standbys fits = plain tick name
     (codes "writes the failover key") happenings.WritesFailover fits (form-read happenings.WritesFailover [] refl refl)
-write-read tick name (txns.DropFailover revision) standbys fits = plain tick name
+write-read tick name (txns.Operators (operator_txns.DropFailover revision)) standbys fits = plain tick name
     (codes "clears the failover key") happenings.ClearsFailover fits (form-read happenings.ClearsFailover [] refl refl)
-write-read tick name (txns.SetConfig revision config) standbys fits =
+write-read tick name (txns.Operators (operator_txns.SetConfig revision config)) standbys fits =
     plain tick name (codes "changes the configuration") happenings.ChangesConfiguration fits
     (form-read happenings.ChangesConfiguration [] refl refl)
 write-read tick name _ standbys fits = tt

@@ -35,10 +35,18 @@ impl fmt::Display for Expected {
 #[derive(Drop)]
 pub enum Txn {
     /// The member tells of itself. It compares nothing, so only want of memory refuses it.
-    Touch {
-        info: MemberInfo,
-        ttl: Ticks,
-    },
+    Touch { info: MemberInfo, ttl: Ticks },
+    /// What it asks of the leader key.
+    Lease(LeaseTxn),
+    /// What a leader asks of the sync key.
+    Sync(SyncTxn),
+    /// What an operator asks for, and that it is done.
+    Operators(OperatorTxn),
+}
+
+/// What a member asks of the leader key.
+#[derive(Clone, Copy)]
+pub enum LeaseTxn {
     /// The member takes the leader key, where that is absent, and tells of itself. Where `failsafe` says something, the
     /// failsafe key has to be so too: as the member read it, with failsafe mode. So has the sync key where `sync` says
     /// something: as the member read it, in quorum mode with failsafe mode.
@@ -62,6 +70,11 @@ pub enum Txn {
     Release {
         revision: u64,
     },
+}
+
+/// What a leader asks of the sync key.
+#[derive(Clone, Copy)]
+pub enum SyncTxn {
     /// The member becomes the leader of the synchronous replication, with no standby. The sync key is as it was read.
     Claim {
         revision: u64,
@@ -78,18 +91,15 @@ pub enum Txn {
         revision: u64,
         sync: u64,
     },
+}
+
+/// What an operator asks for by the key store, and that it is done.
+#[derive(Drop)]
+pub enum OperatorTxn {
     /// A failover is asked for, where none is: the failover key is absent.
-    SetFailover {
-        failover: FailoverKey,
-        ttl: Ticks,
-    },
+    SetFailover { failover: FailoverKey, ttl: Ticks },
     /// The leader clears the failover that was asked for.
-    DropFailover {
-        revision: u64,
-    },
+    DropFailover { revision: u64 },
     /// The configuration changes, where nobody else changed it.
-    SetConfig {
-        revision: u64,
-        config: ConfigValue,
-    },
+    SetConfig { revision: u64, config: ConfigValue },
 }

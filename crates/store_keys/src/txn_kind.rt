@@ -2,7 +2,7 @@
 ghost use Rattle.std.specs.Prelude.{◌≡◌};
 ghost use Rattle.store_keys.specs.Words.{kind_text};
 
-use crate::Txn;
+use crate::{LeaseTxn, OperatorTxn, SyncTxn, Txn};
 use std::fmt;
 
 /// What kind of transaction a request is, as printed lines name it.
@@ -10,21 +10,21 @@ use std::fmt;
 pub enum TxnKind {
     /// `Txn::Touch`.
     Touch,
-    /// `Txn::Create`.
+    /// `LeaseTxn::Create`.
     Create,
-    /// `Txn::Renew`.
+    /// `LeaseTxn::Renew`.
     Renewal,
-    /// `Txn::Release`.
+    /// `LeaseTxn::Release`.
     Release,
-    /// `Txn::Claim`.
+    /// `SyncTxn::Claim`.
     Claim,
-    /// A new sync key, or none: `Txn::SetSync` and `Txn::DropSync`.
+    /// A new sync key, or none: `SyncTxn::SetSync` and `SyncTxn::DropSync`.
     SyncWrite,
-    /// `Txn::SetFailover`.
+    /// `OperatorTxn::SetFailover`.
     FailoverWrite,
-    /// `Txn::DropFailover`.
+    /// `OperatorTxn::DropFailover`.
     FailoverRemoval,
-    /// `Txn::SetConfig`.
+    /// `OperatorTxn::SetConfig`.
     ConfigurationWrite,
 }
 
@@ -65,14 +65,15 @@ impl Txn {
     {
         match self {
             Txn::Touch { .. } => TxnKind::Touch,
-            Txn::Create { .. } => TxnKind::Create,
-            Txn::Renew { .. } => TxnKind::Renewal,
-            Txn::Release { .. } => TxnKind::Release,
-            Txn::Claim { .. } => TxnKind::Claim,
-            Txn::SetSync { .. } | Txn::DropSync { .. } => TxnKind::SyncWrite,
-            Txn::SetFailover { .. } => TxnKind::FailoverWrite,
-            Txn::DropFailover { .. } => TxnKind::FailoverRemoval,
-            Txn::SetConfig { .. } => TxnKind::ConfigurationWrite,
+            Txn::Lease(LeaseTxn::Create { .. }) => TxnKind::Create,
+            Txn::Lease(LeaseTxn::Renew { .. }) => TxnKind::Renewal,
+            Txn::Lease(LeaseTxn::Release { .. }) => TxnKind::Release,
+            Txn::Sync(SyncTxn::Claim { .. }) => TxnKind::Claim,
+            Txn::Sync(SyncTxn::SetSync { .. }) | Txn::Sync(SyncTxn::DropSync { .. }) =>
+                TxnKind::SyncWrite,
+            Txn::Operators(OperatorTxn::SetFailover { .. }) => TxnKind::FailoverWrite,
+            Txn::Operators(OperatorTxn::DropFailover { .. }) => TxnKind::FailoverRemoval,
+            Txn::Operators(OperatorTxn::SetConfig { .. }) => TxnKind::ConfigurationWrite,
         }
     }
 }

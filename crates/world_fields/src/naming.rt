@@ -6,7 +6,7 @@ ghost use Rattle.cluster_model.specs.Orders.{required_names};
 use event_book::{Member, Names};
 use pat_base::Required;
 use std::alloc::{AllocError, Global};
-use store_keys::Txn;
+use store_keys::{SyncTxn, Txn};
 
 /// The names of those that commits wait for. It fails only for want of memory.
 pub fn required_names(
@@ -27,7 +27,7 @@ pub fn published_names(alloc: Global, members: &[Member], txn: &Txn) -> Result<N
     ensures { IfOk result (λ names. names ≡ published_names members.now txn.now) }
 {
     match txn {
-        Txn::SetSync { standbys, .. } => Names::of(alloc, *standbys, members),
+        Txn::Sync(SyncTxn::SetSync { standbys, .. }) => Names::of(alloc, *standbys, members),
         _ => Ok(Names::none(alloc)),
     }
 }

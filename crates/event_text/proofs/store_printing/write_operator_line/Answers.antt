@@ -1,4 +1,4 @@
-use Rattle.event_text.proofs.store_printing.write_request_line.Goals as goal
+use Rattle.event_text.proofs.store_printing.write_operator_line.Goals as goal
 
 pub returns-in-SetFailover : goal.returns-in-SetFailover
 returns-in-SetFailover c = rw c.in-SetFailover.is c.write_named_line.ensures
