@@ -24,7 +24,7 @@ pub fn end_by_list(line: &mut String, nobody: &str, names: &[Name]) -> Result<()
 }
 
 /// Appends such a list.
-fn write_listed(text: &mut String, nobody: &str, names: &[Name]) -> Result<(), AllocError>
+pub fn write_listed(text: &mut String, nobody: &str, names: &[Name]) -> Result<(), AllocError>
     ensures { OnOk result (string_bytes text.new ≡ string_bytes text.old ++ listed nobody.now names.now) }
 {
     match names.split_first() {
