@@ -49,7 +49,8 @@ pub(crate) fn start_replica(turn: &mut Turn, leader: Option<MemberId>)
     turn.machine
         .server
         .start_replica(turn.moment, upstream_of(leader));
-    turn.out.put(Output::Server(ServerOrder::StartReplica { leader }));
+    turn.out
+        .put(Output::Server(ServerOrder::StartReplica { leader }));
 }
 
 fn upstream_of(leader: Option<MemberId>) -> Option<ServerId>

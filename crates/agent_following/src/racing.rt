@@ -12,7 +12,9 @@ ghost use Rattle.agent_turn.specs.Roles.{role_of};
 ghost use Rattle.agent_model.specs.Views.{view_of};
 
 use crate::following::start_replica;
-use agent_model::{Inquiry, Knowledge, Machine, Noting, Output, PendingQuestion, Question, SyncRead};
+use agent_model::{
+    Inquiry, Knowledge, Machine, Noting, Output, PendingQuestion, Question, SyncRead,
+};
 use agent_turn::{
     Role, Turn, all_answered, answers_until, ask_all, failsafe_compared, info_of, is_paused,
     may_create, view_of, word_of,
@@ -166,8 +168,7 @@ pub(crate) fn stay_out(bar: Ineligibility, turn: &mut Turn)
     ensures outcome { ComesTo (barred bar) turn.old turn.new }
     ensures left { Spent 2 1 turn.old turn.new }
 {
-    turn.out
-        .put(Output::Note(Noting::Agent(AgentNote::DoesNotRace { because: bar })));
+    turn.out.put(Output::Note(Noting::Agent(AgentNote::DoesNotRace { because: bar })));
     turn.touch();
 }
 

@@ -61,6 +61,7 @@ pub fn put_repair(leader: MemberId, repair: Option<Repair>, turn: &mut Turn)
     ensures left { Spent 1 0 turn.old turn.new }
 {
     if let Some(repair) = repair {
-        turn.out.put(Output::Server(ServerOrder::Repair { leader, repair }));
+        turn.out
+            .put(Output::Server(ServerOrder::Repair { leader, repair }));
     }
 }

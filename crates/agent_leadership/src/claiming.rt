@@ -131,6 +131,7 @@ fn postpone(armed: Armed, turn: &mut Turn) -> Role
     ensures left { Spent 2 0 turn.old turn.new }
 {
     let lease = turn.undo(armed);
-    turn.out.put(Output::Note(Noting::Agent(AgentNote::PostponesPromotion)));
+    turn.out
+        .put(Output::Note(Noting::Agent(AgentNote::PostponesPromotion)));
     Role::Holder(lease)
 }

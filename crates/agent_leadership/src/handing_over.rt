@@ -12,7 +12,10 @@ ghost use Rattle.agent_model.specs.declared.why.Why.TheVariants as whys;
 ghost use Rattle.leader_key.specs.Lease.{writer_revision};
 
 use crate::planning::take_step;
-use agent_model::{Answers, Inquiry, Knowledge, Noting, Output, PendingQuestion, Question, ServerOrder, SyncRead, Who, Why};
+use agent_model::{
+    Answers, Inquiry, Knowledge, Noting, Output, PendingQuestion, Question, ServerOrder, SyncRead,
+    Who, Why,
+};
 use agent_turn::{
     Role, Turn, all_answered, answers_until, ask_all, ask_one, is_paused, is_settled,
 };
@@ -221,8 +224,7 @@ fn hand_over(candidate: MemberId, writer: Writer, turn: &mut Turn) -> Role
     ensures left { Spent 2 0 turn.old turn.new }
 {
     turn.knows.handed_over = true;
-    turn.out
-        .put(Output::Note(Noting::Agent(AgentNote::HandsOver { candidate })));
+    turn.out.put(Output::Note(Noting::Agent(AgentNote::HandsOver { candidate })));
     turn.machine.server.stop(turn.moment);
     turn.out.put(Output::Server(ServerOrder::ShutDown));
     Role::Ending(writer, Why::HandOver)

@@ -136,7 +136,8 @@ fn cannot_arm(lease: Lease, turn: &mut Turn) -> Role
     ensures outcome { reached (role_of result) turn.new ≡ cannot_arm (lease_revision lease) (reached Follower turn.old) }
     ensures left { Spent 2 1 turn.old turn.new }
 {
-    turn.out.put(Output::Note(Noting::Agent(AgentNote::CannotArm)));
+    turn.out
+        .put(Output::Note(Noting::Agent(AgentNote::CannotArm)));
     turn.release(lease);
     Role::Follower
 }

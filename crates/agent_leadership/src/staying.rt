@@ -9,7 +9,9 @@ ghost use Rattle.agent_model.specs.Agents.{IsWithin, Leader};
 ghost use Rattle.agent_model.specs.StayingPrimary.{accepted_failsafe, acknowledged_to, asking_to_stay, awaits_failsafe, failsafe_answered, fed_by_failsafe, is_staying, may_stay, others_known, requesting_all, requesting_one, seeks_to_stay, stays, stays_by, unacknowledged};
 ghost use Rattle.agent_model.specs.Wake.{leader_unanswered};
 
-use agent_model::{Feeding, Inquiry, Knowledge, Noting, Outgoing, Output, PendingQuestion, Question, Target};
+use agent_model::{
+    Feeding, Inquiry, Knowledge, Noting, Outgoing, Output, PendingQuestion, Question, Target,
+};
 use agent_turn::{
     Outputs, Role, Turn, answers_until, comes_late, deadline_of, is_armable, is_paused,
 };

@@ -87,9 +87,13 @@ pub enum ServerOrder {
 #[derive(Clone, Copy)]
 pub enum Feeding {
     /// The watchdog got its first deadline, on the answer that was heard.
-    Armed { until: Ticks },
+    Armed {
+        until: Ticks,
+    },
     /// The watchdog got a new deadline, on the answer that was heard.
-    Fed { until: Ticks },
+    Fed {
+        until: Ticks,
+    },
     /// The watchdog got a new deadline, since these members acknowledged the failsafe request of this number, the first of them at this
     /// moment; where nobody was asked at the moment of the input.
     FedByFailsafe {
@@ -106,7 +110,10 @@ pub enum Feeding {
 #[derive(Drop)]
 pub enum Telling {
     /// What the agent answers the operator's request of this number in the incarnation.
-    Told { request: u64, told: Told },
+    Told {
+        request: u64,
+        told: Told,
+    },
     /// The member promised not to take the leader key before this moment, on the failsafe request of this number of this member.
     HoldTaken {
         until: Ticks,

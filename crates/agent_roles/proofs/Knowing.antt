@@ -220,7 +220,8 @@ read-told snapshot = by-entry (entry_in keys.Failsafe snapshot)
     by-members revision None = refl
     by-members revision (Some members) = refl
 
-    by-entry : (found : Option KeyEntry) → failsafe_read_seen (found_by failsafe_read_at found) ≡ failsafe_entry_seen found
+    by-entry : (found : Option KeyEntry)
+        → failsafe_read_seen (found_by failsafe_read_at found) ≡ failsafe_entry_seen found
     by-entry None = refl
     by-entry (Some found) = by-members found.revision (failsafe_by found.value)
 

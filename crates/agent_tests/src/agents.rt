@@ -1,7 +1,9 @@
 //! Inputs of agents, worked by hand.
 ghost use Rattle.agent_rows.specs.Inputs.{IsSpannedInput};
 
-use agent_model::{Feeding, Heard, Machine, Outgoing, Output, Replication, ServerOrder, Telling, Told, Who};
+use agent_model::{
+    Feeding, Heard, Machine, Outgoing, Output, Replication, ServerOrder, Telling, Told, Who,
+};
 use cluster_view::{RoleWord, Snapshot};
 use event_book::{Body, Reason};
 use ha_loop::{Agent, Outputs};
@@ -48,46 +50,60 @@ fn asked(body: &Body) -> &'static str {
 /// What an output does, in a word.
 fn word(rt: &impl Abort, alloc: Global, output: Output) -> &'static str {
     match output {
-        Output::Message(Outgoing::Send { body, .. }) => asked(&body.into_body(alloc).expect(rt, "memory")),
+        Output::Message(Outgoing::Send { body, .. }) => asked(
+            &body.into_body(alloc).expect(rt, "memory"),
+        ),
         Output::Server(ServerOrder::Begin) => "begin",
-        Output::Server(ServerOrder::Stop {
-            reason: Reason::StoreOutOfReach,
-        }) => "out of reach",
+        Output::Server(
+            ServerOrder::Stop {
+                reason: Reason::StoreOutOfReach,
+            },
+        ) => "out of reach",
         Output::Require { .. } => "require",
         Output::Watchdog(Feeding::Armed { until: Ticks(251) }) => "armed until 251",
         Output::Watchdog(Feeding::Disarmed) => "disarmed",
         Output::Server(ServerOrder::Restart { as_primary: false }) => "restart as a replica",
-        Output::Tell(Telling::HoldTaken {
-            until: Ticks(301),
-            from: MemberId { number: 0 },
-            sequence: 0,
-        }) => "hold until 301",
-        Output::Tell(Telling::Told {
-            request: 7,
-            told: Told::Text {
-                status: 200,
-                text: Text::Accepted,
+        Output::Tell(
+            Telling::HoldTaken {
+                until: Ticks(301),
+                from: MemberId { number: 0 },
+                sequence: 0,
             },
-        }) => "accepted",
-        Output::Tell(Telling::Told {
-            request: 7,
-            told: Told::Text {
-                status: 500,
-                text: Text::Refused,
+        ) => "hold until 301",
+        Output::Tell(
+            Telling::Told {
+                request: 7,
+                told: Told::Text {
+                    status: 200,
+                    text: Text::Accepted,
+                },
             },
-        }) => "refused",
+        ) => "accepted",
+        Output::Tell(
+            Telling::Told {
+                request: 7,
+                told: Told::Text {
+                    status: 500,
+                    text: Text::Refused,
+                },
+            },
+        ) => "refused",
         Output::Tell(Telling::Told { request: 7, .. }) => "answer to 7",
-        Output::Tell(Telling::HoldTaken {
-            until: Ticks(305),
-            from: MemberId { number: 1 },
-            sequence: 9,
-        }) => "hold until 305",
-        Output::Message(Outgoing::FailsafeAnswer {
-            to: MemberId { number: 1 },
-            incarnation: 4,
-            sequence: 9,
-            accepted,
-        }) => { if accepted { "yes" } else { "no" } }
+        Output::Tell(
+            Telling::HoldTaken {
+                until: Ticks(305),
+                from: MemberId { number: 1 },
+                sequence: 9,
+            },
+        ) => "hold until 305",
+        Output::Message(
+            Outgoing::FailsafeAnswer {
+                to: MemberId { number: 1 },
+                incarnation: 4,
+                sequence: 9,
+                accepted,
+            },
+        ) => { if accepted { "yes" } else { "no" } }
         _ => "another",
     }
 }

@@ -15,7 +15,10 @@ use crate::info::info_of;
 use crate::outputs::Outputs;
 use crate::role::Role;
 use crate::turn::Turn;
-use agent_model::{Feeding, Inquiry, Machine, Noting, Outgoing, Output, PendingQuestion, Question, ServerOrder, Target, Why};
+use agent_model::{
+    Feeding, Inquiry, Machine, Noting, Outgoing, Output, PendingQuestion, Question, ServerOrder,
+    Target, Why,
+};
 use event_book::{AgentNote, Reason};
 use leader_key::{Armed, Lease, Mode, NotArmed, Watchdog, Writer};
 use lease_store::Granted;
@@ -225,7 +228,8 @@ impl Turn<'_> {
         ensures outcome { ComesTo running_without_key self.old self.new }
         ensures left { Spent 1 0 self.old self.new }
     {
-        self.out.put(Output::Note(Noting::Agent(AgentNote::RunsWithoutKey)));
+        self.out
+            .put(Output::Note(Noting::Agent(AgentNote::RunsWithoutKey)));
         Role::Unleased
     }
 }

@@ -1,7 +1,7 @@
 //! What an agent reads of the failsafe key, and what it writes there (Patroni documentation, "DCS Failsafe Mode").
-ghost use Rattle.std.specs.Prelude.{option_copied, ◌≡◌};
+ghost use Rattle.std.specs.Prelude.{◌≡◌};
 ghost use Rattle.cluster_view.specs.Snapshots.{failsafe_by};
-ghost use Rattle.agent_model.specs.FailsafeKeys.{failsafe_compared, failsafe_expected, failsafe_read_by, failsafe_read_in, failsafe_read_at, is_fed_by_failsafe, set_in, set_carried};
+ghost use Rattle.agent_model.specs.FailsafeKeys.{failsafe_compared, failsafe_expected, failsafe_read_by, failsafe_read_in, is_fed_by_failsafe, set_in, set_carried};
 ghost use Rattle.agent_turn.specs.Roles.{role_of};
 ghost use Rattle.agent_turn.specs.Turns.{reached};
 

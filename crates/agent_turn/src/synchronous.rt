@@ -1,7 +1,7 @@
 //! What an agent reads of the sync key, and whom commits come to wait for (Patroni documentation, "Replication modes").
 ghost use Rattle.std.specs.Prelude.{option_copied, ◌≡◌};
 ghost use Rattle.cluster_view.specs.KeyValues.{sync_by};
-ghost use Rattle.agent_model.specs.Synchronous.{expected_of, is_named_if, is_strict, may_lead_in_sync, sync_read_by, sync_read_if, sync_read_in, sync_read_at, unnamed, waiting_for};
+ghost use Rattle.agent_model.specs.Synchronous.{expected_of, is_named_if, is_strict, may_lead_in_sync, sync_read_by, sync_read_if, sync_read_in, unnamed, waiting_for};
 
 use agent_model::{Knowledge, SyncRead};
 use cluster_view::{Snapshot, is_failover_to, is_named};

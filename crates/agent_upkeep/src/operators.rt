@@ -18,7 +18,9 @@ use cluster_view::Snapshot;
 use lease_store::Granted;
 use operator_answers::{CONFLICT, INTERNAL_SERVER_ERROR, OK, SERVICE_UNAVAILABLE, Text};
 use pat_base::{Host, MemberId, Name, State, Ticks};
-use store_keys::{Config, FailoverKey, FailoverKind, Key, KeyEntry, OperatorRequest, OperatorTxn, Txn};
+use store_keys::{
+    Config, FailoverKey, FailoverKind, Key, KeyEntry, OperatorRequest, OperatorTxn, Txn,
+};
 
 /// For so many ticks an operator waits for what comes of a switchover or a failover.
 const MOST_OPERATOR_TICKS: u64 = 600;
@@ -125,7 +127,8 @@ fn restart(turn: &mut Turn)
     let as_primary = matches!(turn.machine.server.state, State::Primary);
     turn.machine.server.restart(turn.moment);
     turn.knows.begun = Some(turn.moment);
-    turn.out.put(Output::Server(ServerOrder::Restart { as_primary }));
+    turn.out
+        .put(Output::Server(ServerOrder::Restart { as_primary }));
 }
 
 /// The server is wiped, and waits for a copy.

@@ -34,15 +34,17 @@ fn compares(txn: &Txn) -> [Option<(Key, Expected)>; 3] {
             failsafe.map(|expected| (Key::Failsafe, expected)),
             sync.map(|expected| (Key::Sync, expected)),
         ],
-        Txn::Lease(LeaseTxn::Renew { revision, .. }) | Txn::Lease(LeaseTxn::Release { revision }) | Txn::Operators(OperatorTxn::DropFailover { revision }) =>
-            {
-                [
-                    Some((Key::Leader, Expected::Revision(*revision))),
-                    None,
-                    None,
-                ]
-            }
-        Txn::Sync(SyncTxn::Claim { revision, sync }) | Txn::Sync(SyncTxn::SetSync { revision, sync, .. }) => [
+        Txn::Lease(LeaseTxn::Renew { revision, .. })
+        | Txn::Lease(LeaseTxn::Release { revision })
+        | Txn::Operators(OperatorTxn::DropFailover { revision }) => {
+            [
+                Some((Key::Leader, Expected::Revision(*revision))),
+                None,
+                None,
+            ]
+        }
+        Txn::Sync(SyncTxn::Claim { revision, sync })
+        | Txn::Sync(SyncTxn::SetSync { revision, sync, .. }) => [
             Some((Key::Leader, Expected::Revision(*revision))),
             Some((Key::Sync, *sync)),
             None,
@@ -52,7 +54,11 @@ fn compares(txn: &Txn) -> [Option<(Key, Expected)>; 3] {
             Some((Key::Sync, Expected::Revision(*sync))),
             None,
         ],
-        Txn::Operators(OperatorTxn::SetFailover { .. }) => [Some((Key::Failover, Expected::Absent)), None, None],
+        Txn::Operators(OperatorTxn::SetFailover { .. }) => [
+            Some((Key::Failover, Expected::Absent)),
+            None,
+            None,
+        ],
         Txn::Operators(OperatorTxn::SetConfig { revision, .. }) => {
             [
                 Some((Key::Config, Expected::Revision(*revision))),
@@ -160,14 +166,16 @@ impl PlainStore {
                     Some(until(now, *ttl)),
                 );
             }
-            Txn::Lease(LeaseTxn::Renew {
-                info,
-                ttl,
-                status,
-                row,
-                failsafe,
-                ..
-            }) => {
+            Txn::Lease(
+                LeaseTxn::Renew {
+                    info,
+                    ttl,
+                    status,
+                    row,
+                    failsafe,
+                    ..
+                },
+            ) => {
                 self.extend(until(now, *ttl));
                 self.put(
                     rt,

@@ -166,7 +166,10 @@ fn keeps_mode_in_txn(on: bool, txn: &Txn) -> bool
     ensures { result ≡ keeps_mode_in_txn on txn.now }
 {
     match txn {
-        Txn::Operators(OperatorTxn::SetConfig { config, .. }) => has_mode(on, config.config().synchronous_mode),
+        Txn::Operators(OperatorTxn::SetConfig { config, .. }) => has_mode(
+            on,
+            config.config().synchronous_mode,
+        ),
         _ => true,
     }
 }

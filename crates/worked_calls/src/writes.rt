@@ -12,7 +12,10 @@ use cluster_config::ConfigText;
 use lease_store::StoreRefusal;
 use pat_base::{MemberId, Ticks, Word};
 use std::alloc::{AllocError, Global};
-use store_keys::{ConfigValue, Expected, FailoverKey, HistoryRow, Key, LeaseTxn, MemberInfo, OperatorTxn, SyncTxn, Txn};
+use store_keys::{
+    ConfigValue, Expected, FailoverKey, HistoryRow, Key, LeaseTxn, MemberInfo, OperatorTxn,
+    SyncTxn, Txn,
+};
 
 /// How long each lease lasts.
 const TTL: Ticks = Ticks(300);
