@@ -188,7 +188,8 @@ planned-as P now revision (plans.Withdraw standbys) o rows =
     (txns.Sync (sync_txns.SetSync revision (expected_of (sync_read_if o.knows.seen)) standbys None)) tt
 planned-as P now revision (plans.AddRequired members) o rows = rows.adds (All members)
 planned-as P now revision (plans.Publish standbys) o rows =
-    rows.writes KeepsList (txns.Sync (sync_txns.SetSync revision (expected_of (sync_read_if o.knows.seen)) standbys None)) tt
+    rows.writes KeepsList
+    (txns.Sync (sync_txns.SetSync revision (expected_of (sync_read_if o.knows.seen)) standbys None)) tt
 planned-as P now revision (plans.DropRequired members) o rows = rows.drops (waiting_for o.knows.settings members)
 
 planned-on : (P : Outcome → Type 0) (now : Ticks) (revision : ℕ) (seen : Option SnapshotFacts) (o : Outcome)

@@ -220,7 +220,8 @@ module _ (quorum : ℕ) (now : Ticks) (sequence : ℕ) (grant : Granted) (snapsh
       (asks-this x.knows _ refl (follows b.knows.turn_settings.synchronous_mode)) refl refl (w.covered all)
       (λ count knows. (
         below count knows,
-        none-written (txns.Sync (sync_txns.SetSync grant.revision (expected_of (sync_read_in snapshot)) set None)) quorum,
+        none-written (txns.Sync (sync_txns.SetSync grant.revision (expected_of (sync_read_in snapshot)) set None))
+            quorum,
       ))
 
   nobody-below : (count n : ℕ) → set_members nobody n ≡ true → n < count

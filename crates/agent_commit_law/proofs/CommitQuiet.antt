@@ -162,7 +162,8 @@ txn-none leads m incarnation sequence (txns.Lease (lease_txns.Create info ttl fa
 txn-none leads m incarnation sequence (txns.Lease (lease_txns.Renew revision info ttl status row failsafe)) quiet =
     renew-none m revision failsafe
 txn-none leads m incarnation sequence (txns.Sync (sync_txns.Claim revision sync)) quiet = absurd quiet
-txn-none leads m incarnation sequence (txns.Sync (sync_txns.SetSync revision sync standbys may_lack)) quiet = absurd quiet
+txn-none leads m incarnation sequence (txns.Sync (sync_txns.SetSync revision sync standbys may_lack)) quiet =
+    absurd quiet
 txn-none leads m incarnation sequence _ quiet = refl
 
 body-none : (leads : Bool) (m incarnation sequence : ℕ) (body : Body) → QuietBody leads body

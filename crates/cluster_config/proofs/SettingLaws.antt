@@ -53,7 +53,8 @@ none-found p e =
     all_of : (p : Setting → Bool) → p settings.FailsafeMode ≡ false → p settings.LoopWait ≡ false
         → p settings.MaximumLagOnFailover ≡ false → p settings.Pause ≡ false → p settings.UsePgRewind ≡ false
         → p settings.PrimaryStartTimeout ≡ false → p settings.RetryTimeout ≡ false → p settings.StandbyCluster ≡ false
-        → p settings.SynchronousMode ≡ false → p settings.SynchronousModeStrict ≡ false → p settings.SynchronousNodeCount ≡ false → p settings.Ttl ≡ false
+        → p settings.SynchronousMode ≡ false → p settings.SynchronousModeStrict ≡ false
+        → p settings.SynchronousNodeCount ≡ false → p settings.Ttl ≡ false
         → (setting : Setting) → p setting ≡ false
     all_of p a b c d f g h m i j k l settings.FailsafeMode = a
     all_of p a b c d f g h m i j k l settings.LoopWait = b
@@ -92,7 +93,8 @@ truth-if : (t : Option Bool) → not (is_some t) ≡ false → t ≡ Some (unwra
 truth-if None e = absurd (true≢false e)
 truth-if (Some b) e = refl
 
-truth-there : (found : Option Data) (value : Data) → is_bad_if_some setting_kinds.Truth found ≡ false → found ≡ Some value
+truth-there : (found : Option Data) (value : Data) → is_bad_if_some setting_kinds.Truth found ≡ false
+    → found ≡ Some value
     → truth_value value ≡ Some (truth_or_false found)
 truth-there None value bad is = absurd (some-not-none value (sym is))
 truth-there (Some d) value bad is =

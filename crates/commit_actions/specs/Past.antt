@@ -65,7 +65,8 @@ claim_request member incarnation sequence revision sync = record {
 -- what a write of the sync key that publishes these standbys, and how many may lack a commit, aims at
 abbrev pub published_aim : ℕ → Expected → MemberSet → Option ℕ → Aim
 published_aim revision sync standbys may_lack =
-    PublishStandbys (set_members standbys) (quorum_written (txns.Sync (sync_txns.SetSync revision sync standbys may_lack)))
+    PublishStandbys (set_members standbys)
+    (quorum_written (txns.Sync (sync_txns.SetSync revision sync standbys may_lack)))
 
 -- such a write
 abbrev pub publish_request : ℕ → ℕ → ℕ → ℕ → Expected → MemberSet → Option ℕ → SyncRequest

@@ -6,7 +6,8 @@ use Rattle.store_keys.specs.declared.value.SyncKey.{SyncKey as StoredKey}
 use Rattle.event_book.specs.Functions.{set_members}
 use Rattle.commit_actions.specs.Keys.{SyncKey, strict_quorum}
 
--- how many of a stored sync key's standbys may lack an acknowledged commit: none, whatever number it says: no agent says one yet
+-- how many of a stored sync key's standbys may lack an acknowledged
+-- commit: none, whatever number it says: no agent says one yet
 unfoldable pub quorum_of : StoredKey → ℕ
 quorum_of key = strict_quorum
 

@@ -199,7 +199,8 @@ granted-allowed setup past facts volatile_states tick i j by incarnation sequenc
     (txns.Sync (sync_txns.SetSync revision sync set may_lack)) standbys tt
     (publish-shown setup past volatile_states tick i j by incarnation sequence revision sync set may_lack standbys
     is.flying is.asked
-    (sym (publish-decided past facts by.id.number incarnation sequence revision sync set may_lack same) ∙ ap is_grant granted))
+    (sym (publish-decided past facts by.id.number incarnation sequence revision sync set may_lack same)
+    ∙ ap is_grant granted))
 granted-allowed setup past facts volatile_states tick i j by incarnation sequence
     (txns.Lease (lease_txns.Release revision)) standbys is
     same granted none may =
@@ -233,7 +234,8 @@ granted-whole volatile_states tick i j by incarnation sequence
     refl
 granted-whole volatile_states tick i j by incarnation sequence (txns.Sync (sync_txns.Claim revision sync)) standbys =
     refl
-granted-whole volatile_states tick i j by incarnation sequence (txns.Sync (sync_txns.SetSync revision sync set may_lack))
+granted-whole volatile_states tick i j by incarnation sequence
+    (txns.Sync (sync_txns.SetSync revision sync set may_lack))
     standbys =
     refl
 granted-whole volatile_states tick i j by incarnation sequence _ standbys = refl
@@ -316,7 +318,8 @@ refused-is setup past facts volatile_states tick i j by incarnation sequence
     key found is same refused none new =
     refused-shown setup past volatile_states tick i j by incarnation sequence request key found
     (publish_request by.id.number incarnation sequence revision sync set may_lack) is.flying
-    (sym (publish-decided past facts by.id.number incarnation sequence revision sync set may_lack same) ∙ ap is_grant refused)
+    (sym (publish-decided past facts by.id.number incarnation sequence revision sync set may_lack same)
+    ∙ ap is_grant refused)
     new
 refused-is setup past facts volatile_states tick i j by incarnation sequence
     (txns.Lease (lease_txns.Create info ttl failsafe sync))

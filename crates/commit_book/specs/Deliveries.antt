@@ -48,7 +48,8 @@ granted_action number answer member incarnation sequence
     Renew member incarnation sequence answer (carries_set failsafe)
 granted_action number answer member incarnation sequence (txns.Sync (sync_txns.Claim revision sync)) =
     Decide number answer
-granted_action number answer member incarnation sequence (txns.Sync (sync_txns.SetSync revision sync standbys may_lack)) =
+granted_action number answer member incarnation sequence
+    (txns.Sync (sync_txns.SetSync revision sync standbys may_lack)) =
     Decide number answer
 granted_action number answer member incarnation sequence (txns.Lease (lease_txns.Release revision)) = Release
 granted_action number answer member incarnation sequence _ = OtherWrite

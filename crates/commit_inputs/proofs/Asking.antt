@@ -94,7 +94,8 @@ put-by member incarnation sequence on Claiming (txns.Sync (sync_txns.Claim revis
   refl,
   record { writes = refl; standbys = λ r n. refl },
 )
-put-by member incarnation sequence on (Syncing KeepsList) (txns.Sync (sync_txns.SetSync revision sync standbys may_lack)) puts
+put-by member incarnation sequence on (Syncing KeepsList)
+    (txns.Sync (sync_txns.SetSync revision sync standbys may_lack)) puts
     follows = (
       publish_request member.id.number incarnation sequence revision sync standbys may_lack,
       refl,

@@ -360,7 +360,8 @@ module _ (head : HeadText) (book : List Event) (cluster : Cluster) (good : Commi
   publishes-as inside revision sync standbys may_lack is =
       let written : ℕ = quorum_written (txns.Sync (sync_txns.SetSync revision sync standbys may_lack)) in
       let noted : ℕ = noted_position (After head book cluster good a).knows.noted in
-      let request : SyncRequest = publish_request M a.agent.knows.incarnation sequence revision sync standbys may_lack in
+      let request : SyncRequest =
+      publish_request M a.agent.knows.incarnation sequence revision sync standbys may_lack in
       let on : IsSynchronousTxn (member_count head) strict_quorum
       (txns.Sync (sync_txns.SetSync revision sync standbys may_lack)) =
       subst (λ (b : Body). IsSynchronousBody (member_count head) strict_quorum b) (sym is) synchronous in

@@ -204,7 +204,8 @@ order-by-book head book seen = record {
         kind = kinds.Store (stores.Granted number by (txns.Sync (sync_txns.Claim leader sync)) names);
       }) whole);
   publishes = λ front back tick number incarnation sequence leader by to sync standbys may_lack whole.
-      publishes-by head front by.id.number incarnation sequence leader (noted_in head front by.id.number) sync standbys may_lack
+      publishes-by head front by.id.number incarnation sequence leader
+      (noted_in head front by.id.number) sync standbys may_lack
       (at-event head book seen front back
       (record {
         tick = tick;

@@ -103,7 +103,9 @@ required_line tick name (All members) names =
 required_line tick name (AtLeast number of) names =
     Some (decimal tick
     ++ (codes " "
-    ++ (name ++ (codes " requires " ++ (decimal number ++ (codes " of " ++ (listed (codes "no standby") names ++ codes "\n")))))))
+    ++ (name
+    ++ (codes " requires "
+    ++ (decimal number ++ (codes " of " ++ (listed (codes "no standby") names ++ codes "\n")))))))
 
 -- the line of what happens in synchronous replication, if it has one
 abbrev pub replication_line : ℕ → ReplicationEvent → Option (List ℕ)

@@ -74,11 +74,13 @@ fn compares(txn: &Txn) -> [Option<(Key, Expected)>; 3] {
             None,
             None,
         ],
-        Txn::Operators(OperatorTxn::Fire {
-            revision,
-            scheduled,
-            ..
-        }) => [
+        Txn::Operators(
+            OperatorTxn::Fire {
+                revision,
+                scheduled,
+                ..
+            },
+        ) => [
             Some((Key::Leader, Expected::Revision(*revision))),
             Some((Key::Scheduled, Expected::Revision(*scheduled))),
             Some((Key::Failover, Expected::Absent)),
@@ -195,9 +197,13 @@ impl PlainStore {
             }
             Txn::Lease(LeaseTxn::Release { .. }) => self.delete(Key::Leader),
             Txn::Sync(SyncTxn::Claim { .. }) => self.put_sync(rt, by, MemberSet::empty(), 0),
-            Txn::Sync(SyncTxn::SetSync {
-                standbys, quorum, ..
-            }) => self.put_sync(rt, by, *standbys, quorum.unwrap_or(0)),
+            Txn::Sync(
+                SyncTxn::SetSync {
+                    standbys,
+                    quorum,
+                    ..
+                },
+            ) => self.put_sync(rt, by, *standbys, quorum.unwrap_or(0)),
             Txn::Sync(SyncTxn::DropSync { .. }) => self.delete(Key::Sync),
             Txn::Operators(OperatorTxn::SetFailover { failover, ttl }) => {
                 self.put(

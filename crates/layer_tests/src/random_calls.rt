@@ -9,7 +9,8 @@ use pat_base::{MemberId, MemberSet, Ticks};
 use std::alloc::Global;
 use std::process::Abort;
 use store_keys::{
-    Expected, FailoverKey, HistoryRow, Key, KeyEntry, LeaseTxn, OperatorTxn, Planned, SyncTxn, Txn, Value,
+    Expected, FailoverKey, HistoryRow, Key, KeyEntry, LeaseTxn, OperatorTxn, Planned, SyncTxn, Txn,
+    Value,
 };
 
 /// Numbers that follow from a seed.

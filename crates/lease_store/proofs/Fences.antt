@@ -315,7 +315,8 @@ scheduled-out store fire (Refusal key found) leader revision failover ttl is gra
 -- a schedule that was fired is compared with success no more
 pub fires_once : (store : Keys) (fire late : StoreRequest) (calls : List Call) (leader revision : ℕ)
     (failover : FailoverKey) (ttl : Ticks) → IsKept store.pairs
-    → fire.txn ≡ txns.Operators (operator_txns.Fire leader revision failover ttl) → IsGranted store fire → revision ≤ store.revision
+    → fire.txn ≡ txns.Operators (operator_txns.Fire leader revision failover ttl) → IsGranted store fire
+    → revision ≤ store.revision
     → ComparesWith keys.Scheduled revision (compares_of late.txn)
     → ¬ IsGranted (keys_over (keys_after_request store fire) calls) late
 fires_once store fire late calls leader revision failover ttl kept is granted earlier compares =

@@ -30,7 +30,8 @@ lease_compares (lease_txns.Release revision) = (keys.Leader, Revision revision) 
 -- a transaction on the sync key, of a leader with the key at this revision
 abbrev pub sync_compares : SyncTxn → List (Key × Expected)
 sync_compares (sync_txns.Claim revision sync) = (keys.Leader, Revision revision) ∷ (keys.Sync, sync) ∷ []
-sync_compares (sync_txns.SetSync revision sync standbys quorum) = (keys.Leader, Revision revision) ∷ (keys.Sync, sync) ∷ []
+sync_compares (sync_txns.SetSync revision sync standbys quorum) =
+    (keys.Leader, Revision revision) ∷ (keys.Sync, sync) ∷ []
 sync_compares (sync_txns.DropSync revision sync) = (keys.Leader, Revision revision) ∷ (keys.Sync, Revision sync) ∷ []
 
 -- one for operators

@@ -179,7 +179,8 @@ write-read tick name (txns.Sync (sync_txns.DropSync revision sync)) standbys fit
     (codes "removes the sync key") happenings.RemovesSync fits (form-read happenings.RemovesSync [] refl refl)
 write-read tick name (txns.Operators (operator_txns.SetFailover failover ttl)) standbys fits = plain tick name
     (codes "writes the failover key") happenings.WritesFailover fits (form-read happenings.WritesFailover [] refl refl)
-write-read tick name (txns.Operators (operator_txns.Fire revision scheduled failover ttl)) standbys fits = plain tick name
+write-read tick name (txns.Operators (operator_txns.Fire revision scheduled failover ttl)) standbys fits =
+    plain tick name
     (codes "writes the failover key") happenings.WritesFailover fits (form-read happenings.WritesFailover [] refl refl)
 write-read tick name (txns.Operators (operator_txns.DropFailover revision)) standbys fits = plain tick name
     (codes "clears the failover key") happenings.ClearsFailover fits (form-read happenings.ClearsFailover [] refl refl)
