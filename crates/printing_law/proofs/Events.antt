@@ -6,7 +6,7 @@ use Rattle.pat_base.specs.LsnText.{lsn_text}
 use Rattle.pat_base.specs.Name.{name_bytes}
 use Rattle.pat_base.specs.declared.name.Name.{Name}
 use Rattle.pat_base.specs.declared.server_state.Required.{Required}
-use Rattle.pat_base.specs.declared.server_state.Required.TheVariants.{Nobody, AnyOne, All}
+use Rattle.pat_base.specs.declared.server_state.Required.TheVariants.{Nobody, AnyOne, All, AtLeast}
 use Rattle.script_words.specs.Numbers.{number}
 use Rattle.script_words.proofs.NumberLaws.{number-decimal}
 use Rattle.store_keys.specs.declared.txn.Txn.{Txn}
