@@ -1,5 +1,6 @@
 //! The printed lines of what happens at the key store.
 ghost use Rattle.std.specs.Prelude.{◌≡◌, ◌++◌, OnOk, codes, string_bytes};
+ghost use Rattle.std.specs.Fmt.{decimal};
 ghost use Rattle.pat_base.specs.Name.{name_bytes};
 ghost use Rattle.event_book.specs.Listing.{listed};
 ghost use Rattle.event_book.specs.StoreText.{store_line, granted_line, lease_line, operator_line, quorum_end, sync_line};
@@ -128,13 +129,7 @@ fn write_operator_line(
     ensures { OnOk result (string_bytes line.new ≡ string_bytes line.old ++ bytes_or_none (operator_line tick.0 (name_bytes name) txn.now)) }
 {
     match txn {
-        OperatorTxn::SetFailover { .. } | OperatorTxn::Fire { .. } => write_named_line(
-            line,
-            tick,
-            name,
-            " writes the failover key\n",
-        ),
-        OperatorTxn::Schedule { .. } | OperatorTxn::Unschedule { .. } => Ok(()),
+        OperatorTxn::SetFailover { .. } => write_failover_line(line, tick, name),
         OperatorTxn::DropFailover { .. } => write_named_line(
             line,
             tick,
@@ -147,5 +142,15 @@ fn write_operator_line(
             name,
             " changes the configuration\n",
         ),
+        OperatorTxn::Schedule { .. } => Ok(()),
+        OperatorTxn::Unschedule { .. } => Ok(()),
+        OperatorTxn::Fire { .. } => write_failover_line(line, tick, name),
     }
+}
+
+/// Appends that a member writes the failover key.
+fn write_failover_line(line: &mut String, tick: Ticks, name: Name) -> Result<(), AllocError>
+    ensures { OnOk result (string_bytes line.new ≡ string_bytes line.old ++ (decimal tick.0 ++ (codes " " ++ (name_bytes name ++ codes " writes the failover key\n")))) }
+{
+    write_named_line(line, tick, name, " writes the failover key\n")
 }
