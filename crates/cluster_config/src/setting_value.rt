@@ -2,7 +2,7 @@
 ghost use Rattle.std.specs.Prelude.{◌≡◌, Some, option_map};
 ghost use Rattle.serde_json.specs.View.{view};
 ghost use Rattle.cluster_config.specs.SettingTable.{IsWithin};
-ghost use Rattle.cluster_config.specs.SettingValues.{found_at, unless_null, value_at, whole_number, truth_word, truth_value, within_or, whole_or, number_or, truth_or_false, is_quorum_word, says_quorum, says_object, config_in};
+ghost use Rattle.cluster_config.specs.SettingValues.{found_at, unless_null, value_at, whole_number, truth_word, truth_value, within_or, whole_or, number_or, truth_or_false, is_quorum_word, says_quorum, is_object, says_object, config_in};
 
 use crate::setting::{
     LOOP_WAIT, MAXIMUM_LAG, NODE_COUNT, PRIMARY_START_TIMEOUT, RETRY_TIMEOUT, Setting,
@@ -144,13 +144,24 @@ fn says_quorum(found: Option<&Value>) -> bool
     }
 }
 
+fn is_object(value: &Value) -> bool
+    ensures { result ≡ is_object (view value.now) }
+{
+    match value {
+        Value::Object(_) => true,
+        Value::Null | Value::Bool(_) | Value::Number(_) | Value::String(_) | Value::Array(_) => {
+            false
+        }
+    }
+}
+
 /// Whether a value is an object, where there is one.
 fn says_object(found: Option<&Value>) -> bool
     ensures { result ≡ says_object (option_map (λ v. view v.now) found.entry) }
 {
     match found {
         None => false,
-        Some(value) => value.is_object(),
+        Some(value) => is_object(value),
     }
 }
 

@@ -1,9 +1,9 @@
 -- Whom a commit waits for.
-use Rattle.std.proofs.Common.{◌≡◌, ℕ, zero, suc, ◌+◌, ◌≤◌, ◌<◌, ◌==◌, ◌||◌, not, Bool, true, false, IsTrue, List, [], ◌∷◌, length, get_or, Option, Some, None, refl, subst, arith}
+use Rattle.std.proofs.Common.{◌≡◌, ℕ, zero, suc, ◌+◌, ◌<◌, ◌==◌, ◌||◌, not, Bool, true, false, IsTrue, List, [], ◌∷◌, length, get_or, Option, Some, None, refl, subst, arith}
 use Rattle.std.specs.Prelude.{Any}
 use Rattle.std.specs.List.{list_any}
 use Rattle.std.specs.Int.{bit_at}
-use Rattle.std.proofs.lemmas.Bool.{and_parts, and_from}
+use Rattle.std.proofs.lemmas.Bool.{and_parts, and_from, leb-true, le-leb}
 use Rattle.std.proofs.lemmas.Bool.Decides.{nat_tests}
 use Rattle.std.proofs.lemmas.List.Folds.{Any-from_list_any, list_any-from_Any}
 use Rattle.pat_base.specs.declared.lsn.Lsn.{Lsn}
@@ -68,7 +68,8 @@ is_met-to required.Nobody end cs h = tt
 is_met-to required.AnyOne end cs h = any-to end cs h
 is_met-to (required.All members) end cs h =
     λ k lt bit. all-to 0 members end cs h k lt (subst (λ (n : ℕ). bit_at members.bits n ≡ 1) (omega arith) bit)
-is_met-to (required.AtLeast number of) end cs h = enough-to number of end cs (grind (arith, nat_tests))
+is_met-to (required.AtLeast number of) end cs h =
+    enough-to number of end cs (leb-true number (sure_count 0 of end cs) h)
 
 pub is_met-from : (list : Required) (end : Lsn) (cs : List (Option Lsn)) → MeetsRequired list end cs
     → IsTrue (is_met list end cs)
@@ -77,5 +78,4 @@ is_met-from required.AnyOne end cs h = any-from end cs h
 is_met-from (required.All members) end cs h =
     all-from 0 members end cs (λ k lt bit. h k lt (subst (λ (n : ℕ). bit_at members.bits n ≡ 1) (omega arith) bit))
 is_met-from (required.AtLeast number of) end cs h =
-    let enough : number ≤ sure_count 0 of end cs = enough-from number of end cs h in
-    grind (arith, nat_tests)
+    le-leb number (sure_count 0 of end cs) (enough-from number of end cs h)

@@ -5,7 +5,7 @@ use lib.Count.{ones_step}
 use Rattle.std.proofs.lemmas.Bool.{and_parts, and_from}
 use Rattle.std.proofs.lemmas.Bool.Decides.{nat_tests}
 use Rattle.std.proofs.lemmas.Nat.{ones_le_self}
-use Rattle.std.proofs.lemmas.Nat.Bits.{bit_at-zero, bit_at-suc, bit_at_lowest}
+use Rattle.std.proofs.lemmas.Nat.Bits.{bit_at-lt, bit_at-zero, bit_at-suc, bit_at_lowest}
 use Rattle.pat_base.specs.declared.lsn.Lsn.{Lsn}
 use Rattle.pat_base.specs.declared.member_set.MemberSet.{MemberSet}
 use Rattle.pg_model.specs.Replication.{reaches, is_sure, sure_count, Reaches, EnoughReach}
@@ -108,7 +108,8 @@ pub enough-to : (number : ℕ) (of : MemberSet) (end : Lsn) (cs : List (Option L
     → number ≤ sure_count 0 of end cs → EnoughReach number of end cs
 enough-to number of end cs many =
     let parts = λ (k : ℕ) (is : bit_at (sure_bits 0 of end cs) k ≡ 1).
-    and_parts (bit_at of.bits k == 1) (reaches end (get_or cs k None)) (sure-each 0 of end cs k is) in
+    and_parts (bit_at of.bits k == 1) (reaches end (get_or cs k None))
+    (subst (λ (n : ℕ). is_sure of n end (get_or cs k None) ≡ true) (omega arith) (sure-each 0 of end cs k is)) in
     record {
       members = record { bits = sure_bits 0 of end cs };
       enough = omega (arith, many, sure-counted 0 of end cs);
@@ -124,14 +125,15 @@ below (suc (suc a)) u small one = absurd (omega (arith, small))
 pub enough-from : (number : ℕ) (of : MemberSet) (end : Lsn) (cs : List (Option Lsn))
     → EnoughReach number of end cs → number ≤ sure_count 0 of end cs
 enough-from number of end cs found =
+    let sure-from = λ (k : ℕ) (is : bit_at found.members.bits k ≡ 1).
+    subst (λ (n : ℕ). is_sure of n end (get_or cs k None) ≡ true) (omega arith)
+    (and_from (bit_at of.bits k == 1) (reaches end (get_or cs k None)) (is-one (bit_at of.bits k) (found.within k is))
+    (reaches-from end (get_or cs k None) (found.each k is))) in
     omega (
       arith,
       found.enough,
       sure-counted 0 of end cs,
       ones-within found.members.bits found.members.bits (sure_bits 0 of end cs) (omega arith)
-          (λ k. below (bit_at found.members.bits k) (bit_at (sure_bits 0 of end cs) k) (omega arith)
-          (λ is. each-sure 0 of end cs k
-          (and_from (bit_at of.bits k == 1) (reaches end (get_or cs k None))
-          (is-one (bit_at of.bits k) (found.within k is))
-          (reaches-from end (get_or cs k None) (found.each k is))))),
+          (λ k. below (bit_at found.members.bits k) (bit_at (sure_bits 0 of end cs) k)
+          (bit_at-lt found.members.bits k) (λ is. each-sure 0 of end cs k (sure-from k is))),
     )
