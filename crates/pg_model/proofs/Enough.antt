@@ -43,7 +43,7 @@ ones-within (suc d) a u small h =
 abbrev one_if : Bool → ℕ
 one_if b = cond b 1 0
 
-sure_bits : ℕ → MemberSet → Lsn → List (Option Lsn) → ℕ
+abbrev sure_bits : ℕ → MemberSet → Lsn → List (Option Lsn) → ℕ
 sure_bits number of end [] = 0
 sure_bits number of end (c ∷ cs) = one_if (is_sure of number end c) + 2 * sure_bits (number + 1) of end cs
 
@@ -53,7 +53,7 @@ one-small false = omega arith
 
 sure-counted : (number : ℕ) (of : MemberSet) (end : Lsn) (cs : List (Option Lsn))
     → count_ones (sure_bits number of end cs) ≡ sure_count number of end cs
-sure-counted number of end [] = refl
+sure-counted number of end [] = omega (arith, ones_le_self 0)
 sure-counted number of end (c ∷ cs) =
     ones-on (one_if (is_sure of number end c)) (sure_bits (number + 1) of end cs) (one-small (is_sure of number end c))
     ∙ ap (λ (n : ℕ). one_if (is_sure of number end c) + n) (sure-counted (number + 1) of end cs)
