@@ -122,18 +122,20 @@ below zero u small one = omega arith
 below (suc zero) u small one = omega (arith, one refl)
 below (suc (suc a)) u small one = absurd (omega (arith, small))
 
+itself : (n : ℕ) → n ≤ n
+itself n = omega arith
+
+chosen-sure : (number : ℕ) (of : MemberSet) (end : Lsn) (cs : List (Option Lsn)) (found : EnoughReach number of end cs)
+    (k : ℕ) → bit_at found.members.bits k ≡ 1 → is_sure of (0 + k) end (get_or cs k None) ≡ true
+chosen-sure number of end cs found k is =
+    subst (λ (n : ℕ). is_sure of n end (get_or cs k None) ≡ true) (omega arith)
+    (and_from (bit_at of.bits k == 1) (reaches end (get_or cs k None)) (is-one (bit_at of.bits k) (found.within k is))
+    (reaches-from end (get_or cs k None) (found.each k is)))
+
 pub enough-from : (number : ℕ) (of : MemberSet) (end : Lsn) (cs : List (Option Lsn))
     → EnoughReach number of end cs → number ≤ sure_count 0 of end cs
 enough-from number of end cs found =
-    let sure-from = λ (k : ℕ) (is : bit_at found.members.bits k ≡ 1).
-    subst (λ (n : ℕ). is_sure of n end (get_or cs k None) ≡ true) (omega arith)
-    (and_from (bit_at of.bits k == 1) (reaches end (get_or cs k None)) (is-one (bit_at of.bits k) (found.within k is))
-    (reaches-from end (get_or cs k None) (found.each k is))) in
-    omega (
-      arith,
-      found.enough,
-      sure-counted 0 of end cs,
-      ones-within found.members.bits found.members.bits (sure_bits 0 of end cs) (omega arith)
-          (λ k. below (bit_at found.members.bits k) (bit_at (sure_bits 0 of end cs) k)
-          (bit_at-lt found.members.bits k) (λ is. each-sure 0 of end cs k (sure-from k is))),
-    )
+    let within = ones-within found.members.bits found.members.bits (sure_bits 0 of end cs) (itself found.members.bits)
+    (λ k. below (bit_at found.members.bits k) (bit_at (sure_bits 0 of end cs) k) (bit_at-lt found.members.bits k)
+    (λ is. each-sure 0 of end cs k (chosen-sure number of end cs found k is))) in
+    omega (arith, found.enough, sure-counted 0 of end cs, within)
