@@ -526,7 +526,7 @@ takes-row now ttl held o = if-cases (Row o) (may_take now o.knows o.machine) (ar
 
 -- a write of the sync key asks for no lease
 sync-short : (txn : Txn) → WritesSync txn → ttl_of txn ≤ 2 ^ 40
-sync-short (txns.Sync (sync_txns.SetSync revision sync standbys)) writes = omega arith
+sync-short (txns.Sync (sync_txns.SetSync revision sync standbys may_lack)) writes = omega arith
 sync-short (txns.Sync (sync_txns.DropSync revision sync)) writes = omega arith
 sync-short _ writes = absurd writes
 

@@ -151,7 +151,7 @@ grant-rows P now waited revision o rows = record {
 
 -- a request for a write of the sync key that a leader's plan makes
 abbrev pub WritesSync : Txn → Type 0
-WritesSync (txns.Sync (sync_txns.SetSync revision sync standbys)) = Unit {0}
+WritesSync (txns.Sync (sync_txns.SetSync revision sync standbys may_lack)) = Unit {0}
 WritesSync (txns.Sync (sync_txns.DropSync revision sync)) = Unit {0}
 WritesSync _ = ⊥
 
@@ -182,13 +182,14 @@ planned-as P now revision plans.Keep o rows = rows.kept
 planned-as P now revision plans.SwitchOff o rows = switching-off P now revision (sync_read_if o.knows.seen) o rows
 planned-as P now revision plans.Mark o rows =
     rows.writes (NamesStandbys nobody)
-    (txns.Sync (sync_txns.SetSync revision (expected_of (sync_read_if o.knows.seen)) nobody)) tt
+    (txns.Sync (sync_txns.SetSync revision (expected_of (sync_read_if o.knows.seen)) nobody None)) tt
 planned-as P now revision (plans.Withdraw standbys) o rows =
     rows.writes (NamesStandbys standbys)
-    (txns.Sync (sync_txns.SetSync revision (expected_of (sync_read_if o.knows.seen)) standbys)) tt
+    (txns.Sync (sync_txns.SetSync revision (expected_of (sync_read_if o.knows.seen)) standbys None)) tt
 planned-as P now revision (plans.AddRequired members) o rows = rows.adds (All members)
 planned-as P now revision (plans.Publish standbys) o rows =
-    rows.writes KeepsList (txns.Sync (sync_txns.SetSync revision (expected_of (sync_read_if o.knows.seen)) standbys)) tt
+    rows.writes KeepsList
+    (txns.Sync (sync_txns.SetSync revision (expected_of (sync_read_if o.knows.seen)) standbys None)) tt
 planned-as P now revision (plans.DropRequired members) o rows = rows.drops (waiting_for o.knows.settings members)
 
 planned-on : (P : Outcome → Type 0) (now : Ticks) (revision : ℕ) (seen : Option SnapshotFacts) (o : Outcome)

@@ -164,7 +164,7 @@ pub publishes-lawful : {quorum : ℕ} (now : Ticks) (sequence : ℕ) (grant : Gr
     → ((n : ℕ) → set_members set n ≡ true → (set_members (published_in snapshot) n ≡ true) ⊎
     HasReached o.machine.replication.confirmed_positions (noted_position o.knows.noted) n)
     → led.key.quorum
-    ≤ quorum_written (txns.Sync (sync_txns.SetSync grant.revision (expected_of (sync_read_in snapshot)) set))
+    ≤ quorum_written (txns.Sync (sync_txns.SetSync grant.revision (expected_of (sync_read_in snapshot)) set None))
     → Lawful quorum now sequence grant snapshot s m input o
     (naming now grant.revision settling set (led_by b w grant.revision snapshot))
 publishes-lawful now sequence grant snapshot s m input o b w ground leased led leads settling set required each fewer
@@ -173,10 +173,10 @@ publishes-lawful now sequence grant snapshot s m input o b w ground leased led l
     let x : Outcome = naming now grant.revision settling set fed in
     let fed-quiet : All (Stands true) fed.outputs =
     w.quiet true (ground.behind.idle.quiet true (λ _ _. refl) ground.quiet) in
-    let txn : Txn = txns.Sync (sync_txns.SetSync grant.revision (expected_of (sync_read_in snapshot)) set) in
+    let txn : Txn = txns.Sync (sync_txns.SetSync grant.revision (expected_of (sync_read_in snapshot)) set None) in
     let output : Output = outputs.Message (outgoing.Send targets.Store (b.knows.sequence + 1) (bodies.Request txn)) in
     let request : SyncRequest = publish_request m o.knows.incarnation (b.knows.sequence + 1) grant.revision
-    (expected_of (sync_read_in snapshot)) set in
+    (expected_of (sync_read_in snapshot)) set None in
     let lives : (s.members m).live ≡ true = leads-live s m o b ground.stands ground.behind leads in
     let was-published : (n : ℕ) → set_members (published_in snapshot) n ≡ true → led.key.standbys n ≡ true =
     λ n e. ap (λ (f : ℕ → Bool). f n) led.standbys ∙ e in

@@ -216,11 +216,12 @@ module _ (quorum : ℕ) (now : Ticks) (sequence : ℕ) (grant : Granted) (snapsh
       let fed : Outcome = led_by b w grant.revision snapshot in
       let x : Outcome = naming now grant.revision settling set fed in
       asks-stays quorum Hears o x fed.outputs (b.knows.sequence + 1)
-      (bodies.Request (txns.Sync (sync_txns.SetSync grant.revision (expected_of (sync_read_in snapshot)) set)))
+      (bodies.Request (txns.Sync (sync_txns.SetSync grant.revision (expected_of (sync_read_in snapshot)) set None)))
       (asks-this x.knows _ refl (follows b.knows.turn_settings.synchronous_mode)) refl refl (w.covered all)
       (λ count knows. (
         below count knows,
-        none-written (txns.Sync (sync_txns.SetSync grant.revision (expected_of (sync_read_in snapshot)) set)) quorum,
+        none-written (txns.Sync (sync_txns.SetSync grant.revision (expected_of (sync_read_in snapshot)) set None))
+            quorum,
       ))
 
   nobody-below : (count n : ℕ) → set_members nobody n ≡ true → n < count

@@ -53,7 +53,7 @@ abbrev pub QuietTxn : Bool → Txn → Type 0
 QuietTxn carries (txns.Lease (lease_txns.Renew revision info ttl status row failsafe)) = MayCarrySet carries failsafe
 QuietTxn carries (txns.Lease (lease_txns.Create info ttl failsafe sync)) = sync ≡ None
 QuietTxn carries (txns.Sync (sync_txns.Claim revision sync)) = ⊥
-QuietTxn carries (txns.Sync (sync_txns.SetSync revision sync standbys)) = ⊥
+QuietTxn carries (txns.Sync (sync_txns.SetSync revision sync standbys may_lack)) = ⊥
 QuietTxn carries (txns.Sync (sync_txns.DropSync revision sync)) = ⊥
 QuietTxn carries _ = Unit {0}
 
@@ -78,7 +78,7 @@ quieter-txn leads (txns.Lease (lease_txns.Renew revision info ttl status row fai
     no-set failsafe quiet leads
 quieter-txn leads (txns.Lease (lease_txns.Create info ttl failsafe sync)) quiet = quiet
 quieter-txn leads (txns.Sync (sync_txns.Claim revision sync)) quiet = quiet
-quieter-txn leads (txns.Sync (sync_txns.SetSync revision sync standbys)) quiet = quiet
+quieter-txn leads (txns.Sync (sync_txns.SetSync revision sync standbys may_lack)) quiet = quiet
 quieter-txn leads (txns.Sync (sync_txns.DropSync revision sync)) quiet = quiet
 quieter-txn leads _ quiet = tt
 
@@ -94,7 +94,7 @@ plain-txn : (txn : Txn) → QuietTxn false txn → IsQuietTxn txn
 plain-txn (txns.Lease (lease_txns.Renew revision info ttl status row failsafe)) quiet = none-carried failsafe quiet
 plain-txn (txns.Lease (lease_txns.Create info ttl failsafe sync)) quiet = quiet
 plain-txn (txns.Sync (sync_txns.Claim revision sync)) quiet = quiet
-plain-txn (txns.Sync (sync_txns.SetSync revision sync standbys)) quiet = quiet
+plain-txn (txns.Sync (sync_txns.SetSync revision sync standbys may_lack)) quiet = quiet
 plain-txn (txns.Sync (sync_txns.DropSync revision sync)) quiet = quiet
 plain-txn _ quiet = tt
 
@@ -162,7 +162,8 @@ txn-none leads m incarnation sequence (txns.Lease (lease_txns.Create info ttl fa
 txn-none leads m incarnation sequence (txns.Lease (lease_txns.Renew revision info ttl status row failsafe)) quiet =
     renew-none m revision failsafe
 txn-none leads m incarnation sequence (txns.Sync (sync_txns.Claim revision sync)) quiet = absurd quiet
-txn-none leads m incarnation sequence (txns.Sync (sync_txns.SetSync revision sync standbys)) quiet = absurd quiet
+txn-none leads m incarnation sequence (txns.Sync (sync_txns.SetSync revision sync standbys may_lack)) quiet =
+    absurd quiet
 txn-none leads m incarnation sequence _ quiet = refl
 
 body-none : (leads : Bool) (m incarnation sequence : ℕ) (body : Body) → QuietBody leads body
@@ -248,7 +249,7 @@ create-kept count quorum info ttl failsafe (Some sync) is = absurd (none-some sy
 kept-txn : (leads : Bool) (count quorum : ℕ) (txn : Txn) → QuietTxn leads txn → IsSynchronousTxn count quorum txn
 kept-txn leads count quorum (txns.Lease (lease_txns.Create info ttl failsafe sync)) quiet =
     create-kept count quorum info ttl failsafe sync quiet
-kept-txn leads count quorum (txns.Sync (sync_txns.SetSync revision sync standbys)) quiet = absurd quiet
+kept-txn leads count quorum (txns.Sync (sync_txns.SetSync revision sync standbys may_lack)) quiet = absurd quiet
 kept-txn leads count quorum (txns.Sync (sync_txns.DropSync revision sync)) quiet = quiet
 kept-txn leads count quorum _ quiet = tt
 

@@ -220,9 +220,9 @@ IsSent (request ∷ other ∷ more) sends = ⊥
 abbrev pub IsSynchronousTxn : ℕ → ℕ → Txn → Type 0
 IsSynchronousTxn count quorum (txns.Lease (lease_txns.Create info ttl failsafe (Some sync))) = ⊥
 IsSynchronousTxn count quorum (txns.Sync (sync_txns.DropSync revision sync)) = ⊥
-IsSynchronousTxn count quorum (txns.Sync (sync_txns.SetSync revision sync standbys)) =
+IsSynchronousTxn count quorum (txns.Sync (sync_txns.SetSync revision sync standbys may_lack)) =
     ((n : ℕ) → set_members standbys n ≡ true → n < count)
-    × (quorum_written (txns.Sync (sync_txns.SetSync revision sync standbys)) ≤ quorum)
+    × (quorum_written (txns.Sync (sync_txns.SetSync revision sync standbys may_lack)) ≤ quorum)
 IsSynchronousTxn count quorum _ = Unit {0}
 
 -- the same of what a message says
@@ -257,7 +257,7 @@ abbrev pub IsQuietTxn : Txn → Type 0
 IsQuietTxn (txns.Lease (lease_txns.Create info ttl failsafe sync)) = sync ≡ None
 IsQuietTxn (txns.Lease (lease_txns.Renew revision info ttl status row failsafe)) = failsafe ≡ None
 IsQuietTxn (txns.Sync (sync_txns.Claim revision sync)) = ⊥
-IsQuietTxn (txns.Sync (sync_txns.SetSync revision sync standbys)) = ⊥
+IsQuietTxn (txns.Sync (sync_txns.SetSync revision sync standbys may_lack)) = ⊥
 IsQuietTxn (txns.Sync (sync_txns.DropSync revision sync)) = ⊥
 IsQuietTxn _ = Unit {0}
 

@@ -80,6 +80,7 @@ fn name(revision: u64, settling: Settling, standbys: MemberSet, turn: &mut Turn)
         revision,
         sync: expected_of(sync_read_if(turn.knows.seen.as_ref())),
         standbys,
+        quorum: None,
     });
     write_sync(settling, write, turn);
 }

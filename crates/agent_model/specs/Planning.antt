@@ -44,7 +44,7 @@ writing_sync now settling txn o =
 abbrev pub naming : Ticks → ℕ → Settling → MemberSet → Outcome → Outcome
 naming now revision settling standbys o =
     writing_sync now settling
-    (txns.Sync (sync_txns.SetSync revision (expected_of (sync_read_if o.knows.seen)) standbys)) o
+    (txns.Sync (sync_txns.SetSync revision (expected_of (sync_read_if o.knows.seen)) standbys None)) o
 
 -- it asks that the sync key be removed, which was read so
 abbrev pub switching_off : Ticks → ℕ → Option SyncRead → Outcome → Outcome

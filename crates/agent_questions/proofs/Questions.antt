@@ -244,8 +244,8 @@ arm-reaches now ttl known o r = arms-it now known o.knows o.outputs (deadline_af
 
 -- a write of the sync key, which says what it settles
 writes-question : (settling : Settling) (txn : Txn) → IsPutBy (Syncing settling) txn → IsQuestion (bodies.Request txn)
-writes-question KeepsList (txns.Sync (sync_txns.SetSync revision sync standbys)) puts = tt
-writes-question (NamesStandbys set) (txns.Sync (sync_txns.SetSync revision sync standbys)) puts = tt
+writes-question KeepsList (txns.Sync (sync_txns.SetSync revision sync standbys may_lack)) puts = tt
+writes-question (NamesStandbys set) (txns.Sync (sync_txns.SetSync revision sync standbys may_lack)) puts = tt
 writes-question ClearsList (txns.Sync (sync_txns.DropSync revision sync)) puts = tt
 writes-question _ _ puts = absurd puts
 
@@ -270,14 +270,14 @@ plan-reaches : (now : Ticks) (known : Knowledge) (revision : ℕ) (plan : Plan) 
 plan-reaches now known revision plans.Keep o r = r
 plan-reaches now known revision plans.SwitchOff o r = off-reaches now known revision (sync_read_if o.knows.seen) o r
 plan-reaches now known revision plans.Mark o r = write-reaches now known (NamesStandbys nobody)
-    (txns.Sync (sync_txns.SetSync revision (expected_of (sync_read_if o.knows.seen)) nobody)) o refl r
+    (txns.Sync (sync_txns.SetSync revision (expected_of (sync_read_if o.knows.seen)) nobody None)) o refl r
 plan-reaches now known revision (plans.Withdraw standbys) o r = write-reaches now known (NamesStandbys standbys)
-    (txns.Sync (sync_txns.SetSync revision (expected_of (sync_read_if o.knows.seen)) standbys)) o refl r
+    (txns.Sync (sync_txns.SetSync revision (expected_of (sync_read_if o.knows.seen)) standbys None)) o refl r
 plan-reaches now known revision (plans.AddRequired members) o r = require-reaches now known (needs.All members)
     (noting o) (goes-on now known o.knows (noting o).knows o.outputs refl refl refl refl r)
 plan-reaches now known revision (plans.Publish standbys) o r =
     write-reaches now known KeepsList
-    (txns.Sync (sync_txns.SetSync revision (expected_of (sync_read_if o.knows.seen)) standbys)) o tt r
+    (txns.Sync (sync_txns.SetSync revision (expected_of (sync_read_if o.knows.seen)) standbys None)) o tt r
 plan-reaches now known revision (plans.DropRequired members) o r =
     require-reaches now known (waiting_for o.knows.settings members) o r
 

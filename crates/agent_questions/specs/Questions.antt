@@ -41,8 +41,8 @@ SendsBetween low high _ = Unit {0}
 -- key that names the standbys to which the required list settles
 abbrev pub IsPutBy : Question → Txn → Type 0
 IsPutBy Claiming (txns.Sync (sync_txns.Claim revision sync)) = Unit {0}
-IsPutBy (Syncing KeepsList) (txns.Sync (sync_txns.SetSync revision sync standbys)) = Unit {0}
-IsPutBy (Syncing (NamesStandbys set)) (txns.Sync (sync_txns.SetSync revision sync standbys)) = standbys ≡ set
+IsPutBy (Syncing KeepsList) (txns.Sync (sync_txns.SetSync revision sync standbys may_lack)) = Unit {0}
+IsPutBy (Syncing (NamesStandbys set)) (txns.Sync (sync_txns.SetSync revision sync standbys may_lack)) = standbys ≡ set
 IsPutBy (Syncing ClearsList) (txns.Sync (sync_txns.DropSync revision sync)) = Unit {0}
 IsPutBy _ _ = ⊥
 

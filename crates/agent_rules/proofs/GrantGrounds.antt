@@ -170,7 +170,7 @@ module _ (now : Ticks) (heard : Heard) (b : Outcome) where
           → So now heard b (naming now grant.revision settling standbys Led)
       name-so plan settling standbys ground names s =
           write-so settling
-          (txns.Sync (sync_txns.SetSync grant.revision (expected_of (sync_read_in snapshot)) standbys))
+          (txns.Sync (sync_txns.SetSync grant.revision (expected_of (sync_read_in snapshot)) standbys None))
           (record { snapshot = snapshot; plan = plan; ground = ground; names = names; compared = refl }) tt s
 
       plan-so : (plan : Plan) → PlanGround now heard b grant.revision snapshot plan → So now heard b Led

@@ -302,7 +302,7 @@ RequestGround now heard o (txns.Lease (lease_txns.Renew revision info ttl status
     RenewGround heard o revision failsafe
 RequestGround now heard o (txns.Sync (sync_txns.Claim revision expected)) = TakeGround now heard o revision
     × (o.knows.turn_settings.synchronous_mode ≡ true) × (expected ≡ expected_of o.knows.turn_sync)
-RequestGround now heard o (txns.Sync (sync_txns.SetSync revision sync standbys)) =
+RequestGround now heard o (txns.Sync (sync_txns.SetSync revision sync standbys may_lack)) =
     SyncGround now heard o revision sync (λ plan. NamesByPlan plan standbys)
 RequestGround now heard o (txns.Sync (sync_txns.DropSync revision sync)) =
     SyncGround now heard o revision (Revision sync) RemovesByPlan

@@ -371,7 +371,7 @@ asked-may G now from incarnation sequence o alone silent =
 -- a write of the sync key is sent under the next number
 writes-ask : (G : Grounds) (o after : Outcome) (sequence : ℕ) (txn : Txn) → WritesSync txn
     → MayTransact G o after sequence txn
-writes-ask G o after sequence (txns.Sync (sync_txns.SetSync revision sync standbys)) e = tt
+writes-ask G o after sequence (txns.Sync (sync_txns.SetSync revision sync standbys may_lack)) e = tt
 writes-ask G o after sequence (txns.Sync (sync_txns.DropSync revision sync)) e = tt
 writes-ask G o after sequence _ e = absurd e
 

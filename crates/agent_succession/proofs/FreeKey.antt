@@ -138,6 +138,7 @@ settings-value settings (values.Sync sync) kind = absurd kind
 settings-value settings (values.Status end) kind = absurd kind
 settings-value settings (values.History row) kind = absurd kind
 settings-value settings (values.Failsafe members) kind = absurd kind
+settings-value settings (values.Scheduled planned) kind = absurd kind
 
 settings-found : (settings : Config) (found : Option KeyEntry) → IsSome found
     → ((stored : KeyEntry) → found ≡ Some stored → IsOfKind keys.Config stored.value)

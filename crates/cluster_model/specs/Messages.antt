@@ -269,7 +269,7 @@ visit_events cluster visits.Failure member = event_of cluster (kinds.Note Connec
 
 -- the names of the standbys that a request publishes
 abbrev pub published_names : List Member → Txn → List Name
-published_names members (txns.Sync (sync_txns.SetSync revision sync standbys)) = names_of standbys members
+published_names members (txns.Sync (sync_txns.SetSync revision sync standbys may_lack)) = names_of standbys members
 published_names members _ = []
 
 -- the key store's decision on the request that a message carries, as an event, among these members

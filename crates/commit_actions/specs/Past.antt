@@ -62,20 +62,21 @@ claim_request member incarnation sequence revision sync = record {
   aim = ClaimSync;
 }
 
--- what a write of the sync key that publishes these standbys aims at
-abbrev pub published_aim : ℕ → Expected → MemberSet → Aim
-published_aim revision sync standbys =
-    PublishStandbys (set_members standbys) (quorum_written (txns.Sync (sync_txns.SetSync revision sync standbys)))
+-- what a write of the sync key that publishes these standbys, and how many may lack a commit, aims at
+abbrev pub published_aim : ℕ → Expected → MemberSet → Option ℕ → Aim
+published_aim revision sync standbys may_lack =
+    PublishStandbys (set_members standbys)
+    (quorum_written (txns.Sync (sync_txns.SetSync revision sync standbys may_lack)))
 
 -- such a write
-abbrev pub publish_request : ℕ → ℕ → ℕ → ℕ → Expected → MemberSet → SyncRequest
-publish_request member incarnation sequence revision sync standbys = record {
+abbrev pub publish_request : ℕ → ℕ → ℕ → ℕ → Expected → MemberSet → Option ℕ → SyncRequest
+publish_request member incarnation sequence revision sync standbys may_lack = record {
   member = member;
   incarnation = incarnation;
   sequence = sequence;
   leader = revision;
   sync = revision_in sync;
-  aim = published_aim revision sync standbys;
+  aim = published_aim revision sync standbys may_lack;
 }
 
 -- a create that compares the sync key
@@ -111,8 +112,8 @@ lease_query member incarnation sequence (lease_txns.Release revision) = OtherQue
 abbrev pub sync_query : ℕ → ℕ → ℕ → SyncTxn → Query
 sync_query member incarnation sequence (sync_txns.Claim revision sync) =
     SyncQuery (claim_request member incarnation sequence revision sync)
-sync_query member incarnation sequence (sync_txns.SetSync revision sync standbys) =
-    SyncQuery (publish_request member incarnation sequence revision sync standbys)
+sync_query member incarnation sequence (sync_txns.SetSync revision sync standbys may_lack) =
+    SyncQuery (publish_request member incarnation sequence revision sync standbys may_lack)
 sync_query member incarnation sequence (sync_txns.DropSync revision sync) = OtherQuery
 
 -- of any
@@ -142,8 +143,8 @@ pub record Past : Type 0 where
 -- the sync key after a granted transaction of this member on it, under this revision
 abbrev pub sync_written : ℕ → ℕ → SyncTxn → Option SyncKey
 sync_written by revision (sync_txns.Claim leader expected) = Some (sync_key_by by revision ClaimSync)
-sync_written by revision (sync_txns.SetSync leader expected standbys) =
-    Some (sync_key_by by revision (published_aim leader expected standbys))
+sync_written by revision (sync_txns.SetSync leader expected standbys may_lack) =
+    Some (sync_key_by by revision (published_aim leader expected standbys may_lack))
 sync_written by revision (sync_txns.DropSync leader expected) = None
 
 -- the sync key after any
@@ -386,11 +387,13 @@ abbrev pub leader_revision : Option LeaderKey → Option ℕ
 leader_revision None = None
 leader_revision (Some key) = Some key.revision
 
--- whom a required list has commits wait for; that of a server, if there is one
+-- whom a required list has commits wait for, each of them: nobody where any
+-- one, or any so many of a set, will do; that of a server, if there is one
 abbrev pub confirmers_in : Required → Confirmers
 confirmers_in needs.Nobody = Nobody
 confirmers_in needs.AnyOne = Nobody
 confirmers_in (needs.All members) = All (set_members members)
+confirmers_in (needs.AtLeast number of) = Nobody
 
 -- whom the commits of a server wait for; nobody where there is no such server
 abbrev pub confirmers_of : Option Required → Confirmers

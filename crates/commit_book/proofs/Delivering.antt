@@ -47,11 +47,11 @@ pub claim-decided : (past : Past) (facts : Facts) (m incarnation sequence revisi
 claim-decided past facts m incarnation sequence revision sync same = decision-is past facts revision sync same
 
 pub publish-decided : (past : Past) (facts : Facts) (m incarnation sequence revision : ℕ) (sync : Expected)
-    (standbys : MemberSet) → IsSameKeys past facts
-    → is_grant (decision_on facts.keys facts.clock (txns.Sync (sync_txns.SetSync revision sync standbys)))
+    (standbys : MemberSet) (may_lack : Option ℕ) → IsSameKeys past facts
+    → is_grant (decision_on facts.keys facts.clock (txns.Sync (sync_txns.SetSync revision sync standbys may_lack)))
     ≡ is_granted (leader_revision past.lease.leader) past.sync
-    (publish_request m incarnation sequence revision sync standbys)
-publish-decided past facts m incarnation sequence revision sync standbys same =
+    (publish_request m incarnation sequence revision sync standbys may_lack)
+publish-decided past facts m incarnation sequence revision sync standbys may_lack same =
     decision-is past facts revision sync same
 
 -- ---- messages
@@ -193,13 +193,14 @@ granted-allowed setup past facts volatile_states tick i j by incarnation sequenc
     (claim-shown setup past volatile_states tick i j by incarnation sequence revision sync standbys is.flying is.asked
     (sym (claim-decided past facts by.id.number incarnation sequence revision sync same) ∙ ap is_grant granted))
 granted-allowed setup past facts volatile_states tick i j by incarnation sequence
-    (txns.Sync (sync_txns.SetSync revision sync set))
+    (txns.Sync (sync_txns.SetSync revision sync set may_lack))
     standbys is same granted none may =
     allowed-one setup past volatile_states (Decide i j) tick i j by incarnation sequence
-    (txns.Sync (sync_txns.SetSync revision sync set)) standbys tt
-    (publish-shown setup past volatile_states tick i j by incarnation sequence revision sync set standbys
+    (txns.Sync (sync_txns.SetSync revision sync set may_lack)) standbys tt
+    (publish-shown setup past volatile_states tick i j by incarnation sequence revision sync set may_lack standbys
     is.flying is.asked
-    (sym (publish-decided past facts by.id.number incarnation sequence revision sync set same) ∙ ap is_grant granted))
+    (sym (publish-decided past facts by.id.number incarnation sequence revision sync set may_lack same)
+    ∙ ap is_grant granted))
 granted-allowed setup past facts volatile_states tick i j by incarnation sequence
     (txns.Lease (lease_txns.Release revision)) standbys is
     same granted none may =
@@ -233,7 +234,8 @@ granted-whole volatile_states tick i j by incarnation sequence
     refl
 granted-whole volatile_states tick i j by incarnation sequence (txns.Sync (sync_txns.Claim revision sync)) standbys =
     refl
-granted-whole volatile_states tick i j by incarnation sequence (txns.Sync (sync_txns.SetSync revision sync set))
+granted-whole volatile_states tick i j by incarnation sequence
+    (txns.Sync (sync_txns.SetSync revision sync set may_lack))
     standbys =
     refl
 granted-whole volatile_states tick i j by incarnation sequence _ standbys = refl
@@ -312,11 +314,12 @@ refused-is setup past facts volatile_states tick i j by incarnation sequence
     (claim_request by.id.number incarnation sequence revision sync) is.flying
     (sym (claim-decided past facts by.id.number incarnation sequence revision sync same) ∙ ap is_grant refused) new
 refused-is setup past facts volatile_states tick i j by incarnation sequence
-    (txns.Sync (sync_txns.SetSync revision sync set)) request
+    (txns.Sync (sync_txns.SetSync revision sync set may_lack)) request
     key found is same refused none new =
     refused-shown setup past volatile_states tick i j by incarnation sequence request key found
-    (publish_request by.id.number incarnation sequence revision sync set) is.flying
-    (sym (publish-decided past facts by.id.number incarnation sequence revision sync set same) ∙ ap is_grant refused)
+    (publish_request by.id.number incarnation sequence revision sync set may_lack) is.flying
+    (sym (publish-decided past facts by.id.number incarnation sequence revision sync set may_lack same)
+    ∙ ap is_grant refused)
     new
 refused-is setup past facts volatile_states tick i j by incarnation sequence
     (txns.Lease (lease_txns.Create info ttl failsafe sync))
@@ -333,7 +336,7 @@ refused-is setup past facts volatile_states tick i j by incarnation sequence _ r
 
 refused-may : (s : State) (i j : ℕ) (txn : Txn) → IsAllowed s (refused_action i j txn)
 refused-may s i j (txns.Sync (sync_txns.Claim revision sync)) = tt
-refused-may s i j (txns.Sync (sync_txns.SetSync revision sync set)) = tt
+refused-may s i j (txns.Sync (sync_txns.SetSync revision sync set may_lack)) = tt
 refused-may s i j _ = tt
 
 pub refused-delivery : (setup : Setup) (past : Past) (facts : Facts) (volatile_states : ℕ → VolatileState)

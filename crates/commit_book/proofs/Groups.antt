@@ -121,7 +121,8 @@ named-is member incarnation sequence (txns.Lease (lease_txns.Create info ttl fai
 named-is member incarnation sequence (txns.Lease (lease_txns.Renew revision info ttl status row failsafe)) =
     renew-named member incarnation sequence revision info ttl status row failsafe
 named-is member incarnation sequence (txns.Sync (sync_txns.Claim revision sync)) = (refl, (refl, refl))
-named-is member incarnation sequence (txns.Sync (sync_txns.SetSync revision sync standbys)) = (refl, (refl, refl))
+named-is member incarnation sequence (txns.Sync (sync_txns.SetSync revision sync standbys may_lack)) =
+    (refl, (refl, refl))
 named-is member incarnation sequence _ = tt
 
 -- what is granted is written
@@ -157,7 +158,8 @@ written-is past facts i by incarnation sequence
     let key = granted-leader past facts revision same granted in
     renew-written past i by incarnation sequence revision info ttl status row failsafe standbys key.0 key.1
 written-is past facts i by incarnation sequence (txns.Sync (sync_txns.Claim revision sync)) standbys same granted = refl
-written-is past facts i by incarnation sequence (txns.Sync (sync_txns.SetSync revision sync members)) standbys same
+written-is past facts i by incarnation sequence
+    (txns.Sync (sync_txns.SetSync revision sync members may_lack)) standbys same
     granted =
     refl
 written-is past facts i by incarnation sequence _ standbys same granted = tt

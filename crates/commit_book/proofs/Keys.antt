@@ -49,14 +49,14 @@ unfolding quorum_of quorum_written
 granted-sync revision by (txns.Sync (sync_txns.Claim compared sync)) found = ap
     (λ (s : ℕ → Bool). Some (record { leader = by.number; standbys = s; quorum = strict_quorum; revision = revision }))
     nobody-is
-granted-sync revision by (txns.Sync (sync_txns.SetSync compared sync standbys)) found = refl
+granted-sync revision by (txns.Sync (sync_txns.SetSync compared sync standbys may_lack)) found = refl
 granted-sync revision by (txns.Sync (sync_txns.DropSync compared sync)) found = refl
 granted-sync revision by _ found = refl
 
 pub granted-endless : (revision : ℕ) (by : MemberId) (txn : Txn) (found : Option KeyEntry) → IsEndless found
     → IsEndless (one_key.sync_after revision by txn found)
 granted-endless revision by (txns.Sync (sync_txns.Claim compared sync)) found e = refl
-granted-endless revision by (txns.Sync (sync_txns.SetSync compared sync standbys)) found e = refl
+granted-endless revision by (txns.Sync (sync_txns.SetSync compared sync standbys may_lack)) found e = refl
 granted-endless revision by (txns.Sync (sync_txns.DropSync compared sync)) found e = tt
 granted-endless revision by _ found e = e
 

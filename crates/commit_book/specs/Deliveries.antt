@@ -48,7 +48,8 @@ granted_action number answer member incarnation sequence
     Renew member incarnation sequence answer (carries_set failsafe)
 granted_action number answer member incarnation sequence (txns.Sync (sync_txns.Claim revision sync)) =
     Decide number answer
-granted_action number answer member incarnation sequence (txns.Sync (sync_txns.SetSync revision sync standbys)) =
+granted_action number answer member incarnation sequence
+    (txns.Sync (sync_txns.SetSync revision sync standbys may_lack)) =
     Decide number answer
 granted_action number answer member incarnation sequence (txns.Lease (lease_txns.Release revision)) = Release
 granted_action number answer member incarnation sequence _ = OtherWrite
@@ -58,7 +59,7 @@ abbrev pub is_told : Txn → Bool
 is_told (txns.Lease (lease_txns.Create info ttl failsafe sync)) = true
 is_told (txns.Lease (lease_txns.Renew revision info ttl status row failsafe)) = true
 is_told (txns.Sync (sync_txns.Claim revision sync)) = true
-is_told (txns.Sync (sync_txns.SetSync revision sync standbys)) = true
+is_told (txns.Sync (sync_txns.SetSync revision sync standbys may_lack)) = true
 is_told _ = false
 
 -- a request is granted and answered in one action; or in two, where the answer shows the keys alone
@@ -81,7 +82,7 @@ granted_actions volatile_states tick number answer by incarnation sequence txn s
 -- what a refusal is: a decision on a request that compares the sync key; of another one commits read nothing
 abbrev pub refused_action : ℕ → ℕ → Txn → Action
 refused_action number answer (txns.Sync (sync_txns.Claim revision sync)) = Decide number answer
-refused_action number answer (txns.Sync (sync_txns.SetSync revision sync standbys)) = Decide number answer
+refused_action number answer (txns.Sync (sync_txns.SetSync revision sync standbys may_lack)) = Decide number answer
 refused_action number answer txn = Note
 
 -- a create compares no sync key

@@ -94,16 +94,17 @@ put-by member incarnation sequence on Claiming (txns.Sync (sync_txns.Claim revis
   refl,
   record { writes = refl; standbys = λ r n. refl },
 )
-put-by member incarnation sequence on (Syncing KeepsList) (txns.Sync (sync_txns.SetSync revision sync standbys)) puts
+put-by member incarnation sequence on (Syncing KeepsList)
+    (txns.Sync (sync_txns.SetSync revision sync standbys may_lack)) puts
     follows = (
-      publish_request member.id.number incarnation sequence revision sync standbys,
+      publish_request member.id.number incarnation sequence revision sync standbys may_lack,
       refl,
       record { writes = refl; standbys = λ r. tt },
     )
 put-by member incarnation sequence on (Syncing (NamesStandbys set))
-    (txns.Sync (sync_txns.SetSync revision sync standbys)) puts
+    (txns.Sync (sync_txns.SetSync revision sync standbys may_lack)) puts
     follows = (
-      publish_request member.id.number incarnation sequence revision sync standbys,
+      publish_request member.id.number incarnation sequence revision sync standbys may_lack,
       refl,
       record { writes = refl; standbys = λ r n. ap (λ (names : MemberSet). set_members names n) puts },
     )

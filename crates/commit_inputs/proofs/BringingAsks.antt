@@ -354,15 +354,16 @@ module _ (head : HeadText) (book : List Event) (cluster : Cluster) (good : Commi
   seen-same = all-aside P Upto (front-aside head book cluster good a front all of_table)
 
   publishes-as : has_one is_claim_outside_sync Outs ≡ false → (revision : ℕ) (sync : Expected) (standbys : MemberSet)
-      → bodies.Request (txns.Sync (sync_txns.SetSync revision sync standbys)) ≡ body
+      (may_lack : Option ℕ) → bodies.Request (txns.Sync (sync_txns.SetSync revision sync standbys may_lack)) ≡ body
       → PublishesAwaited P M (noted_position (After head book cluster good a).knows.noted)
-      (publish_request M a.agent.knows.incarnation sequence revision sync standbys) (set_members standbys)
-  publishes-as inside revision sync standbys is =
-      let written : ℕ = quorum_written (txns.Sync (sync_txns.SetSync revision sync standbys)) in
+      (publish_request M a.agent.knows.incarnation sequence revision sync standbys may_lack) (set_members standbys)
+  publishes-as inside revision sync standbys may_lack is =
+      let written : ℕ = quorum_written (txns.Sync (sync_txns.SetSync revision sync standbys may_lack)) in
       let noted : ℕ = noted_position (After head book cluster good a).knows.noted in
-      let request : SyncRequest = publish_request M a.agent.knows.incarnation sequence revision sync standbys in
+      let request : SyncRequest =
+      publish_request M a.agent.knows.incarnation sequence revision sync standbys may_lack in
       let on : IsSynchronousTxn (member_count head) strict_quorum
-      (txns.Sync (sync_txns.SetSync revision sync standbys)) =
+      (txns.Sync (sync_txns.SetSync revision sync standbys may_lack)) =
       subst (λ (b : Body). IsSynchronousBody (member_count head) strict_quorum b) (sym is) synchronous in
       strict-publication (member_count head) P M noted request (set_members standbys)
       (subst (λ (quorum : ℕ). MayBePublished (member_count head) P M noted request (set_members standbys) quorum)
@@ -375,8 +376,8 @@ module _ (head : HeadText) (book : List Event) (cluster : Cluster) (good : Commi
 
   asked-ordered : has_one is_claim_outside_sync Outs ≡ false → (b : Body) → b ≡ body
       → AsksInOrder (past_over P Upto) Reached (ends.Member a.member) a.agent.knows.incarnation sequence b
-  asked-ordered inside (bodies.Request (txns.Sync (sync_txns.SetSync revision sync standbys))) is =
-      let at-first = publishes-as inside revision sync standbys is in
+  asked-ordered inside (bodies.Request (txns.Sync (sync_txns.SetSync revision sync standbys may_lack))) is =
+      let at-first = publishes-as inside revision sync standbys may_lack is in
       record {
         key = at-first.key;
         is = ap (λ (seen : Seen). seen.sync) seen-same ∙ at-first.is;

@@ -188,7 +188,8 @@ quiet-txn member incarnation sequence (txns.Lease (lease_txns.Create info ttl fa
 quiet-txn member incarnation sequence (txns.Lease (lease_txns.Renew revision info ttl status row failsafe)) quiet =
     quiet-renew member revision failsafe
 quiet-txn member incarnation sequence (txns.Sync (sync_txns.Claim revision sync)) quiet = absurd quiet
-quiet-txn member incarnation sequence (txns.Sync (sync_txns.SetSync revision sync standbys)) quiet = absurd quiet
+quiet-txn member incarnation sequence (txns.Sync (sync_txns.SetSync revision sync standbys may_lack)) quiet =
+    absurd quiet
 quiet-txn member incarnation sequence _ quiet = refl
 
 quiet-body : (member incarnation sequence : ℕ) (body : Body) → IsQuietBody body
@@ -222,7 +223,8 @@ pub record SaysNothing (past : Past) (message : Message) : Type 0 where
 
 quiet-txn-ordered : (past : Past) (cluster : Cluster) (by : Member) (incarnation sequence : ℕ) (txn : Txn)
     → IsQuietTxn txn → AsksInOrder past cluster (ends.Member by) incarnation sequence (bodies.Request txn)
-quiet-txn-ordered past cluster by incarnation sequence (txns.Sync (sync_txns.SetSync revision sync standbys)) quiet =
+quiet-txn-ordered past cluster by incarnation sequence (txns.Sync (sync_txns.SetSync revision sync standbys may_lack))
+    quiet =
     absurd quiet
 quiet-txn-ordered past cluster by incarnation sequence _ quiet = tt
 

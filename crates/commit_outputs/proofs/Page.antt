@@ -266,6 +266,13 @@ module _ (past : Past) (cluster : Cluster) (member : Member) (states : ℕ → V
   same-confirmers (requireds.All first) (requireds.All second) e =
       ap (λ (bits : ℕ). let set : MemberSet = record { bits = bits } in confirmers_in (requireds.All set))
       (same-bits first.bits second.bits e)
+  same-confirmers (requireds.AtLeast number first) (requireds.AtLeast other second) e = refl
+  same-confirmers (requireds.AtLeast number first) requireds.Nobody e = absurd (both e)
+  same-confirmers (requireds.AtLeast number first) requireds.AnyOne e = absurd (both e)
+  same-confirmers (requireds.AtLeast number first) (requireds.All second) e = absurd (both e)
+  same-confirmers requireds.Nobody (requireds.AtLeast number second) e = absurd (both e)
+  same-confirmers requireds.AnyOne (requireds.AtLeast number second) e = absurd (both e)
+  same-confirmers (requireds.All first) (requireds.AtLeast number second) e = absurd (both e)
   same-confirmers requireds.Nobody requireds.AnyOne e = absurd (both e)
   same-confirmers requireds.Nobody (requireds.All second) e = absurd (both e)
   same-confirmers requireds.AnyOne requireds.Nobody e = absurd (both e)

@@ -92,7 +92,7 @@ strict-granted : (count quorum by revision : ℕ) (sync : Option SyncKey) (txn :
 strict-granted count quorum by revision sync (txns.Sync (sync_txns.Claim leader expected)) on old =
     λ key is. subst (IsOfQuorum count quorum) (some-is _ key is)
     (record { few = none-below quorum; members = λ n named. absurd (both named) })
-strict-granted count quorum by revision sync (txns.Sync (sync_txns.SetSync leader expected standbys)) on old =
+strict-granted count quorum by revision sync (txns.Sync (sync_txns.SetSync leader expected standbys may_lack)) on old =
     λ key is. subst (IsOfQuorum count quorum) (some-is _ key is) (record { few = on.1; members = on.0 })
 strict-granted count quorum by revision sync (txns.Sync (sync_txns.DropSync leader expected)) on old = absurd on
 strict-granted count quorum by revision sync _ on old = old

@@ -35,9 +35,9 @@ noted_by _ = 0
 -- it adds is awaited, and has confirmed what it noted
 abbrev pub AsksInOrder : Past → Cluster → LinkEnd → ℕ → ℕ → Body → Type 0
 AsksInOrder past cluster (ends.Member by) incarnation sequence
-    (bodies.Request (txns.Sync (sync_txns.SetSync leader sync standbys))) =
+    (bodies.Request (txns.Sync (sync_txns.SetSync leader sync standbys may_lack))) =
     PublishesAwaited past by.id.number (noted_by (slice_get cluster.agents by.id.number))
-    (publish_request by.id.number incarnation sequence leader sync standbys) (set_members standbys)
+    (publish_request by.id.number incarnation sequence leader sync standbys may_lack) (set_members standbys)
 AsksInOrder past cluster from incarnation sequence body = Unit {0}
 
 -- a claim that is granted found no sync key, or one that names its

@@ -60,7 +60,8 @@ txn-live live leader by incarnation sequence (txns.Lease (lease_txns.Create info
     mine =
     absurd cc
 txn-live live leader by incarnation sequence (txns.Sync (sync_txns.Claim revision sync)) m r key e is mine = absurd cc
-txn-live live leader by incarnation sequence (txns.Sync (sync_txns.SetSync revision sync standbys)) m r key e is mine =
+txn-live live leader by incarnation sequence (txns.Sync (sync_txns.SetSync revision sync standbys may_lack)) m r key e
+    is mine =
     absurd cc
 txn-live live leader by incarnation sequence _ m r key e is mine = absurd (other-carry m r e)
 

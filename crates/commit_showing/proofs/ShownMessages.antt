@@ -98,21 +98,24 @@ claim-shown setup past volatile_states tick i j by incarnation sequence revision
     ∙ sym (decided-is (state_of setup past volatile_states) i j w true at granted)
 
 pub publish-shown : (setup : Setup) (past : Past) (volatile_states : ℕ → VolatileState) (tick : Ticks) (i j : ℕ)
-    (by : Member) (incarnation sequence revision : ℕ) (sync : Expected) (set : MemberSet) (standbys : List Name) →
-    past.flight i ≡ Some (Requested (publish_request by.id.number incarnation sequence revision sync set))
-    → past.asked i ≡ SyncQuery (publish_request by.id.number incarnation sequence revision sync set)
+    (by : Member) (incarnation sequence revision : ℕ) (sync : Expected) (set : MemberSet)
+    (may_lack : Option ℕ) (standbys : List Name) →
+    past.flight i ≡ Some (Requested (publish_request by.id.number incarnation sequence revision sync set may_lack))
+    → past.asked i ≡ SyncQuery (publish_request by.id.number incarnation sequence revision sync set may_lack)
     → is_granted (leader_revision past.lease.leader) past.sync
-    (publish_request by.id.number incarnation sequence revision sync set) ≡ true →
+    (publish_request by.id.number incarnation sequence revision sync set may_lack) ≡ true →
     IsShown setup past volatile_states (record {
       action = Decide i j;
       events =
-          granted_events tick i j by incarnation sequence (txns.Sync (sync_txns.SetSync revision sync set)) standbys;
+          granted_events tick i j by incarnation sequence
+          (txns.Sync (sync_txns.SetSync revision sync set may_lack)) standbys;
       volatile_states = volatile_states;
     })
-publish-shown setup past volatile_states tick i j by incarnation sequence revision sync set standbys at asked granted =
-    let w : SyncRequest = publish_request by.id.number incarnation sequence revision sync set in
+publish-shown setup past volatile_states tick i j by incarnation sequence revision sync set may_lack standbys at asked
+    granted =
+    let w : SyncRequest = publish_request by.id.number incarnation sequence revision sync set may_lack in
     let mid : Past = past_after (past_after past (kinds.Message (messages.Delivered i)))
-    (kinds.Store (stores.Granted i by (txns.Sync (sync_txns.SetSync revision sync set)) standbys)) in
+    (kinds.Store (stores.Granted i by (txns.Sync (sync_txns.SetSync revision sync set may_lack)) standbys)) in
     ap (λ (q : Query). record (state_of setup past volatile_states) {
       sync = mid.sync;
       revision = past.lease.revision + 1;

@@ -176,15 +176,17 @@ pub record ActionsAreShown : Type 0 where
         volatile_states = volatile_states;
       })
   pub publish : (setup : Setup) (past : Past) (volatile_states : ℕ → VolatileState) (tick : Ticks) (i j : ℕ)
-      (by : Member) (incarnation sequence revision : ℕ) (sync : Expected) (set : MemberSet) (standbys : List Name)
-      → past.flight i ≡ Some (Requested (publish_request by.id.number incarnation sequence revision sync set))
-      → past.asked i ≡ SyncQuery (publish_request by.id.number incarnation sequence revision sync set)
+      (by : Member) (incarnation sequence revision : ℕ) (sync : Expected) (set : MemberSet)
+      (may_lack : Option ℕ) (standbys : List Name)
+      → past.flight i ≡ Some (Requested (publish_request by.id.number incarnation sequence revision sync set may_lack))
+      → past.asked i ≡ SyncQuery (publish_request by.id.number incarnation sequence revision sync set may_lack)
       → is_granted (leader_revision past.lease.leader) past.sync
-      (publish_request by.id.number incarnation sequence revision sync set)
+      (publish_request by.id.number incarnation sequence revision sync set may_lack)
       ≡ true → IsShown setup past volatile_states (record {
         action = Decide i j;
         events =
-            granted_events tick i j by incarnation sequence (txns.Sync (sync_txns.SetSync revision sync set)) standbys;
+            granted_events tick i j by incarnation sequence
+            (txns.Sync (sync_txns.SetSync revision sync set may_lack)) standbys;
         volatile_states = volatile_states;
       })
   pub create : (setup : Setup) (past : Past) (volatile_states : ℕ → VolatileState) (tick : Ticks) (i j : ℕ)

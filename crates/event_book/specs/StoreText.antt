@@ -24,17 +24,23 @@ lease_line tick name (lease_txns.Renew revision info ttl status row failsafe) = 
 lease_line tick name (lease_txns.Release revision) =
     Some (decimal tick ++ (codes " " ++ (name ++ codes " releases the leader key\n")))
 
+-- the end of a line that publishes standbys: with quorum commit, how many of them may lack a commit
+abbrev pub quorum_end : Option ℕ → List ℕ
+quorum_end None = codes "\n"
+quorum_end (Some may_lack) = codes " quorum " ++ (decimal may_lack ++ codes "\n")
+
 -- of the sync key
 abbrev pub sync_line : ℕ → List ℕ → SyncTxn → List Name → Option (List ℕ)
 sync_line tick name (sync_txns.Claim revision sync) standbys =
     Some (decimal tick ++ (codes " " ++ (name ++ codes " claims the sync key\n")))
-sync_line tick name (sync_txns.SetSync revision sync members) standbys =
+sync_line tick name (sync_txns.SetSync revision sync members may_lack) standbys =
     Some (decimal tick
-    ++ (codes " " ++ (name ++ (codes " publishes sync standbys " ++ (listed (codes "none") standbys ++ codes "\n")))))
+    ++ (codes " "
+    ++ (name ++ (codes " publishes sync standbys " ++ (listed (codes "none") standbys ++ quorum_end may_lack)))))
 sync_line tick name (sync_txns.DropSync revision sync) standbys =
     Some (decimal tick ++ (codes " " ++ (name ++ codes " removes the sync key\n")))
 
--- of the failover key, or of the configuration
+-- of the failover key, or of the configuration; a schedule has none, until it fires
 abbrev pub operator_line : ℕ → List ℕ → OperatorTxn → Option (List ℕ)
 operator_line tick name (operator_txns.SetFailover failover ttl) =
     Some (decimal tick ++ (codes " " ++ (name ++ codes " writes the failover key\n")))
@@ -42,6 +48,10 @@ operator_line tick name (operator_txns.DropFailover revision) =
     Some (decimal tick ++ (codes " " ++ (name ++ codes " clears the failover key\n")))
 operator_line tick name (operator_txns.SetConfig revision config) =
     Some (decimal tick ++ (codes " " ++ (name ++ codes " changes the configuration\n")))
+operator_line tick name (operator_txns.Schedule planned) = None
+operator_line tick name (operator_txns.Unschedule scheduled) = None
+operator_line tick name (operator_txns.Fire revision scheduled failover ttl) =
+    Some (decimal tick ++ (codes " " ++ (name ++ codes " writes the failover key\n")))
 
 -- the line of a granted write, which stands at its grant
 abbrev pub granted_line : ℕ → List ℕ → Txn → List Name → Option (List ℕ)

@@ -1,10 +1,12 @@
 //! The printed lines of what happens at the key store.
-ghost use Rattle.std.specs.Prelude.{◌≡◌, ◌++◌, OnOk, string_bytes};
+ghost use Rattle.std.specs.Prelude.{◌≡◌, ◌++◌, OnOk, codes, string_bytes};
+ghost use Rattle.std.specs.Fmt.{decimal};
 ghost use Rattle.pat_base.specs.Name.{name_bytes};
-ghost use Rattle.event_book.specs.StoreText.{store_line, granted_line, lease_line, operator_line, sync_line};
+ghost use Rattle.event_book.specs.Listing.{listed};
+ghost use Rattle.event_book.specs.StoreText.{store_line, granted_line, lease_line, operator_line, quorum_end, sync_line};
 ghost use Rattle.event_book.specs.Text.{bytes_or_none};
 
-use crate::listing::end_by_list;
+use crate::listing::write_listed;
 use crate::named_line::write_named_line;
 use event_book::{Member, Names, StoreEvent};
 use pat_base::{Name, Ticks};
@@ -95,11 +97,26 @@ fn write_sync_line(
 {
     match txn {
         SyncTxn::Claim { .. } => write_named_line(line, tick, name, " claims the sync key\n"),
-        SyncTxn::SetSync { .. } => {
+        SyncTxn::SetSync { quorum, .. } => {
             write!(line, "{tick} {name} publishes sync standbys ")?;
-            end_by_list(line, "none", standbys.as_slice())
+            end_by_published(line, standbys.as_slice(), *quorum)
         }
         SyncTxn::DropSync { .. } => write_named_line(line, tick, name, " removes the sync key\n"),
+    }
+}
+
+/// Ends a line by the standbys that are published, and how many of them may lack a commit where that is said.
+fn end_by_published(
+    line: &mut String,
+    standbys: &[Name],
+    quorum: Option<u8>,
+) -> Result<(), AllocError>
+    ensures { OnOk result (string_bytes line.new ≡ string_bytes line.old ++ (listed (codes "none") standbys.now ++ quorum_end quorum)) }
+{
+    write_listed(line, "none", standbys)?;
+    match quorum {
+        None => line.push_str("\n"),
+        Some(may_lack) => write!(line, " quorum {may_lack}\n"),
     }
 }
 
@@ -112,12 +129,7 @@ fn write_operator_line(
     ensures { OnOk result (string_bytes line.new ≡ string_bytes line.old ++ bytes_or_none (operator_line tick.0 (name_bytes name) txn.now)) }
 {
     match txn {
-        OperatorTxn::SetFailover { .. } => write_named_line(
-            line,
-            tick,
-            name,
-            " writes the failover key\n",
-        ),
+        OperatorTxn::SetFailover { .. } => write_failover_line(line, tick, name),
         OperatorTxn::DropFailover { .. } => write_named_line(
             line,
             tick,
@@ -130,5 +142,15 @@ fn write_operator_line(
             name,
             " changes the configuration\n",
         ),
+        OperatorTxn::Schedule { .. } => Ok(()),
+        OperatorTxn::Unschedule { .. } => Ok(()),
+        OperatorTxn::Fire { .. } => write_failover_line(line, tick, name),
     }
+}
+
+/// Appends that a member writes the failover key.
+fn write_failover_line(line: &mut String, tick: Ticks, name: Name) -> Result<(), AllocError>
+    ensures { OnOk result (string_bytes line.new ≡ string_bytes line.old ++ (decimal tick.0 ++ (codes " " ++ (name_bytes name ++ codes " writes the failover key\n")))) }
+{
+    write_named_line(line, tick, name, " writes the failover key\n")
 }

@@ -54,13 +54,16 @@ fn span(txn: &Txn) -> Ticks
         Txn::Touch { ttl, .. }
         | Txn::Lease(LeaseTxn::Create { ttl, .. })
         | Txn::Lease(LeaseTxn::Renew { ttl, .. })
-        | Txn::Operators(OperatorTxn::SetFailover { ttl, .. }) => *ttl,
+        | Txn::Operators(OperatorTxn::SetFailover { ttl, .. })
+        | Txn::Operators(OperatorTxn::Fire { ttl, .. }) => *ttl,
         Txn::Lease(LeaseTxn::Release { .. })
         | Txn::Sync(SyncTxn::Claim { .. })
         | Txn::Sync(SyncTxn::SetSync { .. })
         | Txn::Sync(SyncTxn::DropSync { .. })
         | Txn::Operators(OperatorTxn::DropFailover { .. })
-        | Txn::Operators(OperatorTxn::SetConfig { .. }) => Ticks(0),
+        | Txn::Operators(OperatorTxn::SetConfig { .. })
+        | Txn::Operators(OperatorTxn::Schedule { .. })
+        | Txn::Operators(OperatorTxn::Unschedule { .. }) => Ticks(0),
     }
 }
 

@@ -66,6 +66,25 @@ fn compares(txn: &Txn) -> [Option<(Key, Expected)>; 3] {
                 None,
             ]
         }
+        Txn::Operators(OperatorTxn::Schedule { .. }) => {
+            [Some((Key::Scheduled, Expected::Absent)), None, None]
+        }
+        Txn::Operators(OperatorTxn::Unschedule { scheduled }) => [
+            Some((Key::Scheduled, Expected::Revision(*scheduled))),
+            None,
+            None,
+        ],
+        Txn::Operators(
+            OperatorTxn::Fire {
+                revision,
+                scheduled,
+                ..
+            },
+        ) => [
+            Some((Key::Leader, Expected::Revision(*revision))),
+            Some((Key::Scheduled, Expected::Revision(*scheduled))),
+            Some((Key::Failover, Expected::Absent)),
+        ],
     }
 }
 
@@ -177,8 +196,14 @@ impl PlainStore {
                 }
             }
             Txn::Lease(LeaseTxn::Release { .. }) => self.delete(Key::Leader),
-            Txn::Sync(SyncTxn::Claim { .. }) => self.put_sync(rt, by, MemberSet::empty()),
-            Txn::Sync(SyncTxn::SetSync { standbys, .. }) => self.put_sync(rt, by, *standbys),
+            Txn::Sync(SyncTxn::Claim { .. }) => self.put_sync(rt, by, MemberSet::empty(), 0),
+            Txn::Sync(
+                SyncTxn::SetSync {
+                    standbys,
+                    quorum,
+                    ..
+                },
+            ) => self.put_sync(rt, by, *standbys, quorum.unwrap_or(0)),
             Txn::Sync(SyncTxn::DropSync { .. }) => self.delete(Key::Sync),
             Txn::Operators(OperatorTxn::SetFailover { failover, ttl }) => {
                 self.put(
@@ -193,14 +218,31 @@ impl PlainStore {
                 let config = config.try_clone().expect(rt, "memory");
                 self.put(rt, Key::Config, Value::Config(config), None);
             }
+            Txn::Operators(OperatorTxn::Schedule { planned }) => {
+                self.put(rt, Key::Scheduled, Value::Scheduled(*planned), None);
+            }
+            Txn::Operators(OperatorTxn::Unschedule { .. }) => self.delete(Key::Scheduled),
+            Txn::Operators(OperatorTxn::Fire { failover, ttl, .. }) => {
+                self.delete(Key::Scheduled);
+                self.put(
+                    rt,
+                    Key::Failover,
+                    Value::Failover(*failover),
+                    Some(until(now, *ttl)),
+                );
+            }
         }
     }
 
-    fn put_sync(&mut self, rt: &impl Abort, leader: MemberId, standbys: MemberSet) {
+    fn put_sync(&mut self, rt: &impl Abort, leader: MemberId, standbys: MemberSet, quorum: u8) {
         self.put(
             rt,
             Key::Sync,
-            Value::Sync(SyncKey { leader, standbys }),
+            Value::Sync(SyncKey {
+                leader,
+                standbys,
+                quorum,
+            }),
             None,
         );
     }

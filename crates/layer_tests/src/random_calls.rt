@@ -9,7 +9,8 @@ use pat_base::{MemberId, MemberSet, Ticks};
 use std::alloc::Global;
 use std::process::Abort;
 use store_keys::{
-    Expected, FailoverKey, HistoryRow, Key, KeyEntry, LeaseTxn, OperatorTxn, SyncTxn, Txn, Value,
+    Expected, FailoverKey, HistoryRow, Key, KeyEntry, LeaseTxn, OperatorTxn, Planned, SyncTxn, Txn,
+    Value,
 };
 
 /// Numbers that follow from a seed.
@@ -84,7 +85,7 @@ fn transaction(
     let ttl = Ticks(draws.below(9));
     let revision = draws.revision(store, now, Key::Leader);
     let sync = draws.expected(store, now, Key::Sync);
-    match draws.below(12) {
+    match draws.below(15) {
         0 => Txn::Touch { info: info(), ttl },
         1 | 2 => Txn::Lease(LeaseTxn::Create {
             info: info(),
@@ -103,23 +104,45 @@ fn transaction(
             revision,
             sync,
             standbys: MemberSet::empty().with(B),
+            quorum: if draws.below(2) == 0 { None } else { Some(1) },
         }),
         8 => Txn::Sync(SyncTxn::DropSync {
             revision,
             sync: draws.revision(store, now, Key::Sync),
         }),
         9 => Txn::Operators(OperatorTxn::SetFailover {
-            failover: FailoverKey {
-                leader: Some(A),
-                candidate: None,
-            },
+            failover: switchover(),
             ttl,
         }),
         10 => Txn::Operators(OperatorTxn::DropFailover { revision }),
+        11 => Txn::Operators(OperatorTxn::Schedule {
+            planned: Planned {
+                leader: A,
+                candidate: None,
+                at: now,
+            },
+        }),
+        12 => Txn::Operators(OperatorTxn::Unschedule {
+            scheduled: draws.revision(store, now, Key::Scheduled),
+        }),
+        13 => Txn::Operators(OperatorTxn::Fire {
+            revision,
+            scheduled: draws.revision(store, now, Key::Scheduled),
+            failover: switchover(),
+            ttl,
+        }),
         _ => Txn::Operators(OperatorTxn::SetConfig {
             revision: draws.revision(store, now, Key::Config),
             config: configuration(rt, alloc, b"{}"),
         }),
+    }
+}
+
+/// A switchover from the first member.
+fn switchover() -> FailoverKey {
+    FailoverKey {
+        leader: Some(A),
+        candidate: None,
     }
 }
 
@@ -134,6 +157,7 @@ fn are_same(told: &Value, wanted: &Value) -> bool {
         (Value::Status(told), Value::Status(wanted)) => told == wanted,
         (Value::History(told), Value::History(wanted)) => told == wanted,
         (Value::Failsafe(told), Value::Failsafe(wanted)) => told == wanted,
+        (Value::Scheduled(told), Value::Scheduled(wanted)) => told == wanted,
         _ => false,
     }
 }

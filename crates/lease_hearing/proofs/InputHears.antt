@@ -68,6 +68,7 @@ leader-by revision (values.Sync key) expiry leased = refl
 leader-by revision (values.Status end) expiry leased = refl
 leader-by revision (values.History row) expiry leased = refl
 leader-by revision (values.Failsafe members) expiry leased = refl
+leader-by revision (values.Scheduled planned) expiry leased = refl
 
 leader-is : (found : Option KeyEntry) → IsLeased found
     → leader_entry_seen (found_by leader_by found) ≡ seen_of (leader_key_of found)
@@ -78,6 +79,7 @@ failsafe-by : (revision : ℕ) (value : Value) (expiry : Option Ticks)
     → failsafe_entry_seen (Some (record { value = value; revision = revision; expiry = expiry }))
     ≡ failsafe_key_of (Some (record { value = value; revision = revision; expiry = expiry }))
 failsafe-by revision (values.Failsafe members) expiry = refl
+failsafe-by revision (values.Scheduled planned) expiry = refl
 failsafe-by revision (values.Leader member) expiry = refl
 failsafe-by revision (values.Config config) expiry = refl
 failsafe-by revision (values.Member info) expiry = refl

@@ -57,6 +57,7 @@ lease-value (values.Sync key) revision expiry kind leased = absurd kind
 lease-value (values.Status end) revision expiry kind leased = absurd kind
 lease-value (values.History row) revision expiry kind leased = absurd kind
 lease-value (values.Failsafe members) revision expiry kind leased = absurd kind
+lease-value (values.Scheduled planned) revision expiry kind leased = absurd kind
 
 abbrev OfKind : Key → Option KeyEntry → Type 0
 OfKind key found = (found_key : KeyEntry) → found ≡ Some found_key → IsOfKind key found_key.value
@@ -84,6 +85,7 @@ set-value (values.Failover key) revision expiry kind = absurd kind
 set-value (values.Sync key) revision expiry kind = absurd kind
 set-value (values.Status end) revision expiry kind = absurd kind
 set-value (values.History row) revision expiry kind = absurd kind
+set-value (values.Scheduled planned) revision expiry kind = absurd kind
 
 failsafe-cases : (found : Option KeyEntry) → OfKind keys.Failsafe found → (None ≡ found) ⊎ IsSet found
 failsafe-cases None kind = inl refl

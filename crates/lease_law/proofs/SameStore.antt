@@ -94,6 +94,9 @@ kept-value now revision (values.History row) expiry =
 kept-value now revision (values.Failsafe members) expiry =
     sym (found_key-none (is_present now expiry)
     (Some (record { value = values.Failsafe members; revision = revision; expiry = expiry })) refl)
+kept-value now revision (values.Scheduled planned) expiry =
+    sym (found_key-none (is_present now expiry)
+    (Some (record { value = values.Scheduled planned; revision = revision; expiry = expiry })) refl)
 
 kept-leader : (now : ℕ) (found : Option KeyEntry)
     → leader_kept now (leader_key_of found) ≡ leader_key_of (present now found)
@@ -125,6 +128,7 @@ extended-value now revision ttl old (values.Sync key) expiry = refl
 extended-value now revision ttl old (values.Status end) expiry = refl
 extended-value now revision ttl old (values.History row) expiry = refl
 extended-value now revision ttl old (values.Failsafe members) expiry = refl
+extended-value now revision ttl old (values.Scheduled planned) expiry = refl
 
 extended-leader : (now revision ttl : ℕ) (found : Option KeyEntry)
     → extended_by now revision ttl (leader_key_of found) ≡ leader_key_of (held_renewed revision (now + ttl) found)

@@ -230,6 +230,8 @@ fit by (txns.Lease (lease_txns.Release revision)) = (refl, tt)
 fit by (txns.Sync (sync_txns.DropSync revision sync)) = (refl, tt)
 fit by (txns.Operators (operator_txns.SetFailover failover ttl)) = ((tt, refl), tt)
 fit by (txns.Operators (operator_txns.DropFailover revision)) = (refl, tt)
+fit by (txns.Operators (operator_txns.Unschedule scheduled)) = (refl, tt)
+fit by (txns.Operators (operator_txns.Fire revision scheduled failover ttl)) = ((tt, refl), (refl, tt))
 fit by _ = (tt, tt)
 
 -- a granted transaction keeps what holds of the pairs of a store

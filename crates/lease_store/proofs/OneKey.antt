@@ -1,5 +1,5 @@
 -- What a granted transaction leaves at one key, without the others.
-use Rattle.std.proofs.Common.{◌≡◌, ℕ, ◌+◌, ◌++◌, List, [], ◌∷◌, Option, Some, None, refl, sym, ap, ◌∙◌, cond, Bool, true, false, not}
+use Rattle.std.proofs.Common.{◌≡◌, ℕ, ◌+◌, ◌++◌, List, [], ◌∷◌, Option, Some, None, unwrap_or, refl, sym, ap, ◌∙◌, cond, Bool, true, false, not}
 use Rattle.std.specs.Ordering.{eq_by_cmp}
 use Rattle.std.specs.FinMap.{find}
 use Rattle.pat_base.specs.declared.lsn.Lsn.{Lsn}
@@ -178,9 +178,9 @@ find_failsafe_after store now by txn =
 -- ---- the sync key
 abbrev pub sync_after : ℕ → MemberId → Txn → Option KeyEntry → Option KeyEntry
 sync_after revision by (txns.Sync (sync_txns.Claim compared sync)) found =
-    Some (record { value = sync_value by nobody; revision = revision; expiry = None })
-sync_after revision by (txns.Sync (sync_txns.SetSync compared sync standbys)) found =
-    Some (record { value = sync_value by standbys; revision = revision; expiry = None })
+    Some (record { value = sync_value by nobody 0; revision = revision; expiry = None })
+sync_after revision by (txns.Sync (sync_txns.SetSync compared sync standbys quorum)) found =
+    Some (record { value = sync_value by standbys (unwrap_or quorum 0); revision = revision; expiry = None })
 sync_after revision by (txns.Sync (sync_txns.DropSync compared sync)) found = None
 sync_after revision by _ found = found
 

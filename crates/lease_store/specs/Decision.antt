@@ -30,7 +30,8 @@ lease_compares (lease_txns.Release revision) = (keys.Leader, Revision revision) 
 -- a transaction on the sync key, of a leader with the key at this revision
 abbrev pub sync_compares : SyncTxn → List (Key × Expected)
 sync_compares (sync_txns.Claim revision sync) = (keys.Leader, Revision revision) ∷ (keys.Sync, sync) ∷ []
-sync_compares (sync_txns.SetSync revision sync standbys) = (keys.Leader, Revision revision) ∷ (keys.Sync, sync) ∷ []
+sync_compares (sync_txns.SetSync revision sync standbys quorum) =
+    (keys.Leader, Revision revision) ∷ (keys.Sync, sync) ∷ []
 sync_compares (sync_txns.DropSync revision sync) = (keys.Leader, Revision revision) ∷ (keys.Sync, Revision sync) ∷ []
 
 -- one for operators
@@ -38,6 +39,10 @@ abbrev pub operator_compares : OperatorTxn → List (Key × Expected)
 operator_compares (operator_txns.SetFailover failover ttl) = (keys.Failover, Absent) ∷ []
 operator_compares (operator_txns.DropFailover revision) = (keys.Leader, Revision revision) ∷ []
 operator_compares (operator_txns.SetConfig revision config) = (keys.Config, Revision revision) ∷ []
+operator_compares (operator_txns.Schedule planned) = (keys.Scheduled, Absent) ∷ []
+operator_compares (operator_txns.Unschedule scheduled) = (keys.Scheduled, Revision scheduled) ∷ []
+operator_compares (operator_txns.Fire revision scheduled failover ttl) =
+    (keys.Leader, Revision revision) ∷ (keys.Scheduled, Revision scheduled) ∷ (keys.Failover, Absent) ∷ []
 
 -- what a transaction compares, in this order
 abbrev pub compares_of : Txn → List (Key × Expected)

@@ -1,5 +1,5 @@
 -- What a granted transaction writes.
-use Rattle.std.specs.Prelude.{ℕ, ◌+◌, ◌++◌, max, Bool, true, false, List, [], ◌∷◌, Option, Some, None, not, filter}
+use Rattle.std.specs.Prelude.{ℕ, ◌+◌, ◌++◌, max, Bool, true, false, List, [], ◌∷◌, Option, Some, None, unwrap_or, not, filter}
 use Rattle.std.specs.FinMap.{find, put}
 use Rattle.std.specs.Ordering.{eq_by_cmp}
 use Rattle.pat_base.specs.declared.ticks.Ticks.{Ticks}
@@ -45,9 +45,10 @@ abbrev pub failsafe_writes : Option MemberSet → List Write
 failsafe_writes None = []
 failsafe_writes (Some members) = Sets keys.Failsafe (values.Failsafe members) ∷ []
 
--- the sync key of a leader with these standbys
-abbrev pub sync_value : MemberId → MemberSet → Value
-sync_value leader standbys = values.Sync (record { leader = leader; standbys = standbys })
+-- the sync key of a leader with these standbys, of whom so many may lack a commit
+abbrev pub sync_value : MemberId → MemberSet → ℕ → Value
+sync_value leader standbys quorum =
+    values.Sync (record { leader = leader; standbys = standbys; quorum = quorum })
 
 -- no standby
 abbrev pub nobody : MemberSet
@@ -64,8 +65,9 @@ lease_writes by (lease_txns.Release revision) = Deletes keys.Leader ∷ []
 
 -- one on the sync key
 abbrev pub sync_writes : MemberId → SyncTxn → List Write
-sync_writes by (sync_txns.Claim revision sync) = Sets keys.Sync (sync_value by nobody) ∷ []
-sync_writes by (sync_txns.SetSync revision sync standbys) = Sets keys.Sync (sync_value by standbys) ∷ []
+sync_writes by (sync_txns.Claim revision sync) = Sets keys.Sync (sync_value by nobody 0) ∷ []
+sync_writes by (sync_txns.SetSync revision sync standbys quorum) =
+    Sets keys.Sync (sync_value by standbys (unwrap_or quorum 0)) ∷ []
 sync_writes by (sync_txns.DropSync revision sync) = Deletes keys.Sync ∷ []
 
 -- one for operators
@@ -74,6 +76,10 @@ operator_writes (operator_txns.SetFailover failover ttl) =
     Leases keys.Failover (values.Failover failover) ttl ∷ []
 operator_writes (operator_txns.DropFailover revision) = Deletes keys.Failover ∷ []
 operator_writes (operator_txns.SetConfig revision config) = Sets keys.Config (values.Config config) ∷ []
+operator_writes (operator_txns.Schedule planned) = Sets keys.Scheduled (values.Scheduled planned) ∷ []
+operator_writes (operator_txns.Unschedule scheduled) = Deletes keys.Scheduled ∷ []
+operator_writes (operator_txns.Fire revision scheduled failover ttl) =
+    Leases keys.Failover (values.Failover failover) ttl ∷ Deletes keys.Scheduled ∷ []
 
 -- what a transaction of a member writes
 abbrev pub writes_of : MemberId → Txn → List Write
@@ -97,6 +103,7 @@ lease_ttl (lease_txns.Release revision) = 0
 -- of one for operators
 abbrev pub operator_ttl : OperatorTxn → ℕ
 operator_ttl (operator_txns.SetFailover failover ttl) = ttl.0
+operator_ttl (operator_txns.Fire revision scheduled failover ttl) = ttl.0
 operator_ttl _ = 0
 
 -- of any
@@ -148,7 +155,14 @@ abbrev pub deleted_key : Txn → Option Key
 deleted_key (txns.Lease (lease_txns.Release revision)) = Some keys.Leader
 deleted_key (txns.Sync (sync_txns.DropSync revision sync)) = Some keys.Sync
 deleted_key (txns.Operators (operator_txns.DropFailover revision)) = Some keys.Failover
+deleted_key (txns.Operators (operator_txns.Unschedule scheduled)) = Some keys.Scheduled
+deleted_key (txns.Operators (operator_txns.Fire revision scheduled failover ttl)) = Some keys.Scheduled
 deleted_key _ = None
+
+-- the pairs without a key, if there is one to take out
+abbrev pub without_if : Option Key → List (Key × KeyEntry) → List (Key × KeyEntry)
+without_if None pairs = pairs
+without_if (Some key) pairs = without key pairs
 
 -- an entry whose lease is extended until a moment, where there is one
 abbrev pub extended_put : ℕ → ℕ → Key → Option KeyEntry → List (Key × KeyEntry)

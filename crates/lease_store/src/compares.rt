@@ -87,6 +87,20 @@ fn compare_sync(
     compare_key(entries, now, Key::Sync, sync)
 }
 
+/// Refuses a leader key and then a schedule that aren't of these revisions, and then a failover key that is present.
+fn compare_schedule(
+    entries: &[(Key, Shared<KeyEntry>)],
+    now: Ticks,
+    revision: u64,
+    scheduled: u64,
+) -> Result<(), StoreRefusal>
+    ensures { result ≡ check_result_of (decision_by entries.now now.0 ((Key.Leader, Expected.Revision revision) ∷ (Key.Scheduled, Expected.Revision scheduled) ∷ (Key.Failover, Expected.Absent) ∷ [])) }
+{
+    compare_key(entries, now, Key::Leader, Expected::Revision(revision))?;
+    compare_key(entries, now, Key::Scheduled, Expected::Revision(scheduled))?;
+    compare_key(entries, now, Key::Failover, Expected::Absent)
+}
+
 /// Refuses a key that isn't as it was read, where it was.
 fn compare_read(
     entries: &[(Key, Shared<KeyEntry>)],
@@ -177,5 +191,14 @@ fn check_operator(
         OperatorTxn::SetConfig { revision, .. } => {
             compare_key(entries, now, Key::Config, Expected::Revision(*revision))
         }
+        OperatorTxn::Schedule { .. } => compare_key(entries, now, Key::Scheduled, Expected::Absent),
+        OperatorTxn::Unschedule { scheduled } => {
+            compare_key(entries, now, Key::Scheduled, Expected::Revision(*scheduled))
+        }
+        OperatorTxn::Fire {
+            revision,
+            scheduled,
+            ..
+        } => compare_schedule(entries, now, *revision, *scheduled),
     }
 }

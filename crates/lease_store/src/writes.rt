@@ -4,7 +4,7 @@ ghost use Rattle.std.specs.FinMap.{find};
 ghost use Rattle.lease_store.specs.Expiries.{AreExpiriesOf};
 ghost use Rattle.lease_store.specs.Kept.{IsKept};
 ghost use Rattle.lease_store.specs.KeyOrder.{key_cmp};
-ghost use Rattle.lease_store.specs.Writes.{Leases as LeasesKey, Extends, Sets, writes_of, pairs_over, puts_of, puts_of_all, deleted_key, extended_expiry, ttl_of, lease_ttl, operator_ttl, lease_writes, sync_writes, operator_writes, is_lease, status_writes, row_writes, failsafe_writes, sync_value};
+ghost use Rattle.lease_store.specs.Writes.{Leases as LeasesKey, Extends, Sets, writes_of, pairs_over, puts_of, puts_of_all, deleted_key, without_if, extended_expiry, ttl_of, lease_ttl, operator_ttl, lease_writes, sync_writes, operator_writes, is_lease, status_writes, row_writes, failsafe_writes, sync_value};
 ghost use Rattle.pat_base.specs.Moments.{latest};
 
 use crate::compares::key_entry_at;
@@ -45,13 +45,17 @@ fn deleted_key(txn: &Txn) -> Option<Key>
         Txn::Lease(LeaseTxn::Release { .. }) => Some(Key::Leader),
         Txn::Sync(SyncTxn::DropSync { .. }) => Some(Key::Sync),
         Txn::Operators(OperatorTxn::DropFailover { .. }) => Some(Key::Failover),
+        Txn::Operators(OperatorTxn::Unschedule { .. } | OperatorTxn::Fire { .. }) => {
+            Some(Key::Scheduled)
+        }
         Txn::Touch { .. }
         | Txn::Lease(LeaseTxn::Create { .. })
         | Txn::Lease(LeaseTxn::Renew { .. })
         | Txn::Sync(SyncTxn::Claim { .. })
         | Txn::Sync(SyncTxn::SetSync { .. })
         | Txn::Operators(OperatorTxn::SetFailover { .. })
-        | Txn::Operators(OperatorTxn::SetConfig { .. }) => None,
+        | Txn::Operators(OperatorTxn::SetConfig { .. })
+        | Txn::Operators(OperatorTxn::Schedule { .. }) => None,
     }
 }
 
@@ -73,16 +77,20 @@ pub fn grant(
     ensures expiries { AreExpiriesOf entries.new.items expiries.new.items }
     ensures err { OnErr result (entries.new.items ≡ entries.old.items) }
 {
-    match deleted_key(txn) {
-        Some(key) => {
-            delete(entries, expiries, key);
-            Ok(())
-        }
-        None => {
-            let puts = puts_of(entries, stamp, by, txn)?;
-            put_all(entries, expiries, puts)?;
-            Ok(())
-        }
+    let puts = puts_of(entries, stamp, by, txn)?;
+    put_all(entries, expiries, puts)?;
+    take_out(entries, expiries, deleted_key(txn));
+    Ok(())
+}
+
+/// Holds nothing at a key from now on, if there is one to take out.
+fn take_out(entries: &mut Entries, expiries: &mut Expiries, key: Option<Key>)
+    requires expiries { AreExpiriesOf entries.old.items expiries.old.items }
+    ensures entries { entries.new.items ≡ without_if key entries.old.items }
+    ensures expiries { AreExpiriesOf entries.new.items expiries.new.items }
+{
+    if let Some(key) = key {
+        delete(entries, expiries, key);
     }
 }
 
@@ -168,8 +176,12 @@ fn add_sync_puts(
     ensures { OnOk result ((pairs : List (Key × KeyEntry)) → puts.new.items ≡ puts_of_all stamp.revision stamp.at.0 pairs (sync_writes by txn.now)) }
 {
     match txn {
-        SyncTxn::Claim { .. } => set_sync(puts, stamp, by, MemberSet::empty()),
-        SyncTxn::SetSync { standbys, .. } => set_sync(puts, stamp, by, *standbys),
+        SyncTxn::Claim { .. } => set_sync(puts, stamp, by, MemberSet::empty(), 0),
+        SyncTxn::SetSync {
+            standbys,
+            quorum,
+            ..
+        } => set_sync(puts, stamp, by, *standbys, quorum.unwrap_or(0)),
         SyncTxn::DropSync { .. } => Ok(()),
     }
 }
@@ -185,11 +197,14 @@ fn add_operator_puts(
     ensures { OnOk result ((pairs : List (Key × KeyEntry)) → puts.new.items ≡ puts_of_all stamp.revision stamp.at.0 pairs (operator_writes txn.now)) }
 {
     match txn {
-        OperatorTxn::SetFailover { failover, ttl } => {
+        OperatorTxn::SetFailover { failover, ttl } | OperatorTxn::Fire { failover, ttl, .. } => {
             lease(puts, stamp, Key::Failover, Value::Failover(*failover), *ttl)
         }
-        OperatorTxn::DropFailover { .. } => Ok(()),
+        OperatorTxn::DropFailover { .. } | OperatorTxn::Unschedule { .. } => Ok(()),
         OperatorTxn::SetConfig { config, .. } => set_config(puts, stamp, config),
+        OperatorTxn::Schedule { planned } => {
+            set(puts, stamp, Key::Scheduled, Value::Scheduled(*planned))
+        }
     }
 }
 
@@ -296,14 +311,19 @@ fn set_sync(
     stamp: Stamp,
     leader: MemberId,
     standbys: MemberSet,
+    quorum: u8,
 ) -> Result<(), AllocError>
-    ensures { OnOk result (puts.new.items ≡ puts.old.items ++ puts_of stamp.revision stamp.at.0 [] (Sets Key.Sync (sync_value leader standbys))) }
+    ensures { OnOk result (puts.new.items ≡ puts.old.items ++ puts_of stamp.revision stamp.at.0 [] (Sets Key.Sync (sync_value leader standbys quorum))) }
 {
     set(
         puts,
         stamp,
         Key::Sync,
-        Value::Sync(SyncKey { leader, standbys }),
+        Value::Sync(SyncKey {
+            leader,
+            standbys,
+            quorum,
+        }),
     )
 }
 

@@ -6,7 +6,7 @@ use Rattle.pat_base.specs.LsnText.{lsn_text}
 use Rattle.pat_base.specs.Name.{name_bytes}
 use Rattle.pat_base.specs.declared.name.Name.{Name}
 use Rattle.pat_base.specs.declared.server_state.Required.{Required}
-use Rattle.pat_base.specs.declared.server_state.Required.TheVariants.{Nobody, AnyOne, All}
+use Rattle.pat_base.specs.declared.server_state.Required.TheVariants.{Nobody, AnyOne, All, AtLeast}
 use Rattle.script_words.specs.Numbers.{number}
 use Rattle.script_words.proofs.NumberLaws.{number-decimal}
 use Rattle.store_keys.specs.declared.txn.Txn.{Txn}
@@ -88,6 +88,16 @@ worded : (tick : ℕ) (name : Name) (words text : List ℕ) (happening : Happeni
 worded tick name words text happening fits e = line-of-name tick name (words ++ text)
     (words ++ (text ++ 10 ∷ [])) happening fits (sym (append_assoc words text (10 ∷ []))) e
 
+-- words, a text, and another behind it
+worded-on : (tick : ℕ) (name : Name) (words text behind : List ℕ) (happening : Happening) → tick < 2 ^ 64
+    → named_of (words ++ (text ++ behind)) ≡ Some happening
+    → IsReadAs (decimal tick ++ (32 ∷ (name_bytes name ++ (32 ∷ (words ++ (text ++ (behind ++ 10 ∷ [])))))))
+    (one_told tick name happening)
+worded-on tick name words text behind happening fits e = line-of-name tick name (words ++ (text ++ behind))
+    (words ++ (text ++ (behind ++ 10 ∷ []))) happening fits
+    (ap (λ t. words ++ t) (sym (append_assoc text behind (10 ∷ [])))
+    ∙ sym (append_assoc words (text ++ behind) (10 ∷ []))) e
+
 agent-read : (tick : ℕ) (event : AgentEvent) → tick < 2 ^ 64
     → IsReadAgain (agent_line tick event) (told_in_agent tick event)
 agent-read tick (agents.Suspended agent) fits =
@@ -157,12 +167,20 @@ write-read tick name (txns.Lease (lease_txns.Release revision)) standbys fits = 
     (codes "releases the leader key") happenings.ReleasesKey fits (form-read happenings.ReleasesKey [] refl refl)
 write-read tick name (txns.Sync (sync_txns.Claim revision sync)) standbys fits = plain tick name
     (codes "claims the sync key") happenings.ClaimsSync fits (form-read happenings.ClaimsSync [] refl refl)
-write-read tick name (txns.Sync (sync_txns.SetSync revision sync members)) standbys fits =
+write-read tick name (txns.Sync (sync_txns.SetSync revision sync members None)) standbys fits =
     worded tick name (codes "publishes sync standbys ") (listed (codes "none") standbys) happenings.PublishesSync fits
     (form-read happenings.PublishesSync (listed (codes "none") standbys) refl refl)
+write-read tick name (txns.Sync (sync_txns.SetSync revision sync members (Some may_lack))) standbys fits =
+    worded-on tick name (codes "publishes sync standbys ") (listed (codes "none") standbys)
+    (codes " quorum " ++ decimal may_lack) happenings.PublishesSync fits
+    (form-read happenings.PublishesSync (listed (codes "none") standbys ++ (codes " quorum " ++ decimal may_lack))
+    refl refl)
 write-read tick name (txns.Sync (sync_txns.DropSync revision sync)) standbys fits = plain tick name
     (codes "removes the sync key") happenings.RemovesSync fits (form-read happenings.RemovesSync [] refl refl)
 write-read tick name (txns.Operators (operator_txns.SetFailover failover ttl)) standbys fits = plain tick name
+    (codes "writes the failover key") happenings.WritesFailover fits (form-read happenings.WritesFailover [] refl refl)
+write-read tick name (txns.Operators (operator_txns.Fire revision scheduled failover ttl)) standbys fits =
+    plain tick name
     (codes "writes the failover key") happenings.WritesFailover fits (form-read happenings.WritesFailover [] refl refl)
 write-read tick name (txns.Operators (operator_txns.DropFailover revision)) standbys fits = plain tick name
     (codes "clears the failover key") happenings.ClearsFailover fits (form-read happenings.ClearsFailover [] refl refl)
@@ -226,6 +244,10 @@ required-read tick name AnyOne names fits = worded tick name (codes "requires ")
 required-read tick name (All members) names fits =
     worded tick name (codes "requires ") (listed (codes "no standby") names) happenings.Requires fits
     (form-read happenings.Requires (listed (codes "no standby") names) refl refl)
+required-read tick name (AtLeast number of) names fits =
+    worded-on tick name (codes "requires ") (decimal number) (codes " of " ++ listed (codes "no standby") names)
+    happenings.Requires fits
+    (form-read happenings.Requires (decimal number ++ (codes " of " ++ listed (codes "no standby") names)) refl refl)
 
 -- a line of the key store that begins with no name
 expires-line : (tick : ℕ) (holder : Name) → tick < 2 ^ 64

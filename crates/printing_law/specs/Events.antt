@@ -39,10 +39,12 @@ abbrev pub told_in_write : ℕ → Name → Txn → Option Told
 told_in_write tick name (txns.Lease (lease_txns.Create info ttl failsafe sync)) = of_one tick name happenings.TakesKey
 told_in_write tick name (txns.Lease (lease_txns.Release revision)) = of_one tick name happenings.ReleasesKey
 told_in_write tick name (txns.Sync (sync_txns.Claim revision sync)) = of_one tick name happenings.ClaimsSync
-told_in_write tick name (txns.Sync (sync_txns.SetSync revision sync members)) =
+told_in_write tick name (txns.Sync (sync_txns.SetSync revision sync members may_lack)) =
     of_one tick name happenings.PublishesSync
 told_in_write tick name (txns.Sync (sync_txns.DropSync revision sync)) = of_one tick name happenings.RemovesSync
 told_in_write tick name (txns.Operators (operator_txns.SetFailover failover ttl)) =
+    of_one tick name happenings.WritesFailover
+told_in_write tick name (txns.Operators (operator_txns.Fire revision scheduled failover ttl)) =
     of_one tick name happenings.WritesFailover
 told_in_write tick name (txns.Operators (operator_txns.DropFailover revision)) =
     of_one tick name happenings.ClearsFailover

@@ -15,4 +15,4 @@ pub use config_value::ConfigValue;
 pub use key::Key;
 pub use txn::{Expected, LeaseTxn, OperatorTxn, SyncTxn, Txn};
 pub use txn_kind::TxnKind;
-pub use value::{FailoverKey, HistoryRow, KeyEntry, MemberInfo, SyncKey, Value};
+pub use value::{FailoverKey, HistoryRow, KeyEntry, MemberInfo, Planned, SyncKey, Value};

@@ -1,6 +1,6 @@
 //! Transactions.
 
-use crate::{ConfigValue, FailoverKey, HistoryRow, MemberInfo};
+use crate::{ConfigValue, FailoverKey, HistoryRow, MemberInfo, Planned};
 use pat_base::{Lsn, MemberSet, Ticks};
 use std::fmt;
 
@@ -80,11 +80,13 @@ pub enum SyncTxn {
         revision: u64,
         sync: Expected,
     },
-    /// The leader names the synchronous standbys. The sync key is as it was read.
+    /// The leader names the synchronous standbys, and with quorum commit how many of them may lack a commit that was
+    /// acknowledged. The sync key is as it was read.
     SetSync {
         revision: u64,
         sync: Expected,
         standbys: MemberSet,
+        quorum: Option<u8>,
     },
     /// The leader removes the sync key, which is of the revision `sync`: synchronous replication is off.
     DropSync {
@@ -93,13 +95,37 @@ pub enum SyncTxn {
     },
 }
 
-/// What an operator asks for by the key store, and that it is done.
+/// What an operator asks for by the key store, at once or later, and that it is done.
 #[derive(Drop)]
 pub enum OperatorTxn {
     /// A failover is asked for, where none is: the failover key is absent.
-    SetFailover { failover: FailoverKey, ttl: Ticks },
+    SetFailover {
+        failover: FailoverKey,
+        ttl: Ticks,
+    },
     /// The leader clears the failover that was asked for.
-    DropFailover { revision: u64 },
+    DropFailover {
+        revision: u64,
+    },
     /// The configuration changes, where nobody else changed it.
-    SetConfig { revision: u64, config: ConfigValue },
+    SetConfig {
+        revision: u64,
+        config: ConfigValue,
+    },
+    /// A switchover is to be asked for later, where none is yet.
+    Schedule {
+        planned: Planned,
+    },
+    /// The scheduled switchover, which is of the revision `scheduled`, isn't wanted any more.
+    Unschedule {
+        scheduled: u64,
+    },
+    /// The leader asks for the switchover that was scheduled, which is of the revision `scheduled`, where no failover is
+    /// asked for: the failover key takes its place.
+    Fire {
+        revision: u64,
+        scheduled: u64,
+        failover: FailoverKey,
+        ttl: Ticks,
+    },
 }

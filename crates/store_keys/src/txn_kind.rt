@@ -1,5 +1,6 @@
 //! Kinds of transactions.
 ghost use Rattle.std.specs.Prelude.{◌≡◌};
+ghost use Rattle.store_keys.specs.TxnKinds.{operator_kind};
 ghost use Rattle.store_keys.specs.Words.{kind_text};
 
 use crate::{LeaseTxn, OperatorTxn, SyncTxn, Txn};
@@ -20,9 +21,9 @@ pub enum TxnKind {
     Claim,
     /// A new sync key, or none: `SyncTxn::SetSync` and `SyncTxn::DropSync`.
     SyncWrite,
-    /// `OperatorTxn::SetFailover`.
+    /// A new failover key, or one to come: `OperatorTxn::SetFailover`, `OperatorTxn::Schedule` and `OperatorTxn::Fire`.
     FailoverWrite,
-    /// `OperatorTxn::DropFailover`.
+    /// `OperatorTxn::DropFailover` and `OperatorTxn::Unschedule`.
     FailoverRemoval,
     /// `OperatorTxn::SetConfig`.
     ConfigurationWrite,
@@ -69,11 +70,24 @@ impl Txn {
             Txn::Lease(LeaseTxn::Renew { .. }) => TxnKind::Renewal,
             Txn::Lease(LeaseTxn::Release { .. }) => TxnKind::Release,
             Txn::Sync(SyncTxn::Claim { .. }) => TxnKind::Claim,
-            Txn::Sync(SyncTxn::SetSync { .. }) | Txn::Sync(SyncTxn::DropSync { .. }) =>
-                TxnKind::SyncWrite,
-            Txn::Operators(OperatorTxn::SetFailover { .. }) => TxnKind::FailoverWrite,
-            Txn::Operators(OperatorTxn::DropFailover { .. }) => TxnKind::FailoverRemoval,
-            Txn::Operators(OperatorTxn::SetConfig { .. }) => TxnKind::ConfigurationWrite,
+            Txn::Sync(SyncTxn::SetSync { .. }) | Txn::Sync(SyncTxn::DropSync { .. }) => {
+                TxnKind::SyncWrite
+            }
+            Txn::Operators(txn) => operator_kind(txn),
         }
+    }
+}
+
+/// The kind of what operators ask for.
+fn operator_kind(txn: &OperatorTxn) -> TxnKind
+    ensures { result ≡ operator_kind txn.now }
+{
+    match txn {
+        OperatorTxn::SetFailover { .. } | OperatorTxn::Schedule { .. } | OperatorTxn::Fire { .. } =>
+            { TxnKind::FailoverWrite }
+        OperatorTxn::DropFailover { .. } | OperatorTxn::Unschedule { .. } => {
+            TxnKind::FailoverRemoval
+        }
+        OperatorTxn::SetConfig { .. } => TxnKind::ConfigurationWrite,
     }
 }

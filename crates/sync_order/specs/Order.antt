@@ -123,7 +123,7 @@ pub record KeepsOrder (start : Facts) (noted : List Event → ℕ → ℕ) (book
       → IsNamed (facts_over start front).keys by.id.number
   -- who asked to publish standbys did so in order
   pub publishes : (front back : List Event) (tick : Ticks) (number incarnation sequence leader : ℕ)
-      (by : Member) (to : LinkEnd) (sync : Expected) (standbys : MemberSet)
+      (by : Member) (to : LinkEnd) (sync : Expected) (standbys : MemberSet) (may_lack : Option ℕ)
       → front ++ record {
         tick = tick;
         kind = kinds.Message (messages.Sent number (record {
@@ -131,7 +131,7 @@ pub record KeepsOrder (start : Facts) (noted : List Event → ℕ → ℕ) (book
           to = to;
           incarnation = incarnation;
           sequence = sequence;
-          body = bodies.Request (txns.Sync (sync_txns.SetSync leader sync standbys));
+          body = bodies.Request (txns.Sync (sync_txns.SetSync leader sync standbys may_lack));
         }));
       } ∷ back
       ≡ book

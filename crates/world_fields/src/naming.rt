@@ -17,7 +17,7 @@ pub fn required_names(
     ensures { IfOk result (λ names. names ≡ required_names members.now required) }
 {
     match required {
-        Required::All(set) => Names::of(alloc, set, members),
+        Required::All(set) | Required::AtLeast { of: set, .. } => Names::of(alloc, set, members),
         _ => Ok(Names::none(alloc)),
     }
 }

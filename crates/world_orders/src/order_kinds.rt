@@ -133,6 +133,13 @@ fn is_same_required(first: Required, second: Required) -> bool
         (Required::Nobody, Required::Nobody) => true,
         (Required::AnyOne, Required::AnyOne) => true,
         (Required::All(first), Required::All(second)) => first.bits == second.bits,
+        (
+            Required::AtLeast { number, of: first },
+            Required::AtLeast {
+                number: other,
+                of: second,
+            },
+        ) => number == other && first.bits == second.bits,
         _ => false,
     }
 }
