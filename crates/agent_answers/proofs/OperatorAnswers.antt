@@ -13,6 +13,7 @@ use Rattle.store_keys.specs.declared.action.OperatorRequest.TheVariants as reque
 use Rattle.lease_store.specs.declared.granted.Granted.{Granted}
 use Rattle.store_keys.specs.declared.txn.Txn.{Txn}
 use Rattle.store_keys.specs.declared.txn.Txn.TheVariants as txns
+use Rattle.store_keys.specs.declared.txn.OperatorTxn.TheVariants as operator_txns
 use Rattle.store_keys.specs.declared.value.FailoverKey.{FailoverKey}
 use Rattle.wal_model.specs.declared.entry.HistoryPoint.{HistoryPoint}
 use Rattle.pg_model.specs.Running.{is_primary}
@@ -33,6 +34,9 @@ use Rattle.agent_model.specs.declared.operating.Told.{Told}
 use Rattle.agent_model.specs.declared.operating.Told.TheVariants as tolds
 use Rattle.agent_model.specs.declared.output.Output.{Output}
 use Rattle.agent_model.specs.declared.output.Output.TheVariants as outputs
+use Rattle.agent_model.specs.declared.output.Outgoing.TheVariants as outgoing
+use Rattle.agent_model.specs.declared.output.ServerOrder.TheVariants as orders
+use Rattle.agent_model.specs.declared.output.Telling.TheVariants as tellings
 use Rattle.agent_model.specs.declared.output.Target.TheVariants as targets
 use Rattle.agent_model.specs.declared.knowledge.PendingQuestion.{PendingQuestion}
 use Rattle.agent_model.specs.declared.who.Who.{Who}
@@ -84,7 +88,7 @@ tells : (now : Ticks) (heard : Heard) (o b : Outcome) (waiting : Operating) (tol
     → b.knows.operating ≡ Some waiting → IsReason now heard o waiting told
     → Owed now heard o (answering waiting.request told b)
 tells now heard o b waiting told untold is reason = Owed.Tells (waiting.request, told)
-    (told-more b.outputs (outputs.Told waiting.request told)
+    (told-more b.outputs (outputs.Tell (tellings.Told waiting.request told))
     ∙ ap (λ (l : List (ℕ × Told)). l ++ (waiting.request, told) ∷ []) untold.0)
     (record {
       waiting = waiting;
@@ -225,7 +229,9 @@ asks-store : (now : Ticks) (action : OperatorAction) (o b : Outcome) (operation 
 asks-store now action o b operation txn untold seen wish =
     let after : Outcome = operating now action.request operation (bodies.Request txn) b in record {
       answers = subst (AnswersOneAtMost now (HearsOperator action) o after)
-          (sym (told-same b.outputs (outputs.Send targets.Store _ (bodies.Request txn)) tt ∙ untold.0)) tt;
+          (sym (told-same b.outputs (outputs.Message (outgoing.Send targets.Store _ (bodies.Request txn))) tt
+          ∙ untold.0))
+          tt;
       waits = λ waiting is. inr (subst (IsAskedFor now action o after) (some-is _ waiting is) (record {
         request = refl;
         since = refl;
@@ -238,12 +244,13 @@ asks-store now action o b operation txn untold seen wish =
 
 done-at-once : (now : Ticks) (action : OperatorAction) (o b x : Outcome) (outs : List Output) (told : Told)
     → Untold o b → told_in outs ≡ told_in b.outputs → x.knows.operating ≡ b.knows.operating
-    → x.outputs ≡ with_output (outputs.Told action.request told) outs → IsDoneIn x.outputs action.asked told
+    → x.outputs ≡ with_output (outputs.Tell (tellings.Told action.request told)) outs
+    → IsDoneIn x.outputs action.asked told
     → IsRight now (HearsOperator action) o x
 done-at-once now action o b x outs told untold silent waits are done = record {
   answers = subst (AnswersOneAtMost now (HearsOperator action) o x)
       (sym (ap (λ (l : List Output). told_in l) are
-      ∙ (told-more outs (outputs.Told action.request told)
+      ∙ (told-more outs (outputs.Tell (tellings.Told action.request told))
       ∙ ap (λ (l : List (ℕ × Told)). l ++ (action.request, told) ∷ []) (silent ∙ untold.0))))
       (inr (refl, done));
   waits = λ waiting is. inl (sym untold.1 ∙ (sym waits ∙ is));
@@ -253,18 +260,24 @@ does : (now : Ticks) (action : OperatorAction) (asked : OperatorRequest) (o b : 
     → b.knows.seen ≡ o.knows.seen → action.asked ≡ asked
     → IsRight now (HearsOperator action) o (operated now action.request asked b)
 does now action (requests.Failover kind failover) o b untold seen is = asks-store now action o b (FailingOver kind)
-    (txns.SetFailover failover (lease_span b.knows.settings)) untold seen (rw is (refl, (_, refl)))
+    (txns.Operators (operator_txns.SetFailover failover (lease_span b.knows.settings))) untold seen
+    (rw is (refl, (_, refl)))
 does now action (requests.Configuration config) o b untold seen is = asks-store now action o b Configuring
-    (txns.SetConfig (config_revision b.knows.seen) config) untold seen (rw is (refl, (_, refl)))
+    (txns.Operators (operator_txns.SetConfig (config_revision b.knows.seen) config)) untold seen
+    (rw is (refl, (_, refl)))
 does now action requests.Restart o b untold seen is =
-    let output : Output = outputs.Restart (is_primary b.machine.server.state) in
+    let output : Output = outputs.Server (orders.Restart (is_primary b.machine.server.state)) in
     done-at-once now action o b (operated now action.request requests.Restart b) (with_output output b.outputs)
     (tolds.Text ok texts.Restarted) untold (told-same b.outputs output tt) refl refl
     (rw is ((_, Contains-append_left _ _ output (Contains-push b.outputs output)), refl))
 does now action requests.Reinit o b untold seen is =
-    done-at-once now action o b (operated now action.request requests.Reinit b) (with_output outputs.Wipe b.outputs)
-    (tolds.Text ok texts.ReinitializeStarted) untold (told-same b.outputs outputs.Wipe tt) refl refl
-    (rw is (Contains-append_left _ _ outputs.Wipe (Contains-push b.outputs outputs.Wipe), refl))
+    done-at-once now action o b (operated now action.request requests.Reinit b)
+    (with_output (outputs.Server orders.Wipe) b.outputs)
+    (tolds.Text ok texts.ReinitializeStarted) untold (told-same b.outputs (outputs.Server orders.Wipe) tt) refl refl
+    (rw is (
+      Contains-append_left _ _ (outputs.Server orders.Wipe) (Contains-push b.outputs (outputs.Server orders.Wipe)),
+      refl,
+    ))
 does now action (requests.Hold from ttl) o b untold seen is =
     if-cases (λ (x : Outcome). IsRight now (HearsOperator action) o x)
     (may_hold (view_shown now b) (awaits_lease b.knows.waited))
@@ -280,7 +293,7 @@ does now action (requests.Hold from ttl) o b untold seen is =
     held = holding_for now b.knows.who.me unnumbered (record { 0 = ttl }) b
 
     output : Output
-    output = outputs.HoldTaken (span_after now (record { 0 = ttl })) b.knows.who.me unnumbered
+    output = outputs.Tell (tellings.HoldTaken (span_after now (record { 0 = ttl })) b.knows.who.me unnumbered)
 
 -- one more output that tells no operator anything
 told-none-more : (outs : List Output) (output : Output) → told_by output ≡ [] → told_in outs ≡ []
@@ -348,14 +361,16 @@ step-right now points heard role knows machine = by heard
         let heard : Heard = FailsafeAsked from incarnation sequence ttl in
         let held : Outcome = holding_for now from sequence ttl b in
         let holds : told_in held.outputs ≡ [] =
-        told-none-more b.outputs (outputs.HoldTaken (span_after now ttl) from sequence) refl untold.0 in
+        told-none-more b.outputs (outputs.Tell (tellings.HoldTaken (span_after now ttl) from sequence)) refl untold.0 in
         failsafe-asked-by (IsRight now heard o) now from incarnation sequence ttl b
         (λ _. right-of now heard o (answering_failsafe from incarnation sequence true held) (Owed.Silent (
-          told-none-more held.outputs (outputs.FailsafeAnswer from incarnation sequence true) refl holds,
+          told-none-more held.outputs
+              (outputs.Message (outgoing.FailsafeAnswer from incarnation sequence true)) refl holds,
           untold.1,
         )))
         (right-of now heard o (answering_failsafe from incarnation sequence false b) (Owed.Silent (
-          told-none-more b.outputs (outputs.FailsafeAnswer from incarnation sequence false) refl untold.0,
+          told-none-more b.outputs
+              (outputs.Message (outgoing.FailsafeAnswer from incarnation sequence false)) refl untold.0,
           untold.1,
         )))
     by (FailsafeAnswered from sequence accepted sent) = goes (FailsafeAnswered from sequence accepted sent) b _
@@ -544,7 +559,8 @@ before-operates now sequence waiting o awaits untold = let b : Outcome = reconci
 tells-one : (o b : Outcome) (request : ℕ) (told : Told) → Untold o b
     → told_in (answering request told b).outputs ≡ (request, told) ∷ []
 tells-one o b request told untold =
-    told-more b.outputs (outputs.Told request told) ∙ ap (λ (l : List (ℕ × Told)). l ++ (request, told) ∷ []) untold.0
+    told-more b.outputs (outputs.Tell (tellings.Told request told))
+    ∙ ap (λ (l : List (ℕ × Told)). l ++ (request, told) ∷ []) untold.0
 
 refusal-told : (o b : Outcome) (waiting : Operating) → Untold o b → b.knows.operating ≡ Some waiting
     → told_in (operator_refused b.knows.operating b).outputs ≡ (waiting.request, refusal_of waiting.operation) ∷ []

@@ -21,6 +21,11 @@ use Rattle.agent_model.specs.declared.operating.Operating.{Operating}
 use Rattle.agent_model.specs.declared.operating.Told.{Told}
 use Rattle.agent_model.specs.declared.output.Output.{Output}
 use Rattle.agent_model.specs.declared.output.Output.TheVariants as outputs
+use Rattle.agent_model.specs.declared.output.Feeding.TheVariants as feedings
+use Rattle.agent_model.specs.declared.output.Noting.TheVariants as notings
+use Rattle.agent_model.specs.declared.output.Outgoing.TheVariants as outgoing
+use Rattle.agent_model.specs.declared.output.ServerOrder.TheVariants as orders
+use Rattle.agent_model.specs.declared.output.Telling.TheVariants as tellings
 use Rattle.agent_model.specs.declared.output.Target.TheVariants as targets
 use Rattle.agent_model.specs.declared.why.Why.{Why}
 use Rattle.agent_model.specs.declared.why.Why.TheVariants.{HandOver, Lost}
@@ -51,15 +56,15 @@ use Rattle.agent_model.specs.Pausing.{may_start_behind, disabling_told, disablin
 
 -- an output that answers neither a member nor an operator
 abbrev pub NoReply : Output → Type 0
-NoReply (outputs.Answer to incarnation sequence answer) = ⊥
-NoReply (outputs.FailsafeAnswer to incarnation sequence accepted) = ⊥
-NoReply (outputs.Told request told) = ⊥
+NoReply (outputs.Message (outgoing.Answer to incarnation sequence answer)) = ⊥
+NoReply (outputs.Message (outgoing.FailsafeAnswer to incarnation sequence accepted)) = ⊥
+NoReply (outputs.Tell (tellings.Told request told)) = ⊥
 NoReply _ = Unit {0}
 
 -- an output that answers no member
 abbrev pub NoAnswer : Output → Type 0
-NoAnswer (outputs.Answer to incarnation sequence answer) = ⊥
-NoAnswer (outputs.FailsafeAnswer to incarnation sequence accepted) = ⊥
+NoAnswer (outputs.Message (outgoing.Answer to incarnation sequence answer)) = ⊥
+NoAnswer (outputs.Message (outgoing.FailsafeAnswer to incarnation sequence accepted)) = ⊥
 NoAnswer _ = Unit {0}
 
 -- no member is answered that this outcome doesn't answer, operators
@@ -73,12 +78,12 @@ abbrev pub Quiet : Outcome → Outcome → Type 0
 Quiet f o = Says f o.outputs o.knows.operating
 
 no-answer : (output : Output) → NoReply output → NoAnswer output
-no-answer (outputs.Answer to incarnation sequence answer) none = none
-no-answer (outputs.FailsafeAnswer to incarnation sequence accepted) none = none
+no-answer (outputs.Message (outgoing.Answer to incarnation sequence answer)) none = none
+no-answer (outputs.Message (outgoing.FailsafeAnswer to incarnation sequence accepted)) none = none
 no-answer _ none = tt
 
 none-told : (output : Output) → NoReply output → told_by output ≡ []
-none-told (outputs.Told request told) none = absurd none
+none-told (outputs.Tell (tellings.Told request told)) none = absurd none
 none-told _ none = refl
 
 -- what one more output tells operators is told behind what the others do
@@ -108,17 +113,17 @@ as-said o = record { all = λ all. all; told = refl; waits = refl }
 disarmed-quiet : (f : Outcome) (deadline : Option Ticks) {w : Option Operating} (outs : List Output)
     → Says f outs w → Says f (disarmed deadline outs) w
 disarmed-quiet f None outs all = all
-disarmed-quiet f (Some deadline) outs all = said outs outputs.Disarmed tt all
+disarmed-quiet f (Some deadline) outs all = said outs (outputs.Watchdog feedings.Disarmed) tt all
 
 armed-quiet : (f : Outcome) (deadline : Option Ticks) {w : Option Operating} (outs : List Output)
     → Says f outs w → Says f (armed deadline outs) w
 armed-quiet f None outs all = all
-armed-quiet f (Some deadline) outs all = said outs (outputs.Armed deadline) tt all
+armed-quiet f (Some deadline) outs all = said outs (outputs.Watchdog (feedings.Armed deadline)) tt all
 
 fed-quiet : (f : Outcome) (deadline : Option Ticks) {w : Option Operating} (outs : List Output)
     → Says f outs w → Says f (fed_until deadline outs) w
 fed-quiet f None outs all = all
-fed-quiet f (Some deadline) outs all = said outs (outputs.Fed deadline) tt all
+fed-quiet f (Some deadline) outs all = said outs (outputs.Watchdog (feedings.Fed deadline)) tt all
 
 ended-quiet : (f : Outcome) (why : Why) (held : ℕ) (o : Outcome) → Quiet f o → Quiet f (has_ended why held o)
 ended-quiet f HandOver held o all = said _ _ tt (disarmed-quiet f o.machine.watchdog.deadline o.outputs all)
@@ -140,15 +145,15 @@ before-quiet f now o all =
 
 judged-quiet : (f : Outcome) (now : Ticks) (o : Outcome) → Quiet f o → Quiet f (judged now o)
 judged-quiet f now o all = judged-by (Quiet f) now o (said o.outputs _ tt all)
-    (λ bar. said _ _ tt (said o.outputs (outputs.Note (agent_notes.DoesNotRace bar)) tt all))
+    (λ bar. said _ _ tt (said o.outputs (outputs.Note (notings.Agent (agent_notes.DoesNotRace bar))) tt all))
 
 ask-quiet : (f : Outcome) (w : Option Operating) (who : Who) (sequence : ℕ) (member : Option MemberId)
     (outs : List Output) → Says f outs w → Says f (asking_one who sequence member outs) w
 ask-quiet f w who sequence None outs all = all
 ask-quiet f w who sequence (Some member) outs all =
     if-cases (λ (l : List Output). Says f l w) (is_other who member)
-    (with_output (outputs.Send (targets.Member member) sequence bodies.Ask) outs) outs
-    (λ _. said outs (outputs.Send (targets.Member member) sequence bodies.Ask) tt all) (λ _. all)
+    (with_output (outputs.Message (outgoing.Send (targets.Member member) sequence bodies.Ask)) outs) outs
+    (λ _. said outs (outputs.Message (outgoing.Send (targets.Member member) sequence bodies.Ask)) tt all) (λ _. all)
 
 asks-quiet : (f : Outcome) (w : Option Operating) (who : Who) (sequence count : ℕ) (outs : List Output)
     → Says f outs w → Says f (asking_first who sequence count outs) w
@@ -166,13 +171,15 @@ handover-quiet : (f : Outcome) (now : Ticks) (revision : ℕ) (o : Outcome) → 
 handover-quiet f now revision o all = record {
   kept = all;
   clears = λ compared. said o.outputs _ tt all;
-  hands = λ candidate. said (with_output (outputs.Note (agent_notes.HandsOver candidate)) o.outputs) outputs.ShutDown tt
-      (said o.outputs (outputs.Note (agent_notes.HandsOver candidate)) tt all);
+  hands = λ candidate. said (with_output (outputs.Note (notings.Agent (agent_notes.HandsOver candidate))) o.outputs)
+      (outputs.Server orders.ShutDown) tt
+      (said o.outputs (outputs.Note (notings.Agent (agent_notes.HandsOver candidate))) tt all);
 }
 
 postpones-quiet : (f : Outcome) (held : ℕ) (o : Outcome) → Quiet f o → Quiet f (postpones held o)
 postpones-quiet f held o all = said (disarmed o.machine.watchdog.deadline o.outputs)
-    (outputs.Note agent_notes.PostponesPromotion) tt (disarmed-quiet f o.machine.watchdog.deadline o.outputs all)
+    (outputs.Note (notings.Agent agent_notes.PostponesPromotion)) tt
+    (disarmed-quiet f o.machine.watchdog.deadline o.outputs all)
 
 -- the requests to all other members to stay primary
 request-quiet : (f : Outcome) (w : Option Operating) (members : MemberSet) (sequence : ℕ) (ttl : Ticks)
@@ -181,8 +188,11 @@ request-quiet : (f : Outcome) (w : Option Operating) (members : MemberSet) (sequ
 request-quiet f w members sequence ttl None outs all = all
 request-quiet f w members sequence ttl (Some member) outs all =
     if-cases (λ (l : List Output). Says f l w) (has members member.number)
-    (with_output (outputs.Send (targets.Member member) sequence (bodies.FailsafeRequest ttl)) outs) outs
-    (λ _. said outs (outputs.Send (targets.Member member) sequence (bodies.FailsafeRequest ttl)) tt all) (λ _. all)
+    (with_output (outputs.Message (outgoing.Send (targets.Member member) sequence (bodies.FailsafeRequest ttl))) outs)
+    outs
+    (λ _.
+    said outs (outputs.Message (outgoing.Send (targets.Member member) sequence (bodies.FailsafeRequest ttl))) tt all)
+    (λ _. all)
 
 requests-quiet : (f : Outcome) (w : Option Operating) (members : MemberSet) (sequence : ℕ) (ttl : Ticks)
     (count : ℕ) (outs : List Output) → Says f outs w → Says f (requesting_first members sequence ttl count outs) w
@@ -195,12 +205,12 @@ by-failsafe-quiet : (f : Outcome) (deadline : Option Ticks) (members : MemberSet
     → Says f (fed_by_failsafe deadline members sequence since outs) w
 by-failsafe-quiet f None members sequence since outs all = all
 by-failsafe-quiet f (Some until) members sequence since outs all =
-    said outs (outputs.FedByFailsafe until members sequence since) tt all
+    said outs (outputs.Watchdog (feedings.FedByFailsafe until members sequence since)) tt all
 
 -- a leader stays primary
 stays-quiet : (f : Outcome) (now ttl : Ticks) (sequence : ℕ) (since : Ticks) (o : Outcome) → Quiet f o
     → Quiet f (stays now ttl sequence since o)
-stays-quiet f now ttl sequence since o all = said _ outputs.StaysByFailsafe tt
+stays-quiet f now ttl sequence since o all = said _ (outputs.Note notings.StaysByFailsafe) tt
     (by-failsafe-quiet f
     (deadline_after now ttl o.machine.watchdog) o.knows.failsafe.members sequence since o.outputs all)
 
@@ -241,13 +251,13 @@ follow-quiet f now leader o all = let x : Outcome = led_by_another o in
     (said o.outputs _ tt all) (said _ _ tt (said o.outputs _ tt all)) (said _ _ tt (said o.outputs _ tt all))
     (said _ _ tt (said o.outputs _ tt all)) in
     repaired-by (Quiet f) leader (repair_of o.knows.settings leader o.machine.server) row told
-    (λ r. said row.outputs (outputs.Repair leader r) tt told)
+    (λ r. said row.outputs (outputs.Server (orders.Repair leader r)) tt told)
 
 free-quiet : (f : Outcome) (now : Ticks) (o : Outcome) → Quiet f o → Quiet f (finds_free now o)
 free-quiet f now o all = let x : Outcome = record o { role = Follower } in free-by (Quiet f) now x (record {
   starts = said _ _ tt (said o.outputs _ tt all);
   touches = said o.outputs _ tt all;
-  bars = λ bar. said _ _ tt (said o.outputs (outputs.Note (agent_notes.DoesNotRace bar)) tt all);
+  bars = λ bar. said _ _ tt (said o.outputs (outputs.Note (notings.Agent (agent_notes.DoesNotRace bar))) tt all);
   judges = judged-quiet f now (unheard x) all;
   asks = asks-quiet f o.knows.operating o.knows.who (o.knows.sequence + 1) MOST_MEMBERS o.outputs all;
 })
@@ -266,8 +276,8 @@ got-quiet f now points sequence snapshot o all =
       touches = said o.outputs _ tt all;
       follows = λ leader _ _. follow-quiet f now leader.holder read all;
       free = λ _ _. free-quiet f now read all;
-      runs_on = λ _. said o.outputs (outputs.Note agent_notes.RunsWithoutKey) tt all;
-      asks_on = λ _. said _ _ tt (said o.outputs (outputs.Note agent_notes.RunsWithoutKey) tt all);
+      runs_on = λ _. said o.outputs (outputs.Note (notings.Agent agent_notes.RunsWithoutKey)) tt all;
+      asks_on = λ _. said _ _ tt (said o.outputs (outputs.Note (notings.Agent agent_notes.RunsWithoutKey)) tt all);
     })
 
 pub refused-quiet : (f : Outcome) (now : Ticks) (sequence : ℕ) (o : Outcome) → Quiet f o
@@ -279,7 +289,7 @@ refused-quiet f now sequence o all = refused-by (Quiet f) now sequence o (record
   unleased = λ _. said o.outputs _ tt all;
   follower = λ _ _. all;
   ready = λ held _. postpones-quiet f held (waiting_no_more o) all;
-  runs_on = λ _. said o.outputs (outputs.Note agent_notes.RunsWithoutKey) tt all;
+  runs_on = λ _. said o.outputs (outputs.Note (notings.Agent agent_notes.RunsWithoutKey)) tt all;
 })
 
 duty-quiet : (f : Outcome) (now : Ticks) (revision : ℕ) (led : Outcome) → Quiet f led
@@ -307,8 +317,9 @@ disabled-quiet : (f : Outcome) (renews : Bool) (deadline : Option Ticks) {w : Op
     → Says f outs w → Says f (disabling_told renews deadline outs) w
 disabled-quiet f renews None outs all = all
 disabled-quiet f true (Some deadline) outs all =
-    said _ (outputs.Note agent_notes.DisablesWatchdog) tt (said outs outputs.Disarmed tt all)
-disabled-quiet f false (Some deadline) outs all = said outs outputs.Disarmed tt all
+    said _ (outputs.Note (notings.Agent agent_notes.DisablesWatchdog)) tt
+    (said outs (outputs.Watchdog feedings.Disarmed) tt all)
+disabled-quiet f false (Some deadline) outs all = said outs (outputs.Watchdog feedings.Disarmed) tt all
 
 unleased-quiet : (f : Outcome) (now ttl : Ticks) (revision : ℕ) (o : Outcome) → Quiet f o
     → Quiet f (unleased_renewed now ttl revision o)
@@ -317,14 +328,14 @@ unleased-quiet f now ttl revision o all = if-cases (Quiet f)
     (λ _. said o.outputs _ tt all) (λ _. armed-quiet f (deadline_after now ttl o.machine.watchdog) o.outputs all)
 
 begins-quiet : (f : Outcome) (now : Ticks) (revision : ℕ) (o : Outcome) → Quiet f o → Quiet f (begins now revision o)
-begins-quiet f now revision o all = said _ outputs.Begin tt (said o.outputs _ tt all)
+begins-quiet f now revision o all = said _ (outputs.Server orders.Begin) tt (said o.outputs _ tt all)
 
 passing-quiet : (f o : Outcome) → Quiet f o → Quiet f (passing o)
 passing-quiet f o all = passing-by (λ (outs : List Output). Says f outs o.knows.operating) o all
-    (said o.outputs outputs.ClaimsOutsideSync tt all)
+    (said o.outputs (outputs.Tell tellings.ClaimsOutsideSync) tt all)
 
 cannot-quiet : (f : Outcome) (revision : ℕ) (o : Outcome) → Quiet f o → Quiet f (cannot_arm revision o)
-cannot-quiet f revision o all = said _ _ tt (said o.outputs (outputs.Note agent_notes.CannotArm) tt all)
+cannot-quiet f revision o all = said _ _ tt (said o.outputs (outputs.Note (notings.Agent agent_notes.CannotArm)) tt all)
 
 arms-quiet : (f : Outcome) (now ttl : Ticks) (revision : ℕ) (o : Outcome) → Quiet f o
     → Quiet f (arms now ttl revision o)
@@ -400,22 +411,28 @@ NoneAnswered o = All NoAnswer o.outputs
 
 told-none : (o : Outcome) → NoneAnswered o → ReplyRows NoneAnswered o
 told-none o all =
-    record { kept = all; answers = λ request told. All-push NoAnswer o.outputs (outputs.Told request told) all tt }
+    record {
+      kept = all;
+      answers = λ request told. All-push NoAnswer o.outputs (outputs.Tell (tellings.Told request told)) all tt;
+    }
 
 acts-none : (now : Ticks) (request : ℕ) (o : Outcome) → NoneAnswered o → ActRows NoneAnswered now request o
 acts-none now request o all = record {
   asks = λ operation txn _. All-push NoAnswer o.outputs _ all tt;
-  restarts = λ told. All-push NoAnswer _ (outputs.Told request told)
-      (All-push NoAnswer o.outputs (outputs.Restart (is_primary o.machine.server.state)) all tt) tt;
-  wipes = λ told. All-push NoAnswer _ (outputs.Told request told) (All-push NoAnswer o.outputs outputs.Wipe all tt) tt;
-  holds = λ ttl told _. All-push NoAnswer _ (outputs.Told request told)
-      (All-push NoAnswer o.outputs (outputs.HoldTaken (span_after now ttl) o.knows.who.me unnumbered) all tt) tt;
-  refuses = λ told. All-push NoAnswer o.outputs (outputs.Told request told) all tt;
+  restarts = λ told. All-push NoAnswer _ (outputs.Tell (tellings.Told request told))
+      (All-push NoAnswer o.outputs (outputs.Server (orders.Restart (is_primary o.machine.server.state))) all tt) tt;
+  wipes = λ told. All-push NoAnswer _ (outputs.Tell (tellings.Told request told))
+      (All-push NoAnswer o.outputs (outputs.Server orders.Wipe) all tt) tt;
+  holds = λ ttl told _. All-push NoAnswer _ (outputs.Tell (tellings.Told request told))
+      (All-push NoAnswer o.outputs
+      (outputs.Tell (tellings.HoldTaken (span_after now ttl) o.knows.who.me unnumbered)) all tt)
+      tt;
+  refuses = λ told. All-push NoAnswer o.outputs (outputs.Tell (tellings.Told request told)) all tt;
 }
 
 no-reply : (heard : Heard) (output : Output) → NoAnswer output → RepliesTo heard output
-no-reply heard (outputs.Answer to incarnation sequence answer) none = absurd none
-no-reply heard (outputs.FailsafeAnswer to incarnation sequence accepted) none = absurd none
+no-reply heard (outputs.Message (outgoing.Answer to incarnation sequence answer)) none = absurd none
+no-reply heard (outputs.Message (outgoing.FailsafeAnswer to incarnation sequence accepted)) none = absurd none
 no-reply heard _ none = tt
 
 none-replies : (heard : Heard) (o : Outcome) → NoneAnswered o → All (RepliesTo heard) o.outputs
@@ -466,9 +483,10 @@ step-replies now points heard role knows machine = by heard
     by (FailsafeAsked from incarnation sequence ttl) =
         let heard : Heard = FailsafeAsked from incarnation sequence ttl in
         failsafe-asked-by (λ (x : Outcome). All (RepliesTo heard) x.outputs) now from incarnation sequence ttl b
-        (λ _. All-push (RepliesTo heard) _ (outputs.FailsafeAnswer from incarnation sequence true)
-        (All-push (RepliesTo heard) b.outputs (outputs.HoldTaken (span_after now ttl) from sequence)
+        (λ _. All-push (RepliesTo heard) _ (outputs.Message (outgoing.FailsafeAnswer from incarnation sequence true))
+        (All-push (RepliesTo heard) b.outputs (outputs.Tell (tellings.HoldTaken (span_after now ttl) from sequence))
         (none-replies heard b none) tt)
         (refl, refl, refl))
-        (All-push (RepliesTo heard) b.outputs (outputs.FailsafeAnswer from incarnation sequence false)
+        (All-push (RepliesTo heard) b.outputs
+        (outputs.Message (outgoing.FailsafeAnswer from incarnation sequence false))
         (none-replies heard b none) (refl, refl, refl))

@@ -13,6 +13,7 @@ use Rattle.store_keys.specs.declared.key.Key.{Key}
 use Rattle.store_keys.specs.declared.txn.Expected.{Expected}
 use Rattle.store_keys.specs.declared.txn.Txn.{Txn}
 use Rattle.store_keys.specs.declared.txn.Txn.TheVariants as txns
+use Rattle.store_keys.specs.declared.txn.OperatorTxn.TheVariants as operator_txns
 use Rattle.cluster_view.specs.KeyValues.{failover_in}
 use Rattle.cluster_view.specs.Snapshots.{SnapshotFacts}
 use Rattle.operator_answers.specs.declared.answer_text.Text.{Text}
@@ -29,6 +30,9 @@ use Rattle.agent_model.specs.declared.operating.Told.{Told}
 use Rattle.agent_model.specs.declared.operating.Told.TheVariants as tolds
 use Rattle.agent_model.specs.declared.output.Output.{Output}
 use Rattle.agent_model.specs.declared.output.Output.TheVariants as outputs
+use Rattle.agent_model.specs.declared.output.Outgoing.TheVariants as outgoing
+use Rattle.agent_model.specs.declared.output.ServerOrder.TheVariants as orders
+use Rattle.agent_model.specs.declared.output.Telling.TheVariants as tellings
 use Rattle.agent_model.specs.declared.output.Target.TheVariants as targets
 use Rattle.agent_model.specs.Agents.{Outcome}
 use Rattle.agent_model.specs.Reconciling.{reconciled}
@@ -37,7 +41,7 @@ use Rattle.agent_model.specs.Operators.{awaits_number, done_text, failed_text, h
 
 -- what an output tells an operator, with the number of the request; most tell none
 abbrev pub told_by : Output → List (ℕ × Told)
-told_by (outputs.Told request told) = (request, told) ∷ []
+told_by (outputs.Tell (tellings.Told request told)) = (request, told) ∷ []
 told_by _ = []
 
 -- what outputs tell operators
@@ -96,10 +100,13 @@ pub record AnswersWaiting (now : Ticks) (heard : Heard) (o after : Outcome) (ans
 -- restarts, or is wiped; the member holds on another one's request, or refuses to
 abbrev pub IsDoneIn : List Output → OperatorRequest → Told → Type 0
 IsDoneIn outs requests.Restart answer =
-    ((as_primary : Bool) × Contains outs (outputs.Restart as_primary)) × (answer ≡ tolds.Text ok texts.Restarted)
-IsDoneIn outs requests.Reinit answer = Contains outs outputs.Wipe × (answer ≡ tolds.Text ok texts.ReinitializeStarted)
+    ((as_primary : Bool) × Contains outs (outputs.Server (orders.Restart as_primary)))
+    × (answer ≡ tolds.Text ok texts.Restarted)
+IsDoneIn outs requests.Reinit answer =
+    Contains outs (outputs.Server orders.Wipe) × (answer ≡ tolds.Text ok texts.ReinitializeStarted)
 IsDoneIn outs (requests.Hold from ttl) answer =
-    (((until : Ticks) × ((member : MemberId) × Contains outs (outputs.HoldTaken until member unnumbered))) ×
+    (((until : Ticks) ×
+    ((member : MemberId) × Contains outs (outputs.Tell (tellings.HoldTaken until member unnumbered)))) ×
     (answer ≡ tolds.Text ok texts.Accepted))
     ⊎ (answer ≡ tolds.Text internal_server_error texts.Refused)
 IsDoneIn outs _ answer = ⊥
@@ -121,9 +128,9 @@ AnswersOneAtMost now heard o after (first ∷ second ∷ others) = ⊥
 -- failover key, or the configuration, that the operator wants
 abbrev pub IsWish : OperatorRequest → Operation → Txn → Type 0
 IsWish (requests.Failover kind failover) operation txn =
-    (operation ≡ FailingOver kind) × ((ttl : Ticks) × (txn ≡ txns.SetFailover failover ttl))
+    (operation ≡ FailingOver kind) × ((ttl : Ticks) × (txn ≡ txns.Operators (operator_txns.SetFailover failover ttl)))
 IsWish (requests.Configuration config) operation txn =
-    (operation ≡ Configuring) × ((revision : ℕ) × (txn ≡ txns.SetConfig revision config))
+    (operation ≡ Configuring) × ((revision : ℕ) × (txn ≡ txns.Operators (operator_txns.SetConfig revision config)))
 IsWish _ operation txn = ⊥
 
 -- what waits is this request, for which the key store is asked at this
@@ -134,7 +141,8 @@ pub record IsAskedFor (now : Ticks) (action : OperatorAction) (o after : Outcome
   pub leader : waiting.leader ≡ holder_if o.knows.seen
   pub txn : Txn
   pub wish : IsWish action.asked waiting.operation txn
-  pub sent : Contains after.outputs (outputs.Send targets.Store waiting.sequence (bodies.Request txn))
+  pub sent : Contains after.outputs
+      (outputs.Message (outgoing.Send targets.Store waiting.sequence (bodies.Request txn)))
 
 -- what waits is the request that is heard
 abbrev pub WaitsForHeard : Ticks → Heard → Outcome → Outcome → Operating → Type 0

@@ -5,6 +5,7 @@ use Rattle.agent_model.specs.declared.heard.Heard.{Heard}
 use Rattle.agent_model.specs.declared.heard.Heard.TheVariants.{Asked, FailsafeAsked}
 use Rattle.agent_model.specs.declared.output.Output.{Output}
 use Rattle.agent_model.specs.declared.output.Output.TheVariants as outputs
+use Rattle.agent_model.specs.declared.output.Outgoing.TheVariants as outgoing
 
 -- this member asked, under this number of that run of its agent
 abbrev pub IsAskOf : MemberId → ℕ → ℕ → Heard → Type 0
@@ -20,7 +21,8 @@ IsFailsafeAskOf member incarnation sequence _ = ⊥
 
 -- an answer goes to the member that asks, under the incarnation and the number of its ask
 abbrev pub RepliesTo : Heard → Output → Type 0
-RepliesTo heard (outputs.Answer to incarnation sequence answer) = IsAskOf to incarnation sequence heard
-RepliesTo heard (outputs.FailsafeAnswer to incarnation sequence accepted) =
+RepliesTo heard (outputs.Message (outgoing.Answer to incarnation sequence answer)) =
+    IsAskOf to incarnation sequence heard
+RepliesTo heard (outputs.Message (outgoing.FailsafeAnswer to incarnation sequence accepted)) =
     IsFailsafeAskOf to incarnation sequence heard
 RepliesTo heard _ = Unit {0}

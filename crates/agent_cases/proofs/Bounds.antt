@@ -11,6 +11,7 @@ use Rattle.store_keys.specs.declared.action.OperatorRequest.TheVariants as reque
 use Rattle.lease_store.specs.declared.granted.Granted.{Granted}
 use Rattle.store_keys.specs.declared.txn.Txn.{Txn}
 use Rattle.store_keys.specs.declared.txn.Txn.TheVariants as txns
+use Rattle.store_keys.specs.declared.txn.SyncTxn.TheVariants as sync_txns
 use Rattle.lease_store.specs.Writes.{ttl_of}
 use Rattle.wal_model.specs.declared.entry.HistoryPoint.{HistoryPoint}
 use Rattle.cluster_view.specs.Snapshots.{SnapshotFacts}
@@ -18,6 +19,11 @@ use Rattle.agent_model.specs.declared.heard.Heard.{Heard}
 use Rattle.agent_model.specs.declared.heard.Heard.TheVariants as heards
 use Rattle.agent_model.specs.declared.output.Output.{Output}
 use Rattle.agent_model.specs.declared.output.Output.TheVariants as outputs
+use Rattle.agent_model.specs.declared.output.Feeding.TheVariants as feedings
+use Rattle.agent_model.specs.declared.output.Noting.TheVariants as notings
+use Rattle.agent_model.specs.declared.output.Outgoing.TheVariants as outgoing
+use Rattle.agent_model.specs.declared.output.ServerOrder.TheVariants as orders
+use Rattle.agent_model.specs.declared.output.Telling.TheVariants as tellings
 use Rattle.agent_model.specs.declared.output.Target.TheVariants as targets
 use Rattle.agent_model.specs.declared.why.Why.{Why}
 use Rattle.agent_model.specs.declared.who.Who.{Who}
@@ -119,7 +125,8 @@ said-both sequence before first second asks also =
 disarmed-one : (sequence : ℕ) (deadline : Option Ticks) (before : List Output)
     → Grows 1 sequence sequence before (disarmed deadline before)
 disarmed-one sequence None before = none sequence before
-disarmed-one sequence (Some deadline) before = one sequence sequence before outputs.Disarmed (omega arith) tt
+disarmed-one sequence (Some deadline) before =
+    one sequence sequence before (outputs.Watchdog feedings.Disarmed) (omega arith) tt
 
 disarmed-row : (sequence : ℕ) (deadline : Option Ticks) (before : List Output)
     → Grows 9 sequence sequence before (disarmed deadline before)
@@ -129,12 +136,14 @@ disarmed-row sequence deadline before =
 armed-one : (sequence : ℕ) (deadline : Option Ticks) (before : List Output)
     → Grows 1 sequence sequence before (armed deadline before)
 armed-one sequence None before = none sequence before
-armed-one sequence (Some deadline) before = one sequence sequence before (outputs.Armed deadline) (omega arith) tt
+armed-one sequence (Some deadline) before =
+    one sequence sequence before (outputs.Watchdog (feedings.Armed deadline)) (omega arith) tt
 
 fed-one : (sequence : ℕ) (deadline : Option Ticks) (before : List Output)
     → Grows 1 sequence sequence before (fed_until deadline before)
 fed-one sequence None before = none sequence before
-fed-one sequence (Some deadline) before = one sequence sequence before (outputs.Fed deadline) (omega arith) tt
+fed-one sequence (Some deadline) before =
+    one sequence sequence before (outputs.Watchdog (feedings.Fed deadline)) (omega arith) tt
 
 ended-row : (why : Why) (held : ℕ) (o : Outcome) → Row o (has_ended why held o)
 ended-row Lost held o = disarmed-row o.knows.sequence o.machine.watchdog.deadline o.outputs
@@ -168,16 +177,18 @@ postponed-row held o =
     (disarmed o.machine.watchdog.deadline o.outputs) _ (omega arith)
     (disarmed-one o.knows.sequence o.machine.watchdog.deadline o.outputs)
     (one o.knows.sequence o.knows.sequence (disarmed o.machine.watchdog.deadline o.outputs)
-    (outputs.Note agent_notes.PostponesPromotion) (omega arith) tt)
+    (outputs.Note (notings.Agent agent_notes.PostponesPromotion)) (omega arith) tt)
 
 -- a leader hands over
 hands-row : (now : Ticks) (held : ℕ) (candidate : MemberId) (o : Outcome) → Brings 2 o (hands_over now held candidate o)
 hands-row now held candidate o =
     grows-then 1 1 2 o.knows.sequence o.knows.sequence o.knows.sequence o.outputs
-    (with_output (outputs.Note (agent_notes.HandsOver candidate)) o.outputs) _ (omega arith)
-    (one o.knows.sequence o.knows.sequence o.outputs (outputs.Note (agent_notes.HandsOver candidate)) (omega arith) tt)
+    (with_output (outputs.Note (notings.Agent (agent_notes.HandsOver candidate))) o.outputs) _ (omega arith)
+    (one o.knows.sequence o.knows.sequence o.outputs
+    (outputs.Note (notings.Agent (agent_notes.HandsOver candidate))) (omega arith) tt)
     (one o.knows.sequence o.knows.sequence
-    (with_output (outputs.Note (agent_notes.HandsOver candidate)) o.outputs) outputs.ShutDown (omega arith) tt)
+    (with_output (outputs.Note (notings.Agent (agent_notes.HandsOver candidate))) o.outputs)
+    (outputs.Server orders.ShutDown) (omega arith) tt)
 
 handover-rows : (now : Ticks) (held : ℕ) (o : Outcome) → HandoverRows (Brings 2 o) now held o
 handover-rows now held o = record {
@@ -203,7 +214,7 @@ reply-rows : (most : ℕ) (o : Outcome) → 1 ≤ most → ReplyRows (Brings mos
 reply-rows most o some = record {
   kept = weaker 1 most _ _ _ _ some (none o.knows.sequence o.outputs);
   answers = λ request told. weaker 1 most _ _ _ _ some
-      (one o.knows.sequence o.knows.sequence o.outputs (outputs.Told request told) (omega arith) tt);
+      (one o.knows.sequence o.knows.sequence o.outputs (outputs.Tell (tellings.Told request told)) (omega arith) tt);
 }
 
 looked-row : (sequence : ℕ) (snapshot : SnapshotFacts) (o : Outcome) → Brings 1 o (looked sequence snapshot o)
@@ -226,14 +237,15 @@ operated-row now request requests.Restart o =
     (one o.knows.sequence o.knows.sequence _ _ (omega arith) tt)
 operated-row now request requests.Reinit o =
     grows-then 1 1 2 o.knows.sequence o.knows.sequence o.knows.sequence o.outputs _ _ (omega arith)
-    (one o.knows.sequence o.knows.sequence o.outputs outputs.Wipe (omega arith) tt)
+    (one o.knows.sequence o.knows.sequence o.outputs (outputs.Server orders.Wipe) (omega arith) tt)
     (one o.knows.sequence o.knows.sequence _ _ (omega arith) tt)
 operated-row now request (requests.Hold from ttl) o =
     asked-to-hold-by (Brings 2 o) now request (record { 0 = ttl }) o
     (λ text _.
     grows-then 1 1 2 o.knows.sequence o.knows.sequence o.knows.sequence o.outputs held.outputs _ (omega arith)
     (one o.knows.sequence o.knows.sequence o.outputs
-    (outputs.HoldTaken (span_after now (record { 0 = ttl })) o.knows.who.me unnumbered) (omega arith) tt)
+    (outputs.Tell (tellings.HoldTaken (span_after now (record { 0 = ttl })) o.knows.who.me unnumbered))
+    (omega arith) tt)
     (one o.knows.sequence o.knows.sequence held.outputs _ (omega arith) tt))
     (λ text. weaker 1 2 _ _ _ _ (omega arith) (one o.knows.sequence o.knows.sequence o.outputs _ (omega arith) tt))
   where
@@ -246,9 +258,14 @@ requested-few : (members : MemberSet) (sequence : ℕ) (ttl : Ticks) (member : O
 requested-few members sequence ttl None outs = omega arith
 requested-few members sequence ttl (Some member) outs =
     if-cases (λ (l : List Output). length l ≤ length outs + 1) (has members member.number)
-    (with_output (outputs.Send (targets.Member member) sequence (bodies.FailsafeRequest ttl)) outs) outs
+    (with_output (outputs.Message (outgoing.Send (targets.Member member) sequence (bodies.FailsafeRequest ttl))) outs)
+    outs
     (λ _.
-    omega (arith, length-append outs (outputs.Send (targets.Member member) sequence (bodies.FailsafeRequest ttl) ∷ [])))
+    omega (
+      arith,
+      length-append outs
+          (outputs.Message (outgoing.Send (targets.Member member) sequence (bodies.FailsafeRequest ttl)) ∷ []),
+    ))
     (λ _. omega arith)
 
 requests-few : (members : MemberSet) (sequence : ℕ) (ttl : Ticks) (count : ℕ) (outs : List Output)
@@ -265,9 +282,11 @@ requested-short : (members : MemberSet) (sequence : ℕ) (ttl : Ticks) (member :
 requested-short members sequence ttl None outs few all = all
 requested-short members sequence ttl (Some member) outs few all =
     if-cases (λ (l : List Output). All AsksShortly l) (has members member.number)
-    (with_output (outputs.Send (targets.Member member) sequence (bodies.FailsafeRequest ttl)) outs) outs
+    (with_output (outputs.Message (outgoing.Send (targets.Member member) sequence (bodies.FailsafeRequest ttl))) outs)
+    outs
     (λ _.
-    All-push AsksShortly outs (outputs.Send (targets.Member member) sequence (bodies.FailsafeRequest ttl)) all few)
+    All-push AsksShortly outs
+    (outputs.Message (outgoing.Send (targets.Member member) sequence (bodies.FailsafeRequest ttl))) all few)
     (λ _. all)
 
 requests-short : (members : MemberSet) (sequence : ℕ) (ttl : Ticks) (count : ℕ) (outs : List Output)
@@ -289,7 +308,7 @@ stay-fed-one : (sequence number : ℕ) (deadline : Option Ticks) (members : Memb
     (before : List Output) → Grows 1 sequence sequence before (fed_by_failsafe deadline members number since before)
 stay-fed-one sequence number None members since before = none sequence before
 stay-fed-one sequence number (Some until) members since before =
-    one sequence sequence before (outputs.FedByFailsafe until members number since) (omega arith) tt
+    one sequence sequence before (outputs.Watchdog (feedings.FedByFailsafe until members number since)) (omega arith) tt
 
 stays-row : (now ttl : Ticks) (sequence : ℕ) (since : Ticks) (o : Outcome) → Row o (stays now ttl sequence since o)
 stays-row now ttl sequence since o =
@@ -298,7 +317,7 @@ stays-row now ttl sequence since o =
     grows-then 1 1 9 o.knows.sequence o.knows.sequence o.knows.sequence o.outputs told _ (omega arith)
     (stay-fed-one o.knows.sequence sequence
     (deadline_after now ttl o.machine.watchdog) o.knows.failsafe.members since o.outputs)
-    (one o.knows.sequence o.knows.sequence told outputs.StaysByFailsafe (omega arith) tt)
+    (one o.knows.sequence o.knows.sequence told (outputs.Note notings.StaysByFailsafe) (omega arith) tt)
 
 ends-row : (now : Ticks) (held : ℕ) (o : Outcome) → Row o (leader_unacknowledged now held (waiting_no_more o))
 ends-row now held o = said o.knows.sequence o.knows.sequence o.outputs _ (omega arith) tt
@@ -344,15 +363,17 @@ follow-row now leader o =
     repaired-by (Row o) leader (repair_of o.knows.settings leader o.machine.server) row
     (weaker 2 9 _ _ _ _ (omega arith) told)
     (λ r. grows-then 2 1 9 _ _ _ _ _ _ (omega arith) told
-    (one row.knows.sequence row.knows.sequence row.outputs (outputs.Repair leader r) (omega arith) tt))
+    (one row.knows.sequence row.knows.sequence row.outputs (outputs.Server (orders.Repair leader r)) (omega arith) tt))
 
 -- the asks of a race
 asked-few : (who : Who) (sequence : ℕ) (member : Option MemberId) (outs : List Output)
     → length (asking_one who sequence member outs) ≤ length outs + 1
 asked-few who sequence None outs = omega arith
 asked-few who sequence (Some member) outs = if-cases (λ (l : List Output). length l ≤ length outs + 1)
-    (is_other who member) (with_output (outputs.Send (targets.Member member) sequence bodies.Ask) outs) outs
-    (λ _. omega (arith, length-append outs (outputs.Send (targets.Member member) sequence bodies.Ask ∷ [])))
+    (is_other who member)
+    (with_output (outputs.Message (outgoing.Send (targets.Member member) sequence bodies.Ask)) outs) outs
+    (λ _. omega
+    (arith, length-append outs (outputs.Message (outgoing.Send (targets.Member member) sequence bodies.Ask) ∷ [])))
     (λ _. omega arith)
 
 asks-few : (who : Who) (sequence count : ℕ) (outs : List Output)
@@ -368,8 +389,11 @@ asked-short : (who : Who) (sequence : ℕ) (member : Option MemberId) (outs : Li
     → All AsksShortly outs → All AsksShortly (asking_one who sequence member outs)
 asked-short who sequence None outs all = all
 asked-short who sequence (Some member) outs all = if-cases (λ (l : List Output). All AsksShortly l)
-    (is_other who member) (with_output (outputs.Send (targets.Member member) sequence bodies.Ask) outs) outs
-    (λ _. All-push AsksShortly outs (outputs.Send (targets.Member member) sequence bodies.Ask) all tt) (λ _. all)
+    (is_other who member)
+    (with_output (outputs.Message (outgoing.Send (targets.Member member) sequence bodies.Ask)) outs) outs
+    (λ _.
+    All-push AsksShortly outs (outputs.Message (outgoing.Send (targets.Member member) sequence bodies.Ask)) all tt)
+    (λ _. all)
 
 asks-short : (who : Who) (sequence count : ℕ) (outs : List Output) → All AsksShortly outs
     → All AsksShortly (asking_first who sequence count outs)
@@ -426,7 +450,8 @@ got-row now points sequence snapshot o =
       follows = λ leader _ _. more _ _ _ _ (follow-row now leader.holder read);
       free = λ _ _. free-row now read;
       runs_on = λ _. more _ _ _ _
-          (said o.knows.sequence o.knows.sequence o.outputs (outputs.Note agent_notes.RunsWithoutKey) (omega arith) tt);
+          (said o.knows.sequence o.knows.sequence o.outputs
+          (outputs.Note (notings.Agent agent_notes.RunsWithoutKey)) (omega arith) tt);
       asks_on = λ _.
           more _ _ _ _ (said-both o.knows.sequence o.outputs _ _ tt (omega (arith, read.knows.settings.ttl_range)));
     })
@@ -449,7 +474,8 @@ refused-row now sequence o = refused-by (Row o) now sequence o (record {
   follower = λ held _. kept;
   ready = λ held _. postponed-row held (waiting_no_more o);
   runs_on =
-      λ _. said o.knows.sequence o.knows.sequence o.outputs (outputs.Note agent_notes.RunsWithoutKey) (omega arith) tt;
+      λ _. said o.knows.sequence o.knows.sequence o.outputs
+      (outputs.Note (notings.Agent agent_notes.RunsWithoutKey)) (omega arith) tt;
 })
 
 back-row : (held : ℕ) (o : Outcome) → Brings 1 o (gives_back held o)
@@ -459,13 +485,13 @@ begins-row : (now : Ticks) (held : ℕ) (o : Outcome) → Brings 2 o (begins now
 begins-row now held o =
     grows-then 1 1 2 o.knows.sequence o.knows.sequence o.knows.sequence o.outputs _ _ (omega arith)
     (one o.knows.sequence o.knows.sequence o.outputs _ (omega arith) tt)
-    (one o.knows.sequence o.knows.sequence _ outputs.Begin (omega arith) tt)
+    (one o.knows.sequence o.knows.sequence _ (outputs.Server orders.Begin) (omega arith) tt)
 
 -- what a member notes of the sync key, and its claim of that
 passing-row : (o : Outcome) → Brings 1 o (passing o)
 passing-row o =
     passing-by (Grows 1 o.knows.sequence o.knows.sequence o.outputs) o (none o.knows.sequence o.outputs)
-    (one o.knows.sequence o.knows.sequence o.outputs outputs.ClaimsOutsideSync (omega arith) tt)
+    (one o.knows.sequence o.knows.sequence o.outputs (outputs.Tell tellings.ClaimsOutsideSync) (omega arith) tt)
 
 claims-row : (now : Ticks) (held : ℕ) (o : Outcome) → Brings 2 o (claims now held (passing o))
 claims-row now held o =
@@ -479,9 +505,10 @@ begun-row now held o = begins-or-claims-by (Brings 2 o) now held o (begins-row n
 cannot-row : (held : ℕ) (o : Outcome) → Row o (cannot_arm held o)
 cannot-row held o =
     grows-then 1 1 9 o.knows.sequence o.knows.sequence (o.knows.sequence + 1) o.outputs
-    (with_output (outputs.Note agent_notes.CannotArm) o.outputs) _ (omega arith)
-    (one o.knows.sequence o.knows.sequence o.outputs (outputs.Note agent_notes.CannotArm) (omega arith) tt)
-    (back-row held (record o { outputs = with_output (outputs.Note agent_notes.CannotArm) o.outputs }))
+    (with_output (outputs.Note (notings.Agent agent_notes.CannotArm)) o.outputs) _ (omega arith)
+    (one o.knows.sequence o.knows.sequence o.outputs (outputs.Note (notings.Agent agent_notes.CannotArm))
+    (omega arith) tt)
+    (back-row held (record o { outputs = with_output (outputs.Note (notings.Agent agent_notes.CannotArm)) o.outputs }))
 
 arms-row : (now ttl : Ticks) (held : ℕ) (o : Outcome) → Row o (arms now ttl held o)
 arms-row now ttl held o = if-cases (Row o) (is_refusing o.machine.watchdog.mode o.machine.watchdog.works)
@@ -499,8 +526,8 @@ takes-row now ttl held o = if-cases (Row o) (may_take now o.knows o.machine) (ar
 
 -- a write of the sync key asks for no lease
 sync-short : (txn : Txn) → WritesSync txn → ttl_of txn ≤ 2 ^ 40
-sync-short (txns.SetSync revision sync standbys) writes = omega arith
-sync-short (txns.DropSync revision sync) writes = omega arith
+sync-short (txns.Sync (sync_txns.SetSync revision sync standbys may_lack)) writes = omega arith
+sync-short (txns.Sync (sync_txns.DropSync revision sync)) writes = omega arith
 sync-short _ writes = absurd writes
 
 -- what a leader owes its cluster, behind what became of its watchdog
@@ -529,12 +556,15 @@ disabled-one : (sequence : ℕ) (renews : Bool) (deadline : Option Ticks) (befor
     → Grows 2 sequence sequence before (disabling_told renews deadline before)
 disabled-one sequence renews None before = weaker 1 2 _ _ _ _ (omega arith) (none sequence before)
 disabled-one sequence true (Some deadline) before =
-    grows-then 1 1 2 sequence sequence sequence before (with_output outputs.Disarmed before) _ (omega arith)
-    (one sequence sequence before outputs.Disarmed (omega arith) tt)
-    (one sequence sequence (with_output outputs.Disarmed before) (outputs.Note agent_notes.DisablesWatchdog)
+    grows-then 1 1 2 sequence sequence sequence before
+    (with_output (outputs.Watchdog feedings.Disarmed) before) _ (omega arith)
+    (one sequence sequence before (outputs.Watchdog feedings.Disarmed) (omega arith) tt)
+    (one sequence sequence (with_output (outputs.Watchdog feedings.Disarmed) before)
+    (outputs.Note (notings.Agent agent_notes.DisablesWatchdog))
     (omega arith) tt)
 disabled-one sequence false (Some deadline) before =
-    weaker 1 2 _ _ _ _ (omega arith) (one sequence sequence before outputs.Disarmed (omega arith) tt)
+    weaker 1 2 _ _ _ _ (omega arith)
+    (one sequence sequence before (outputs.Watchdog feedings.Disarmed) (omega arith) tt)
 
 disabling-row : (renews : Bool) (o : Outcome) → Brings 2 o (disabling_watchdog renews o)
 disabling-row renews o = disabled-one o.knows.sequence renews o.machine.watchdog.deadline o.outputs
@@ -639,11 +669,13 @@ failsafe-asked-row : (now : Ticks) (from : MemberId) (incarnation sequence : ℕ
 failsafe-asked-row now from incarnation sequence ttl o = failsafe-asked-by (Row o) now from incarnation sequence ttl o
     (λ _. let held : Outcome = holding_for now from sequence ttl o in
     grows-then 1 1 9 o.knows.sequence o.knows.sequence o.knows.sequence o.outputs held.outputs _ (omega arith)
-    (one o.knows.sequence o.knows.sequence o.outputs (outputs.HoldTaken (span_after now ttl) from sequence)
+    (one o.knows.sequence o.knows.sequence o.outputs
+    (outputs.Tell (tellings.HoldTaken (span_after now ttl) from sequence))
     (omega arith) tt)
     (one o.knows.sequence o.knows.sequence held.outputs
-    (outputs.FailsafeAnswer from incarnation sequence true) (omega arith) tt))
-    (said o.knows.sequence o.knows.sequence o.outputs (outputs.FailsafeAnswer from incarnation sequence false)
+    (outputs.Message (outgoing.FailsafeAnswer from incarnation sequence true)) (omega arith) tt))
+    (said o.knows.sequence o.knows.sequence o.outputs
+    (outputs.Message (outgoing.FailsafeAnswer from incarnation sequence false))
     (omega arith) tt)
 
 failsafe-answered-row : (now : Ticks) (from : MemberId) (sequence : ℕ) (accepted : Bool) (sent : Ticks) (o : Outcome)

@@ -7,6 +7,7 @@ use Rattle.pat_base.specs.declared.member_id.MemberId.{MemberId}
 use Rattle.pat_base.specs.declared.ticks.Ticks.{Ticks}
 use Rattle.agent_model.specs.declared.output.Output.{Output}
 use Rattle.agent_model.specs.declared.output.Output.TheVariants as outputs
+use Rattle.agent_model.specs.declared.output.Telling.TheVariants as tellings
 use Rattle.agent_model.specs.declared.knowledge.Question.{Question}
 use Rattle.agent_model.specs.declared.knowledge.Question.TheVariants.{Reading, ComparingPositions, Creating, Renewing, Claiming, Syncing, FindingCandidate, StayingPrimary}
 use Rattle.agent_model.specs.declared.knowledge.Settling.{Settling}
@@ -18,6 +19,7 @@ use Rattle.pat_base.specs.declared.server_state.Required.{Required}
 use Rattle.pat_base.specs.declared.server_state.Required.TheVariants.{Nobody, All}
 use Rattle.store_keys.specs.declared.txn.Txn.{Txn}
 use Rattle.store_keys.specs.declared.txn.Txn.TheVariants as txns
+use Rattle.store_keys.specs.declared.txn.SyncTxn.TheVariants as sync_txns
 use Rattle.lease_store.specs.Writes.{nobody}
 use Rattle.sync_state.specs.declared.steps.Plan.{Plan}
 use Rattle.sync_state.specs.declared.steps.Plan.TheVariants as plans
@@ -36,7 +38,6 @@ use Rattle.agent_model.specs.Operators.{operating, learned, grants_operator, ope
 use Rattle.store_keys.specs.declared.value.FailoverKey.{FailoverKey}
 use Rattle.agent_model.specs.Snapshots.{informed}
 use Rattle.agent_model.specs.Racing.{unheard}
-use Rattle.failsafe.specs.Asks.{heard}
 use Rattle.agent_model.specs.Table.{granted_any}
 use Rattle.agent_cases.proofs.Rows.{if-cases, dropping, clearing-by, HandoverRows, handover-by, ReplyRows, operator-granted-by}
 
@@ -150,8 +151,8 @@ grant-rows P now waited revision o rows = record {
 
 -- a request for a write of the sync key that a leader's plan makes
 abbrev pub WritesSync : Txn → Type 0
-WritesSync (txns.SetSync revision sync standbys) = Unit {0}
-WritesSync (txns.DropSync revision sync) = Unit {0}
+WritesSync (txns.Sync (sync_txns.SetSync revision sync standbys may_lack)) = Unit {0}
+WritesSync (txns.Sync (sync_txns.DropSync revision sync)) = Unit {0}
 WritesSync _ = ⊥
 
 -- a leader whose watchdog was fed on the grant of this revision
@@ -172,19 +173,23 @@ pub record PlanRows (P : Outcome → Type 0) (now : Ticks) (o : Outcome) : Type 
 switching-off : (P : Outcome → Type 0) (now : Ticks) (revision : ℕ) (read : Option SyncRead) (o : Outcome)
     → PlanRows P now o → P (switching_off now revision read o)
 switching-off P now revision None o rows = rows.kept
-switching-off P now revision (Some read) o rows = rows.writes ClearsList (txns.DropSync revision read.revision) tt
+switching-off P now revision (Some read) o rows =
+    rows.writes ClearsList (txns.Sync (sync_txns.DropSync revision read.revision)) tt
 
 planned-as : (P : Outcome → Type 0) (now : Ticks) (revision : ℕ) (plan : Plan) (o : Outcome)
     → PlanRows P now o → P (planned_as now revision plan o)
 planned-as P now revision plans.Keep o rows = rows.kept
 planned-as P now revision plans.SwitchOff o rows = switching-off P now revision (sync_read_if o.knows.seen) o rows
 planned-as P now revision plans.Mark o rows =
-    rows.writes (NamesStandbys nobody) (txns.SetSync revision (expected_of (sync_read_if o.knows.seen)) nobody) tt
+    rows.writes (NamesStandbys nobody)
+    (txns.Sync (sync_txns.SetSync revision (expected_of (sync_read_if o.knows.seen)) nobody None)) tt
 planned-as P now revision (plans.Withdraw standbys) o rows =
-    rows.writes (NamesStandbys standbys) (txns.SetSync revision (expected_of (sync_read_if o.knows.seen)) standbys) tt
+    rows.writes (NamesStandbys standbys)
+    (txns.Sync (sync_txns.SetSync revision (expected_of (sync_read_if o.knows.seen)) standbys None)) tt
 planned-as P now revision (plans.AddRequired members) o rows = rows.adds (All members)
 planned-as P now revision (plans.Publish standbys) o rows =
-    rows.writes KeepsList (txns.SetSync revision (expected_of (sync_read_if o.knows.seen)) standbys) tt
+    rows.writes KeepsList
+    (txns.Sync (sync_txns.SetSync revision (expected_of (sync_read_if o.knows.seen)) standbys None)) tt
 planned-as P now revision (plans.DropRequired members) o rows = rows.drops (waiting_for o.knows.settings members)
 
 planned-on : (P : Outcome → Type 0) (now : Ticks) (revision : ℕ) (seen : Option SnapshotFacts) (o : Outcome)
@@ -264,12 +269,12 @@ renewed-by P now ttl revision o ends rows = judges-start-by P now revision (led_
 
 -- what a member notes of the sync key before it claims that: nothing, or that it doesn't name the member
 passing-as : (P : List Output → Type 0) (named : Bool) (outs : List Output) → P outs
-    → P (with_output outputs.ClaimsOutsideSync outs) → P (told_passing named outs)
+    → P (with_output (outputs.Tell tellings.ClaimsOutsideSync) outs) → P (told_passing named outs)
 passing-as P true outs silent noted = silent
 passing-as P false outs silent noted = noted
 
 pub passing-by : (P : List Output → Type 0) (o : Outcome) → P o.outputs
-    → P (with_output outputs.ClaimsOutsideSync o.outputs) → P (passing o).outputs
+    → P (with_output (outputs.Tell tellings.ClaimsOutsideSync) o.outputs) → P (passing o).outputs
 passing-by P o silent noted = passing-as P (is_named_if o.knows.who.me o.knows.turn_sync) o.outputs silent noted
 
 -- a member that takes the leader key behind an armed watchdog

@@ -18,13 +18,13 @@ use Rattle.agent_model.specs.declared.knowledge.Question.TheVariants.{Reading, C
 use Rattle.agent_model.specs.declared.knowledge.PendingQuestion.{PendingQuestion}
 use Rattle.store_keys.specs.declared.txn.Txn.{Txn}
 use Rattle.store_keys.specs.declared.txn.Txn.TheVariants as txns
-use Rattle.lease_store.specs.Writes.{nobody}
+use Rattle.store_keys.specs.declared.txn.OperatorTxn.TheVariants as operator_txns
 use Rattle.agent_model.specs.declared.why.Why.{Why}
 use Rattle.agent_model.specs.Acting.{sending, lease_span, disarming, waiting_no_more, touching, starting_replica, following_server, is_hold_active, shutting_down}
 use Rattle.agent_model.specs.Agents.{RoleFacts, Follower, Holder, Ready, Leader, Ending, Unleased, Outcome}
 use Rattle.agent_model.specs.Reconciling.{leader_finds_ended, has_ended, finds_live, unleased_finds_ended, before_as, reconciled}
 use Rattle.agent_model.specs.Pausing.{is_paused, ends_forks, running_without_key}
-use Rattle.agent_model.specs.Decisions.{may_create, has_primary, granted, awaits_decision, follower_for, renewal_refused, refused_as, refused_for, refused}
+use Rattle.agent_model.specs.Decisions.{may_create, has_primary, awaits_decision, follower_for, renewal_refused, refused_as, refused_for, refused}
 use Rattle.agent_model.specs.Claiming.{postpones, claim_fails_as, claim_fails}
 use Rattle.agent_model.specs.Fits.{Fits}
 use Rattle.agent_model.specs.HandingOver.{leader_revision, clearing_under, clearing, successor_by, hands_over, hands_over_to, handover_judged, judged_if_leading, whom_answered, checks, check_answered}
@@ -116,7 +116,7 @@ claim-fails-by P o kept postponed = claim-fails-as P o.role o refl kept postpone
 
 -- the agent asks that the failover key be removed, under the leader key of this revision
 abbrev pub dropping : ℕ → Outcome → Outcome
-dropping revision o = sending (bodies.Request (txns.DropFailover revision)) o
+dropping revision o = sending (bodies.Request (txns.Operators (operator_txns.DropFailover revision))) o
 
 clearing-under : (P : Outcome → Type 0) (revision : Option ℕ) (o : Outcome) → P o
     → ((compared : ℕ) → P (dropping compared o)) → P (clearing_under revision o)
@@ -207,8 +207,8 @@ operator-granted-by P snapshot (Some waiting) o kept rows =
 
 -- a request that an operator has made of the key store
 abbrev pub IsOperatorTxn : Txn → Type 0
-IsOperatorTxn (txns.SetFailover failover ttl) = Unit {0}
-IsOperatorTxn (txns.SetConfig revision config) = Unit {0}
+IsOperatorTxn (txns.Operators (operator_txns.SetFailover failover ttl)) = Unit {0}
+IsOperatorTxn (txns.Operators (operator_txns.SetConfig revision config)) = Unit {0}
 IsOperatorTxn _ = ⊥
 
 -- another member asks by the REST interface to stay primary, and is answered in words
@@ -236,9 +236,9 @@ pub record ActRows (P : Outcome → Type 0) (now : Ticks) (request : ℕ) (o : O
 pub operated-by : (P : Outcome → Type 0) (now : Ticks) (request : ℕ) (asked : OperatorRequest) (o : Outcome)
     → ActRows P now request o → P (operated now request asked o)
 operated-by P now request (requests.Failover kind failover) o rows =
-    rows.asks (FailingOver kind) (txns.SetFailover failover (lease_span o.knows.settings)) tt
+    rows.asks (FailingOver kind) (txns.Operators (operator_txns.SetFailover failover (lease_span o.knows.settings))) tt
 operated-by P now request (requests.Configuration config) o rows =
-    rows.asks Configuring (txns.SetConfig (config_revision o.knows.seen) config) tt
+    rows.asks Configuring (txns.Operators (operator_txns.SetConfig (config_revision o.knows.seen) config)) tt
 operated-by P now request requests.Restart o rows = rows.restarts (tolds.Text ok texts.Restarted)
 operated-by P now request requests.Reinit o rows = rows.wipes (tolds.Text ok texts.ReinitializeStarted)
 operated-by P now request (requests.Hold from ttl) o rows =

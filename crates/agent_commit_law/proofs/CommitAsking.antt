@@ -214,6 +214,7 @@ value-on settings (values.Sync sync) on = absurd (no-way on)
 value-on settings (values.Status end) on = absurd (no-way on)
 value-on settings (values.History row) on = absurd (no-way on)
 value-on settings (values.Failsafe members) on = absurd (no-way on)
+value-on settings (values.Scheduled planned) on = absurd (no-way on)
 
 entry-on : (settings : Config) (found : Option KeyEntry)
     → (settings_of_entry default_config found).synchronous_mode ≡ true

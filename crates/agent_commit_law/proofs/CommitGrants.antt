@@ -5,6 +5,7 @@ use Rattle.pat_base.specs.declared.ticks.Ticks.{Ticks}
 use Rattle.lease_store.specs.declared.granted.Granted.{Granted}
 use Rattle.store_keys.specs.declared.txn.Txn.{Txn}
 use Rattle.store_keys.specs.declared.txn.Txn.TheVariants as txns
+use Rattle.store_keys.specs.declared.txn.SyncTxn.TheVariants as sync_txns
 use Rattle.wal_model.specs.Log.{end_of}
 use Rattle.pg_model.specs.Facts.{entries_of}
 use Rattle.cluster_view.specs.Snapshots.{SnapshotFacts}
@@ -24,6 +25,7 @@ use Rattle.agent_model.specs.declared.knowledge.Settling.{Settling}
 use Rattle.agent_model.specs.declared.machine.Replication.{Replication}
 use Rattle.agent_model.specs.declared.output.Output.{Output}
 use Rattle.agent_model.specs.declared.output.Output.TheVariants as outputs
+use Rattle.agent_model.specs.declared.output.Outgoing.TheVariants as outgoing
 use Rattle.agent_model.specs.declared.output.Target.TheVariants as targets
 use Rattle.agent_model.specs.Agents.{RoleFacts, Ready, Leader, Outcome, is_ready, is_leader}
 use Rattle.agent_commit_law.specs.Committing.{StandsToCommit, IsAwaitedWrite, HearsLease, HearsWrite, GrowsByConnected, IsLawfulAs}
@@ -161,7 +163,8 @@ pub publishes-lawful : {quorum : ℕ} (now : Ticks) (sequence : ℕ) (grant : Gr
     → IsWithin (set_members set) (set_members (required_members o.machine.replication.required))
     → ((n : ℕ) → set_members set n ≡ true → (set_members (published_in snapshot) n ≡ true) ⊎
     HasReached o.machine.replication.confirmed_positions (noted_position o.knows.noted) n)
-    → led.key.quorum ≤ quorum_written (txns.SetSync grant.revision (expected_of (sync_read_in snapshot)) set)
+    → led.key.quorum
+    ≤ quorum_written (txns.Sync (sync_txns.SetSync grant.revision (expected_of (sync_read_in snapshot)) set None))
     → Lawful quorum now sequence grant snapshot s m input o
     (naming now grant.revision settling set (led_by b w grant.revision snapshot))
 publishes-lawful now sequence grant snapshot s m input o b w ground leased led leads settling set required each fewer
@@ -170,10 +173,10 @@ publishes-lawful now sequence grant snapshot s m input o b w ground leased led l
     let x : Outcome = naming now grant.revision settling set fed in
     let fed-quiet : All (Stands true) fed.outputs =
     w.quiet true (ground.behind.idle.quiet true (λ _ _. refl) ground.quiet) in
-    let txn : Txn = txns.SetSync grant.revision (expected_of (sync_read_in snapshot)) set in
-    let output : Output = outputs.Send targets.Store (b.knows.sequence + 1) (bodies.Request txn) in
+    let txn : Txn = txns.Sync (sync_txns.SetSync grant.revision (expected_of (sync_read_in snapshot)) set None) in
+    let output : Output = outputs.Message (outgoing.Send targets.Store (b.knows.sequence + 1) (bodies.Request txn)) in
     let request : SyncRequest = publish_request m o.knows.incarnation (b.knows.sequence + 1) grant.revision
-    (expected_of (sync_read_in snapshot)) set in
+    (expected_of (sync_read_in snapshot)) set None in
     let lives : (s.members m).live ≡ true = leads-live s m o b ground.stands ground.behind leads in
     let was-published : (n : ℕ) → set_members (published_in snapshot) n ≡ true → led.key.standbys n ≡ true =
     λ n e. ap (λ (f : ℕ → Bool). f n) led.standbys ∙ e in

@@ -14,9 +14,9 @@ use Rattle.wal_model.specs.declared.entry.Entry.{Entry}
 use Rattle.wal_model.specs.Log.{end_of}
 use Rattle.pg_model.specs.declared.status.ServerStatus.{ServerStatus}
 use Rattle.pg_model.specs.Facts.{entries_of}
-use Rattle.cluster_view.specs.KeyValues.{sync_by, sync_of_entry, sync_in}
+use Rattle.cluster_view.specs.KeyValues.{sync_by, sync_in}
 use Rattle.cluster_view.specs.Naming.{is_standby}
-use Rattle.cluster_view.specs.Snapshots.{SnapshotFacts, entry_in}
+use Rattle.cluster_view.specs.Snapshots.{SnapshotFacts, entry_in, found_by, value_by}
 use Rattle.lease_model.proofs.Tools.{some-is, none-some, eq-from}
 use Rattle.event_book.specs.Functions.{set_members}
 use Rattle.sync_state.specs.Published.{standbys_of, published_in}
@@ -42,7 +42,7 @@ use Rattle.commit_actions.proofs.Counting.{none-less}
 use Rattle.agent_model.specs.Decisions.{asks_lease, asks_sync, is_lease_of, is_write_of, may_create}
 use Rattle.agent_model.specs.Fits.{Fits}
 use Rattle.agent_roles.specs.Powers.{IsAwaitedLease}
-use Rattle.agent_model.specs.Synchronous.{sync_read_by, sync_read_of_entry, sync_read_in, expected_of, is_named_if}
+use Rattle.agent_model.specs.Synchronous.{sync_read_by, sync_read_in, expected_of, is_named_if, sync_read_at}
 use Rattle.agent_commit_law.proofs.CommitIdling.{TurnsOn, Idle, before-idle}
 use Rattle.agent_commit_law.proofs.CommitLawful.{was_of}
 use Rattle.agent_commit_law.proofs.CommitSteps.{IsForeign}
@@ -229,8 +229,8 @@ seen-stored : (revision : ℕ) (stored : Option StoredKey) (key : SyncKey)
 seen-stored revision None key e = absurd (none-some key e)
 seen-stored revision (Some there) key e = (there, refl, sym (some-is (key_seen there revision) key e))
 
-seen-entry : (found : Option KeyEntry) (key : SyncKey) → sync_seen (sync_read_of_entry found) ≡ Some key
-    → (there : StoredKey) × (sync_of_entry found ≡ Some there) × (key.leader ≡ there.leader.number)
+seen-entry : (found : Option KeyEntry) (key : SyncKey) → sync_seen (found_by sync_read_at found) ≡ Some key
+    → (there : StoredKey) × (value_by sync_by found ≡ Some there) × (key.leader ≡ there.leader.number)
     × (key.standbys ≡ set_members there.standbys)
 seen-entry None key e = absurd (none-some key e)
 seen-entry (Some found) key e = let stored = seen-stored found.revision (sync_by found.value) key e in

@@ -34,6 +34,8 @@ pub required-needs : (required : Required) (n : ℕ) → set_members (required_m
 required-needs requireds.Nobody n is = absurd (not-false (set_members nobody n) (no-members nobody refl n) is)
 required-needs requireds.AnyOne n is = absurd (not-false (set_members nobody n) (no-members nobody refl n) is)
 required-needs (requireds.All members) n is = is
+required-needs (requireds.AtLeast number of) n is =
+    absurd (not-false (set_members nobody n) (no-members nobody refl n) is)
 
 -- a list that shrinks grows by nobody
 pub narrows-grows : (o : Outcome) (before after : Confirmers) → Narrows before after → GrowsByConnected o before after

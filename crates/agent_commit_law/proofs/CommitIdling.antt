@@ -13,11 +13,17 @@ use Rattle.event_book.specs.declared.reason.Reason.TheVariants.{StoreOutOfReach,
 use Rattle.store_keys.specs.declared.action.OperatorRequest.{OperatorRequest}
 use Rattle.store_keys.specs.declared.txn.Txn.{Txn}
 use Rattle.store_keys.specs.declared.txn.Txn.TheVariants as txns
+use Rattle.store_keys.specs.declared.txn.LeaseTxn.TheVariants as lease_txns
+use Rattle.store_keys.specs.declared.txn.OperatorTxn.TheVariants as operator_txns
 use Rattle.lease_model.proofs.Tools.{some-is, none-some}
 use Rattle.agent_model.specs.declared.knowledge.PendingQuestion.{PendingQuestion}
 use Rattle.agent_model.specs.declared.operating.Operating.{Operating}
 use Rattle.agent_model.specs.declared.operating.Told.{Told}
 use Rattle.agent_model.specs.declared.output.Output.TheVariants as outputs
+use Rattle.agent_model.specs.declared.output.Noting.TheVariants as notings
+use Rattle.agent_model.specs.declared.output.Outgoing.TheVariants as outgoing
+use Rattle.agent_model.specs.declared.output.ServerOrder.TheVariants as orders
+use Rattle.agent_model.specs.declared.output.Telling.TheVariants as tellings
 use Rattle.agent_model.specs.declared.output.Target.TheVariants as targets
 use Rattle.agent_model.specs.declared.why.Why.{Why}
 use Rattle.agent_model.specs.declared.why.Why.TheVariants.{HandOver, Lost}
@@ -151,7 +157,8 @@ ended-idle : (told : Option SnapshotFacts) (why : Why) (held : ℕ) (o : Outcome
 ended-idle told HandOver held o =
     falls told o (has_ended HandOver held o) refl refl refl refl refl (waits-same o (has_ended HandOver held o) refl)
     (λ leads h q. quietly leads (disarmed o.machine.watchdog.deadline o.outputs)
-    (outputs.Send targets.Store (o.knows.sequence + 1) (bodies.Request (txns.Release held)))
+    (outputs.Message (outgoing.Send targets.Store (o.knows.sequence + 1)
+    (bodies.Request (txns.Lease (lease_txns.Release held)))))
     (quiet-disarmed leads o.machine.watchdog.deadline o.outputs q) tt)
 ended-idle told Lost held o =
     falls told o (has_ended Lost held o) refl refl refl refl refl (waits-same o (has_ended Lost held o) refl)
@@ -180,7 +187,8 @@ pub postpones-idle : (told : Option SnapshotFacts) (held : ℕ) (o : Outcome) �
 postpones-idle told held o =
     falls told o (postpones held o) refl refl refl refl refl (waits-same o (postpones held o) refl)
     (λ leads h q. quietly leads (disarmed o.machine.watchdog.deadline o.outputs)
-    (outputs.Note agent_notes.PostponesPromotion) (quiet-disarmed leads o.machine.watchdog.deadline o.outputs q) tt)
+    (outputs.Note (notings.Agent agent_notes.PostponesPromotion))
+    (quiet-disarmed leads o.machine.watchdog.deadline o.outputs q) tt)
 
 touching-idle : (told : Option SnapshotFacts) (o : Outcome) → Idle told o (touching o)
 touching-idle told o = stays told o (touching o) refl refl refl refl (waits-same o (touching o) refl)
@@ -188,8 +196,8 @@ touching-idle told o = stays told o (touching o) refl refl refl refl (waits-same
 
 barred-idle : (told : Option SnapshotFacts) (o : Outcome) → (bar : _) → Idle told o (barred bar o)
 barred-idle told o bar = stays told o (barred bar o) refl refl refl refl (waits-same o (barred bar o) refl)
-    (λ leads h q. quietly leads (with_output (outputs.Note (agent_notes.DoesNotRace bar)) o.outputs) _
-    (quietly leads o.outputs (outputs.Note (agent_notes.DoesNotRace bar)) q tt) tt)
+    (λ leads h q. quietly leads (with_output (outputs.Note (notings.Agent (agent_notes.DoesNotRace bar))) o.outputs) _
+    (quietly leads o.outputs (outputs.Note (notings.Agent (agent_notes.DoesNotRace bar))) q tt) tt)
 
 judged-idle : (told : Option SnapshotFacts) (now : Ticks) (o : Outcome) → Idle told o (judged now o)
 judged-idle told now o = judged-by (Idle told o) now o
@@ -202,20 +210,24 @@ judged-idle told now o = judged-by (Idle told o) now o
 stop-idle : (told : Option SnapshotFacts) (now : Ticks) (reason : _) (o : Outcome)
     → Idle told o (ending_server now reason o)
 stop-idle told now reason o = stays told o (ending_server now reason o) refl refl refl refl
-    (waits-same o (ending_server now reason o) refl) (λ leads h q. quietly leads o.outputs (outputs.Stop reason) q tt)
+    (waits-same o (ending_server now reason o) refl)
+    (λ leads h q. quietly leads o.outputs (outputs.Server (orders.Stop reason)) q tt)
 
 dropping-idle : (told : Option SnapshotFacts) (compared : ℕ) (o : Outcome) → Idle told o (dropping compared o)
 dropping-idle told compared o =
     stays told o (dropping compared o) refl refl refl refl (waits-same o (dropping compared o) refl)
     (λ leads h q. quietly leads o.outputs
-    (outputs.Send targets.Store (o.knows.sequence + 1) (bodies.Request (txns.DropFailover compared))) q tt)
+    (outputs.Message (outgoing.Send targets.Store (o.knows.sequence + 1)
+    (bodies.Request (txns.Operators (operator_txns.DropFailover compared)))))
+    q tt)
 
 hands-over-idle : (told : Option SnapshotFacts) (now : Ticks) (held : ℕ) (candidate : MemberId) (o : Outcome)
     → Idle told o (hands_over now held candidate o)
 hands-over-idle told now held candidate o = falls told o (hands_over now held candidate o) refl refl refl refl refl
     (waits-same o (hands_over now held candidate o) refl)
-    (λ leads h q. quietly leads (with_output (outputs.Note (agent_notes.HandsOver candidate)) o.outputs)
-    outputs.ShutDown (quietly leads o.outputs (outputs.Note (agent_notes.HandsOver candidate)) q tt) tt)
+    (λ leads h q. quietly leads (with_output (outputs.Note (notings.Agent (agent_notes.HandsOver candidate))) o.outputs)
+    (outputs.Server orders.ShutDown)
+    (quietly leads o.outputs (outputs.Note (notings.Agent (agent_notes.HandsOver candidate))) q tt) tt)
 
 -- a handover is judged behind another step
 handover-idle : (told : Option SnapshotFacts) (now : Ticks) (held : ℕ) (o x : Outcome) → Idle told o x
@@ -253,7 +265,7 @@ overdue-idle told now o = let w : Outcome = waiting_no_more o in overdue-by (Idl
   quiet = quiet-idle told o;
   leader = λ held _. falls told o (leader_out_of_reach now held w) refl refl refl refl refl
       (waits-nothing o (leader_out_of_reach now held w) refl)
-      (λ leads h q. quietly leads o.outputs (outputs.Stop StoreOutOfReach) q tt);
+      (λ leads h q. quietly leads o.outputs (outputs.Server (orders.Stop StoreOutOfReach)) q tt);
   seeks = λ held _. stays told o (asking_to_stay now (others_known o.knows) w) refl refl refl refl
       (waits-new o (asking_to_stay now (others_known o.knows) w) _ refl (omega arith))
       (λ leads h q. requests-quiet leads (others_known o.knows) (o.knows.sequence + 1)
@@ -264,7 +276,7 @@ overdue-idle told now o = let w : Outcome = waiting_no_more o in overdue-by (Idl
       (others_known o.knows) o.knows.sequence now o.outputs q);
   silent = λ held _. falls told o (leader_unacknowledged now held w) refl refl refl refl refl
       (waits-nothing o (leader_unacknowledged now held w) refl)
-      (λ leads h q. quietly leads o.outputs (outputs.Stop FailsafeNotAcknowledged) q tt);
+      (λ leads h q. quietly leads o.outputs (outputs.Server (orders.Stop FailsafeNotAcknowledged)) q tt);
   unleased = λ _. idle-then told o w (unleased_out_of_reach now w) (quiet-idle told o)
       (stop-idle told now StoreOutOfReach w) (omega arith);
   judges = λ _. judged-idle told now o;
@@ -281,7 +293,8 @@ turn-idle told now o =
       reads =
           λ _.
           stays told o (reading now noted) refl refl refl refl (waits-new o (reading now noted) _ refl (omega arith))
-          (λ leads h q. quietly leads o.outputs (outputs.Send targets.Store (o.knows.sequence + 1) bodies.Read) q tt);
+          (λ leads h q. quietly leads o.outputs
+          (outputs.Message (outgoing.Send targets.Store (o.knows.sequence + 1) bodies.Read)) q tt);
     })
 
 -- operators are answered
@@ -289,7 +302,7 @@ answering-idle : (told : Option SnapshotFacts) (request : ℕ) (answer : Told) (
     → Idle told o (answering request answer o)
 answering-idle told request answer o =
     stays told o (answering request answer o) refl refl refl refl (waits-same o (answering request answer o) refl)
-    (λ leads h q. quietly leads o.outputs (outputs.Told request answer) q tt)
+    (λ leads h q. quietly leads o.outputs (outputs.Tell (tellings.Told request answer)) q tt)
 
 replies-idle : (told : Option SnapshotFacts) (o : Outcome) → ReplyRows (Idle told o) o
 replies-idle told o =
@@ -315,8 +328,8 @@ operator-granted-idle told snapshot waiting o = let x : Outcome = learned snapsh
 
 -- what an operator wants is quiet
 operator-quiet : (leads : Bool) (txn : Txn) → IsOperatorTxn txn → QuietTxn leads txn
-operator-quiet leads (txns.SetFailover failover ttl) is = tt
-operator-quiet leads (txns.SetConfig revision config) is = tt
+operator-quiet leads (txns.Operators (operator_txns.SetFailover failover ttl)) is = tt
+operator-quiet leads (txns.Operators (operator_txns.SetConfig revision config)) is = tt
 operator-quiet leads _ is = absurd is
 
 pub operated-idle : (told : Option SnapshotFacts) (now : Ticks) (request : ℕ) (asked : OperatorRequest) (o : Outcome)
@@ -325,22 +338,25 @@ operated-idle told now request asked o = operated-by (Idle told o) now request a
   asks = λ operation txn is. let x : Outcome = operating now request operation (bodies.Request txn) o in
       stays told o x refl refl refl refl (waits-same o x refl)
       (λ leads h q. quietly leads o.outputs
-      (outputs.Send targets.Store (o.knows.sequence + 1) (bodies.Request txn)) q (operator-quiet leads txn is));
+      (outputs.Message (outgoing.Send targets.Store (o.knows.sequence + 1) (bodies.Request txn))) q
+      (operator-quiet leads txn is));
   restarts = λ answer. let x : Outcome = telling request answer (restarting now o) in
       stays told o x refl refl refl refl (waits-same o x refl)
-      (λ leads h q. quietly leads (restarting now o).outputs (outputs.Told request answer)
-      (quietly leads o.outputs (outputs.Restart (is_primary o.machine.server.state)) q tt) tt);
+      (λ leads h q. quietly leads (restarting now o).outputs (outputs.Tell (tellings.Told request answer))
+      (quietly leads o.outputs (outputs.Server (orders.Restart (is_primary o.machine.server.state))) q tt) tt);
   wipes = λ answer. let x : Outcome = telling request answer (wiping o) in
       stays told o x refl refl refl refl (waits-same o x refl)
       (λ leads h q.
-      quietly leads (wiping o).outputs (outputs.Told request answer) (quietly leads o.outputs outputs.Wipe q tt) tt);
+      quietly leads (wiping o).outputs (outputs.Tell (tellings.Told request answer))
+      (quietly leads o.outputs (outputs.Server orders.Wipe) q tt) tt);
   holds = λ ttl answer _. let held : Outcome = holding_for now o.knows.who.me unnumbered ttl o in
       let x : Outcome = telling request answer held in
       stays told o x refl refl refl refl (waits-same o x refl)
-      (λ leads h q. quietly leads held.outputs (outputs.Told request answer)
-      (quietly leads o.outputs (outputs.HoldTaken (span_after now ttl) o.knows.who.me unnumbered) q tt) tt);
+      (λ leads h q. quietly leads held.outputs (outputs.Tell (tellings.Told request answer))
+      (quietly leads o.outputs (outputs.Tell (tellings.HoldTaken (span_after now ttl) o.knows.who.me unnumbered)) q tt)
+      tt);
   refuses = λ answer. let x : Outcome = telling request answer o in stays told o x refl refl refl refl
-      (waits-same o x refl) (λ leads h q. quietly leads o.outputs (outputs.Told request answer) q tt);
+      (waits-same o x refl) (λ leads h q. quietly leads o.outputs (outputs.Tell (tellings.Told request answer)) q tt);
 })
 
 -- behind what precedes it
@@ -363,11 +379,11 @@ follow-idle told now leader o = let x : Outcome = led_by_another o in
     (falls told o x refl refl refl refl refl (waits-same o x refl) (λ leads h q. q))
     (falls told o (starting_replica now (Some leader) x) refl refl refl refl refl
     (waits-same o (starting_replica now (Some leader) x) refl)
-    (λ leads h q. quietly leads o.outputs (outputs.StartReplica (Some leader)) q tt))
+    (λ leads h q. quietly leads o.outputs (outputs.Server (orders.StartReplica (Some leader))) q tt))
     (falls told o (following_server leader x) refl refl refl refl refl (waits-same o (following_server leader x) refl)
-    (λ leads h q. quietly leads o.outputs (outputs.Follow leader) q tt))
+    (λ leads h q. quietly leads o.outputs (outputs.Server (orders.Follow leader)) q tt))
     (falls told o (shutting_down now x) refl refl refl refl refl (waits-same o (shutting_down now x) refl)
-    (λ leads h q. quietly leads o.outputs outputs.ShutDown q tt)) in
+    (λ leads h q. quietly leads o.outputs (outputs.Server orders.ShutDown) q tt)) in
     let counted : o.knows.sequence ≤ row.knows.sequence =
     follow-by (λ (y : Outcome). o.knows.sequence ≤ y.knows.sequence) may now leader o.machine.server.state x
     (omega arith) (omega arith) (omega arith) (omega arith) in
@@ -381,7 +397,8 @@ follow-idle told now leader o = let x : Outcome = led_by_another o in
       noted = told-it.noted;
       turn = told-it.turn;
       waits = told-it.waits;
-      quiet = λ leads h q. quietly leads (touching row).outputs (outputs.Repair leader r) (told-it.quiet leads h q) tt;
+      quiet = λ leads h q.
+          quietly leads (touching row).outputs (outputs.Server (orders.Repair leader r)) (told-it.quiet leads h q) tt;
     })
 
 pub free-idle : (told : Option SnapshotFacts) (now : Ticks) (o : Outcome) → Idle told o (finds_free now o)
@@ -391,7 +408,7 @@ free-idle told now o =
     free-by (Idle told o) now x (record {
       starts = idle-then told o starts (touching starts)
           (falls told o starts refl refl refl refl refl (waits-same o starts refl)
-          (λ leads h q. quietly leads o.outputs (outputs.StartReplica None) q tt))
+          (λ leads h q. quietly leads o.outputs (outputs.Server (orders.StartReplica None)) q tt))
           (touching-idle told starts) (omega arith);
       touches = idle-then told o x (touching x) fell (touching-idle told x) (omega arith);
       bars = λ bar. idle-then told o x (barred bar x) fell (barred-idle told x bar) (omega arith);
@@ -443,7 +460,7 @@ renewing-idle snapshot now points revision o =
 runs-idle : (told : Option SnapshotFacts) (o : Outcome) → Idle told o (running_without_key o)
 runs-idle told o =
     falls told o (running_without_key o) refl refl refl refl refl (waits-same o (running_without_key o) refl)
-    (λ leads h q. quietly leads o.outputs (outputs.Note agent_notes.RunsWithoutKey) q tt)
+    (λ leads h q. quietly leads o.outputs (outputs.Note (notings.Agent agent_notes.RunsWithoutKey)) q tt)
 
 pub got-idle : (now : Ticks) (points : List HistoryPoint) (sequence : ℕ) (snapshot : SnapshotFacts) (o : Outcome)
     → Idle (Some snapshot) o (read_answered now points sequence snapshot o)
@@ -458,7 +475,7 @@ got-idle now points sequence snapshot o = let read : Outcome = record o { knows 
       other = first;
       leader = λ held _. let lost : Outcome = leader_loses_key now held read in behind lost
           (falls told read lost refl refl refl refl refl (waits-same read lost refl)
-          (λ leads h q. quietly leads o.outputs (outputs.Stop LeaderKeyLost) q tt));
+          (λ leads h q. quietly leads o.outputs (outputs.Server (orders.Stop LeaderKeyLost)) q tt));
       unleased = λ _. behind (unleased_loses_key now read) (stop-idle told now LeaderKeyLost read);
       renews = λ _ leader _ _.
           behind (renewing now points leader.revision read) (renewing-idle snapshot now points leader.revision read);
@@ -469,8 +486,9 @@ got-idle now points sequence snapshot o = let read : Outcome = record o { knows 
       asks_on = λ _. let asks : Outcome = asks_as_unleased now read in
           behind asks
           (falls told read asks refl refl refl refl refl (waits-new read asks _ refl (omega arith))
-          (λ leads h q. quietly leads (with_output (outputs.Note agent_notes.RunsWithoutKey) o.outputs) _
-          (quietly leads o.outputs (outputs.Note agent_notes.RunsWithoutKey) q tt) refl));
+          (λ leads h q.
+          quietly leads (with_output (outputs.Note (notings.Agent agent_notes.RunsWithoutKey)) o.outputs) _
+          (quietly leads o.outputs (outputs.Note (notings.Agent agent_notes.RunsWithoutKey)) q tt) refl));
     })
 
 refused-idle : (told : Option SnapshotFacts) (now : Ticks) (sequence : ℕ) (o : Outcome)
@@ -481,7 +499,7 @@ refused-idle told now sequence o =
       quiet = quiet-idle told o;
       leader = λ held _. falls told o (leader_loses_key now held w) refl refl refl refl refl
           (waits-nothing o (leader_loses_key now held w) refl)
-          (λ leads h q. quietly leads o.outputs (outputs.Stop LeaderKeyLost) q tt);
+          (λ leads h q. quietly leads o.outputs (outputs.Server (orders.Stop LeaderKeyLost)) q tt);
       unleased = λ _. idle-then told o w (unleased_loses_key now w) (quiet-idle told o)
           (stop-idle told now LeaderKeyLost w) (omega arith);
       follower = λ held _. falls told o (record w { role = Follower }) refl refl refl refl refl
@@ -533,7 +551,7 @@ stay-answered-idle told now from sequence accepted sent o =
           c.knows.failsafe.members waited.sequence since o.outputs q);
       fails = λ held _ _. falls told o (leader_unacknowledged now held w) refl refl refl refl refl
           (waits-nothing o (leader_unacknowledged now held w) refl)
-          (λ leads h q. quietly leads o.outputs (outputs.Stop FailsafeNotAcknowledged) q tt);
+          (λ leads h q. quietly leads o.outputs (outputs.Server (orders.Stop FailsafeNotAcknowledged)) q tt);
     })
 
 -- another member asks to stay primary
@@ -543,11 +561,12 @@ stay-asked-idle told now from incarnation sequence ttl o =
     failsafe-asked-by (Idle told o) now from incarnation sequence ttl o
     (λ _. let x : Outcome = answering_failsafe from incarnation sequence true (holding_for now from sequence ttl o) in
     stays told o x refl refl refl refl (waits-same o x refl)
-    (λ leads h q. quietly leads _ (outputs.FailsafeAnswer from incarnation sequence true)
-    (quietly leads o.outputs (outputs.HoldTaken (span_after now ttl) from sequence) q tt) tt))
+    (λ leads h q. quietly leads _ (outputs.Message (outgoing.FailsafeAnswer from incarnation sequence true))
+    (quietly leads o.outputs (outputs.Tell (tellings.HoldTaken (span_after now ttl) from sequence)) q tt) tt))
     (let x : Outcome = answering_failsafe from incarnation sequence false o in
     stays told o x refl refl refl refl (waits-same o x refl)
-    (λ leads h q. quietly leads o.outputs (outputs.FailsafeAnswer from incarnation sequence false) q tt))
+    (λ leads h q.
+    quietly leads o.outputs (outputs.Message (outgoing.FailsafeAnswer from incarnation sequence false)) q tt))
 
 -- without a snapshot, whatever renewals may carry
 pub quiet-of : {o after : Outcome} (leads : Bool) → Idle None o after → All (Stands leads) o.outputs

@@ -11,6 +11,7 @@ use Rattle.lease_store.specs.declared.granted.Granted.{Granted}
 use Rattle.store_keys.specs.declared.txn.Expected.{Expected}
 use Rattle.store_keys.specs.declared.txn.Txn.{Txn}
 use Rattle.store_keys.specs.declared.txn.Txn.TheVariants as txns
+use Rattle.store_keys.specs.declared.txn.SyncTxn.TheVariants as sync_txns
 use Rattle.lease_store.specs.Writes.{nobody}
 use Rattle.wal_model.specs.declared.entry.HistoryPoint.{HistoryPoint}
 use Rattle.pg_model.specs.declared.status.ServerStatus.{ServerStatus}
@@ -41,6 +42,10 @@ use Rattle.agent_model.specs.declared.machine.Machine.{Machine}
 use Rattle.agent_model.specs.declared.machine.Replication.{Replication}
 use Rattle.agent_model.specs.declared.output.Output.{Output}
 use Rattle.agent_model.specs.declared.output.Output.TheVariants as outputs
+use Rattle.agent_model.specs.declared.output.Noting.TheVariants as notings
+use Rattle.agent_model.specs.declared.output.Outgoing.TheVariants as outgoing
+use Rattle.agent_model.specs.declared.output.ServerOrder.TheVariants as orders
+use Rattle.agent_model.specs.declared.output.Telling.TheVariants as tellings
 use Rattle.agent_model.specs.declared.output.Target.TheVariants as targets
 use Rattle.agent_model.specs.declared.why.Why.{Why}
 use Rattle.agent_model.specs.declared.why.Why.TheVariants.{HandOver, Lost}
@@ -139,24 +144,28 @@ last-stays quorum heard o x outs output asks is unbegun uncarried still form sen
 
 -- a question to the key store is the last output
 asks-stays : (quorum : ℕ) (heard : Heard) (o x : Outcome) (outs : List Output) (sequence : ℕ) (body : Body)
-    → AsksInSynchronousMode x.knows → x.outputs ≡ with_output (outputs.Send targets.Store sequence body) outs
-    → is_carrying (outputs.Send targets.Store sequence body) ≡ false → All IsCovered outs
+    → AsksInSynchronousMode x.knows
+    → x.outputs ≡ with_output (outputs.Message (outgoing.Send targets.Store sequence body)) outs
+    → is_carrying (outputs.Message (outgoing.Send targets.Store sequence body)) ≡ false → All IsCovered outs
     → ((count : ℕ) → KnowsBelow count heard o → IsSynchronousBody count quorum body)
     → StaysInSynchronousMode quorum heard o x
 asks-stays quorum heard o x outs sequence body asks is uncarried all sends =
-    last-stays quorum heard o x outs (outputs.Send targets.Store sequence body) asks is refl uncarried
+    last-stays quorum heard o x outs
+    (outputs.Message (outgoing.Send targets.Store sequence body)) asks is refl uncarried
     (unasking false outs (covered false outs all)) (Ordered outs (Asks sequence body) [] all refl (sym is)) sends
 
 -- so is a claim, behind the note that the sync key doesn't name the member, if that is so
 claims-form : (o : Outcome) (sequence revision : ℕ) (sync : Expected) → All IsCovered o.outputs
-    → HasForm (with_output (outputs.Send targets.Store sequence (bodies.Request (txns.Claim revision sync)))
+    → HasForm (with_output (outputs.Message (outgoing.Send targets.Store sequence
+    (bodies.Request (txns.Sync (sync_txns.Claim revision sync)))))
     (passing o).outputs)
 claims-form o sequence revision sync all =
-    let claim : Output = outputs.Send targets.Store sequence (bodies.Request (txns.Claim revision sync)) in
+    let claim : Output = outputs.Message
+    (outgoing.Send targets.Store sequence (bodies.Request (txns.Sync (sync_txns.Claim revision sync)))) in
     passing-by (λ (outs : List Output). HasForm (with_output claim outs)) o
-    (Ordered o.outputs (Asks sequence (bodies.Request (txns.Claim revision sync))) [] all refl refl)
+    (Ordered o.outputs (Asks sequence (bodies.Request (txns.Sync (sync_txns.Claim revision sync)))) [] all refl refl)
     (ClaimsOutsideSync o.outputs sequence revision sync all
-    (sym (append_assoc o.outputs (outputs.ClaimsOutsideSync ∷ []) (claim ∷ []))))
+    (sym (append_assoc o.outputs ((outputs.Tell tellings.ClaimsOutsideSync) ∷ []) (claim ∷ []))))
 
 -- nothing is waited for, or this question
 rest : (knows : Knowledge) → knows.waited ≡ None → AsksInSynchronousMode knows
@@ -207,10 +216,13 @@ module _ (quorum : ℕ) (now : Ticks) (sequence : ℕ) (grant : Granted) (snapsh
       let fed : Outcome = led_by b w grant.revision snapshot in
       let x : Outcome = naming now grant.revision settling set fed in
       asks-stays quorum Hears o x fed.outputs (b.knows.sequence + 1)
-      (bodies.Request (txns.SetSync grant.revision (expected_of (sync_read_in snapshot)) set))
+      (bodies.Request (txns.Sync (sync_txns.SetSync grant.revision (expected_of (sync_read_in snapshot)) set None)))
       (asks-this x.knows _ refl (follows b.knows.turn_settings.synchronous_mode)) refl refl (w.covered all)
-      (λ count knows.
-      (below count knows, none-written (txns.SetSync grant.revision (expected_of (sync_read_in snapshot)) set) quorum))
+      (λ count knows. (
+        below count knows,
+        none-written (txns.Sync (sync_txns.SetSync grant.revision (expected_of (sync_read_in snapshot)) set None))
+            quorum,
+      ))
 
   nobody-below : (count n : ℕ) → set_members nobody n ≡ true → n < count
   nobody-below count n is = absurd (not-false (set_members nobody n) (no-members nobody refl n) is)
@@ -269,7 +281,7 @@ module _ (quorum : ℕ) (now : Ticks) (sequence : ℕ) (grant : Granted) (snapsh
       let ended : Outcome = record (ending_server now StartTooLong led) { role = Ending grant.revision HandOver } in
       record {
         ends = rests-quiet ended (rest ended.knows refl)
-            (quietly false led.outputs (outputs.Stop StartTooLong) (w.quiet false quiet) tt);
+            (quietly false led.outputs (outputs.Server (orders.Stop StartTooLong)) (w.quiet false quiet) tt);
         plans = plan-stays w;
         fails_over = failover-stays w leads;
       }
@@ -291,14 +303,15 @@ module _ (quorum : ℕ) (now : Ticks) (sequence : ℕ) (grant : Granted) (snapsh
         leads = λ held is. led-stays (fed-by now ttl b) (rw is refl);
         keeps = λ held is. led-stays (as-it-was b) (rw is refl);
         stops = λ _. rests-quiet stopped (rest stopped.knows refl)
-            (quietly false b.outputs (outputs.Stop WatchdogNotArmed) quiet tt);
+            (quietly false b.outputs (outputs.Server (orders.Stop WatchdogNotArmed)) quiet tt);
         takes_over = λ _. rests-quiet over (rest over.knows refl) (covered false arm.outputs armed);
         returns = rests-quiet back (rest back.knows refl) (quietly false b.outputs _ quiet tt);
         refuses = rests-quiet refused-it (rest refused-it.knows refl)
-            (quietly false (with_output (outputs.Note agent_notes.CannotArm) b.outputs) _
-            (quietly false b.outputs (outputs.Note agent_notes.CannotArm) quiet tt) tt);
+            (quietly false (with_output (outputs.Note (notings.Agent agent_notes.CannotArm)) b.outputs) _
+            (quietly false b.outputs (outputs.Note (notings.Agent agent_notes.CannotArm)) quiet tt) tt);
         claims = λ _. last-stays quorum Hears o claimed (passing arm).outputs
-            (outputs.Send targets.Store (b.knows.sequence + 1) (bodies.Request (txns.Claim revision read)))
+            (outputs.Message (outgoing.Send targets.Store (b.knows.sequence + 1)
+            (bodies.Request (txns.Sync (sync_txns.Claim revision read)))))
             (asks-this claimed.knows _ refl tt) refl refl refl
             (passing-unasked false arm (covered false arm.outputs armed))
             (claims-form arm (b.knows.sequence + 1) revision read armed) (λ count below. tt);
@@ -314,16 +327,17 @@ module _ (quorum : ℕ) (now : Ticks) (sequence : ℕ) (grant : Granted) (snapsh
       record {
         asks = rest x.knows refl;
         one = last-one false o.knows.who.me.number o.knows.incarnation
-            (with_output required b.outputs) outputs.Begin asking-none;
+            (with_output required b.outputs) (outputs.Server orders.Begin) asking-none;
         sends = λ count below. All-push (IsSynchronousOutput count quorum) (with_output required b.outputs)
-            outputs.Begin (keeps-mode false count quorum (with_output required b.outputs) asking-none) tt;
-        form = Ordered b.outputs (Requires list) (outputs.Begin ∷ []) all (inr refl)
-            (sym (append_assoc b.outputs (required ∷ []) (outputs.Begin ∷ [])));
+            (outputs.Server orders.Begin)
+            (keeps-mode false count quorum (with_output required b.outputs) asking-none) tt;
+        form = Ordered b.outputs (Requires list) ((outputs.Server orders.Begin) ∷ []) all (inr refl)
+            (sym (append_assoc b.outputs (required ∷ []) ((outputs.Server orders.Begin) ∷ [])));
         begins = λ _. subst (λ (server : ServerStatus). can_begin_on_claim server.was_primary server.state ≡ true)
             behind.server can;
         carries = λ e.
             absurd (not-false (has_one is_carrying x.outputs)
-            (carried-last (with_output required b.outputs) outputs.Begin asking-none refl) e);
+            (carried-last (with_output required b.outputs) (outputs.Server orders.Begin) asking-none refl) e);
       }
 
   write-stays : (question : Question) → WriteSteps Stays now question snapshot b
@@ -424,7 +438,8 @@ data ReadForm (outs : List Output) : Type 0 where
   Alone : All (Stands false) outs → ReadForm outs
   AsksLast : (front : List Output) (sequence : ℕ) (txn : Txn) → All IsCovered front
       → ((count quorum : ℕ) → IsSynchronousTxn count quorum txn)
-      → outs ≡ with_output (outputs.Send targets.Store sequence (bodies.Request txn)) front → ReadForm outs
+      → outs ≡ with_output (outputs.Message (outgoing.Send targets.Store sequence (bodies.Request txn))) front
+      → ReadForm outs
 
 read-form : (now : Ticks) (points : List HistoryPoint) (sequence : ℕ) (snapshot : SnapshotFacts) (o : Outcome)
     → All IsCovered o.outputs → ReadForm (read_answered now points sequence snapshot o).outputs
@@ -435,18 +450,20 @@ read-form now points sequence snapshot o all =
       kept = ReadForm.Alone quiet;
       quiet = ReadForm.Alone quiet;
       other = ReadForm.Alone quiet;
-      leader = λ held _. ReadForm.Alone (quietly false o.outputs (outputs.Stop LeaderKeyLost) quiet tt);
-      unleased = λ _. ReadForm.Alone (quietly false o.outputs (outputs.Stop LeaderKeyLost) quiet tt);
+      leader = λ held _. ReadForm.Alone (quietly false o.outputs (outputs.Server (orders.Stop LeaderKeyLost)) quiet tt);
+      unleased = λ _. ReadForm.Alone (quietly false o.outputs (outputs.Server (orders.Stop LeaderKeyLost)) quiet tt);
       renews = λ _ leader _ _. ReadForm.AsksLast o.outputs (o.knows.sequence + 1)
           (renewal now points leader.revision read.knows read.machine.server (set_carried read)) all
           (λ count quorum. tt) refl;
       touches = ReadForm.Alone (quietly false o.outputs _ quiet tt);
       follows = λ leader _ _. ReadForm.Alone (quiet-of false (follow-idle None now leader.holder read) quiet);
       free = λ _ _. ReadForm.Alone (quiet-of false (free-idle None now read) quiet);
-      runs_on = λ _. ReadForm.Alone (quietly false o.outputs (outputs.Note agent_notes.RunsWithoutKey) quiet tt);
+      runs_on = λ _.
+          ReadForm.Alone (quietly false o.outputs (outputs.Note (notings.Agent agent_notes.RunsWithoutKey)) quiet tt);
       asks_on = λ _.
-          ReadForm.Alone (quietly false (with_output (outputs.Note agent_notes.RunsWithoutKey) o.outputs) _
-          (quietly false o.outputs (outputs.Note agent_notes.RunsWithoutKey) quiet tt) refl);
+          ReadForm.Alone (quietly false
+          (with_output (outputs.Note (notings.Agent agent_notes.RunsWithoutKey)) o.outputs) _
+          (quietly false o.outputs (outputs.Note (notings.Agent agent_notes.RunsWithoutKey)) quiet tt) refl);
     })
 
 looked-covered : (sequence : ℕ) (snapshot : SnapshotFacts) (o : Outcome) → All IsCovered o.outputs
@@ -454,7 +471,7 @@ looked-covered : (sequence : ℕ) (snapshot : SnapshotFacts) (o : Outcome) → A
 looked-covered sequence snapshot o all =
     looked-by (λ (x : Outcome). All IsCovered x.outputs) sequence snapshot o (record {
       kept = all;
-      answers = λ request answer. All-push IsCovered o.outputs (outputs.Told request answer) all tt;
+      answers = λ request answer. All-push IsCovered o.outputs (outputs.Tell (tellings.Told request answer)) all tt;
     })
 
 -- a set for the failsafe key is carried by who leads with a live server
@@ -464,7 +481,7 @@ reads-stay : (now : Ticks) (sequence : ℕ) (snapshot : SnapshotFacts) (o x : Ou
 reads-stay now sequence snapshot o x asks (Alone quiet) lives =
     quiet-stays strict_quorum (ReadAnswered sequence snapshot) o x asks quiet
 reads-stay now sequence snapshot o x asks (AsksLast front number txn all synchronous is) lives =
-    let output : Output = outputs.Send targets.Store number (bodies.Request txn) in
+    let output : Output = outputs.Message (outgoing.Send targets.Store number (bodies.Request txn)) in
     let still : All (IsUnasking false) front = unasking false front (covered false front all) in
     let unbegun : has_one is_begin x.outputs ≡ false = ap (has_one is_begin) is
     ∙ last-unbegun false front output still refl in

@@ -11,6 +11,8 @@ use Rattle.pat_base.specs.declared.ticks.Ticks.{Ticks}
 use Rattle.store_keys.specs.declared.txn.Expected.{Expected}
 use Rattle.store_keys.specs.declared.txn.Txn.{Txn}
 use Rattle.store_keys.specs.declared.txn.Txn.TheVariants as txns
+use Rattle.store_keys.specs.declared.txn.LeaseTxn.TheVariants as lease_txns
+use Rattle.store_keys.specs.declared.txn.SyncTxn.TheVariants as sync_txns
 use Rattle.store_keys.specs.declared.value.HistoryRow.{HistoryRow}
 use Rattle.store_keys.specs.declared.value.MemberInfo.{MemberInfo}
 use Rattle.failsafe.specs.Asks.{has}
@@ -21,6 +23,11 @@ use Rattle.commit_actions.specs.Flights.{SyncRequest}
 use Rattle.commit_actions.specs.Past.{create_query, renew_query, query_of}
 use Rattle.agent_model.specs.declared.output.Output.{Output}
 use Rattle.agent_model.specs.declared.output.Output.TheVariants as outputs
+use Rattle.agent_model.specs.declared.output.Feeding.TheVariants as feedings
+use Rattle.agent_model.specs.declared.output.Noting.TheVariants as notings
+use Rattle.agent_model.specs.declared.output.Outgoing.TheVariants as outgoing
+use Rattle.agent_model.specs.declared.output.ServerOrder.TheVariants as orders
+use Rattle.agent_model.specs.declared.output.Telling.TheVariants as tellings
 use Rattle.agent_model.specs.declared.output.Target.TheVariants as targets
 use Rattle.agent_model.specs.declared.who.Who.{Who}
 use Rattle.agent_model.specs.Acting.{armed, fed_until, disarmed}
@@ -43,11 +50,11 @@ MayCarrySet carries (Some members) = carries ≡ true
 -- a request that neither compares the sync key nor writes it; where it
 -- may, a renewal carries a set for the failsafe key
 abbrev pub QuietTxn : Bool → Txn → Type 0
-QuietTxn carries (txns.Renew revision info ttl status row failsafe) = MayCarrySet carries failsafe
-QuietTxn carries (txns.Create info ttl failsafe sync) = sync ≡ None
-QuietTxn carries (txns.Claim revision sync) = ⊥
-QuietTxn carries (txns.SetSync revision sync standbys) = ⊥
-QuietTxn carries (txns.DropSync revision sync) = ⊥
+QuietTxn carries (txns.Lease (lease_txns.Renew revision info ttl status row failsafe)) = MayCarrySet carries failsafe
+QuietTxn carries (txns.Lease (lease_txns.Create info ttl failsafe sync)) = sync ≡ None
+QuietTxn carries (txns.Sync (sync_txns.Claim revision sync)) = ⊥
+QuietTxn carries (txns.Sync (sync_txns.SetSync revision sync standbys may_lack)) = ⊥
+QuietTxn carries (txns.Sync (sync_txns.DropSync revision sync)) = ⊥
 QuietTxn carries _ = Unit {0}
 
 abbrev pub QuietBody : Bool → Body → Type 0
@@ -56,10 +63,10 @@ QuietBody carries _ = Unit {0}
 
 -- an output that stands alone, but that such a renewal may carry a set
 abbrev pub Stands : Bool → Output → Type 0
-Stands carries (outputs.Send to sequence body) = QuietBody carries body
+Stands carries (outputs.Message (outgoing.Send to sequence body)) = QuietBody carries body
 Stands carries (outputs.Require required) = ⊥
-Stands carries outputs.Begin = ⊥
-Stands carries outputs.ClaimsOutsideSync = ⊥
+Stands carries (outputs.Server orders.Begin) = ⊥
+Stands carries (outputs.Tell tellings.ClaimsOutsideSync) = ⊥
 Stands carries _ = Unit {0}
 
 no-set : (failsafe : Option MemberSet) → failsafe ≡ None → (leads : Bool) → MayCarrySet leads failsafe
@@ -67,11 +74,12 @@ no-set None is leads = tt
 no-set (Some members) is leads = absurd (none-some members (sym is))
 
 quieter-txn : (leads : Bool) (txn : Txn) → IsQuietTxn txn → QuietTxn leads txn
-quieter-txn leads (txns.Renew revision info ttl status row failsafe) quiet = no-set failsafe quiet leads
-quieter-txn leads (txns.Create info ttl failsafe sync) quiet = quiet
-quieter-txn leads (txns.Claim revision sync) quiet = quiet
-quieter-txn leads (txns.SetSync revision sync standbys) quiet = quiet
-quieter-txn leads (txns.DropSync revision sync) quiet = quiet
+quieter-txn leads (txns.Lease (lease_txns.Renew revision info ttl status row failsafe)) quiet =
+    no-set failsafe quiet leads
+quieter-txn leads (txns.Lease (lease_txns.Create info ttl failsafe sync)) quiet = quiet
+quieter-txn leads (txns.Sync (sync_txns.Claim revision sync)) quiet = quiet
+quieter-txn leads (txns.Sync (sync_txns.SetSync revision sync standbys may_lack)) quiet = quiet
+quieter-txn leads (txns.Sync (sync_txns.DropSync revision sync)) quiet = quiet
 quieter-txn leads _ quiet = tt
 
 quieter-body : (leads : Bool) (body : Body) → IsQuietBody body → QuietBody leads body
@@ -83,11 +91,11 @@ none-carried None may = refl
 none-carried (Some members) may = absurd (not-false false refl may)
 
 plain-txn : (txn : Txn) → QuietTxn false txn → IsQuietTxn txn
-plain-txn (txns.Renew revision info ttl status row failsafe) quiet = none-carried failsafe quiet
-plain-txn (txns.Create info ttl failsafe sync) quiet = quiet
-plain-txn (txns.Claim revision sync) quiet = quiet
-plain-txn (txns.SetSync revision sync standbys) quiet = quiet
-plain-txn (txns.DropSync revision sync) quiet = quiet
+plain-txn (txns.Lease (lease_txns.Renew revision info ttl status row failsafe)) quiet = none-carried failsafe quiet
+plain-txn (txns.Lease (lease_txns.Create info ttl failsafe sync)) quiet = quiet
+plain-txn (txns.Sync (sync_txns.Claim revision sync)) quiet = quiet
+plain-txn (txns.Sync (sync_txns.SetSync revision sync standbys may_lack)) quiet = quiet
+plain-txn (txns.Sync (sync_txns.DropSync revision sync)) quiet = quiet
 plain-txn _ quiet = tt
 
 pub plain-body : (body : Body) → QuietBody false body → IsQuietBody body
@@ -95,10 +103,10 @@ plain-body (bodies.Request txn) quiet = plain-txn txn quiet
 plain-body _ quiet = tt
 
 plain-output : (output : Output) → Stands false output → StandsAlone output
-plain-output (outputs.Send to sequence body) quiet = plain-body body quiet
+plain-output (outputs.Message (outgoing.Send to sequence body)) quiet = plain-body body quiet
 plain-output (outputs.Require required) quiet = quiet
-plain-output outputs.Begin quiet = quiet
-plain-output outputs.ClaimsOutsideSync quiet = quiet
+plain-output (outputs.Server orders.Begin) quiet = quiet
+plain-output (outputs.Tell tellings.ClaimsOutsideSync) quiet = quiet
 plain-output _ quiet = tt
 
 -- where none may carry a set, they stand alone
@@ -108,20 +116,20 @@ plain outs quiet = All-weaker (Stands false) StandsAlone plain-output outs quiet
 -- an output that sends no other request, and by which no server comes
 -- to accept writes: one that starts again is live before it
 abbrev pub IsUnasking : Bool → Output → Type 0
-IsUnasking leads (outputs.Send to sequence body) = QuietBody leads body
-IsUnasking leads outputs.Begin = ⊥
+IsUnasking leads (outputs.Message (outgoing.Send to sequence body)) = QuietBody leads body
+IsUnasking leads (outputs.Server orders.Begin) = ⊥
 IsUnasking leads _ = Unit {0}
 
 -- one that stands alone asks for nothing
 quiet-unasking : (leads : Bool) (output : Output) → Stands leads output → IsUnasking leads output
-quiet-unasking leads (outputs.Send to sequence body) quiet = quiet
-quiet-unasking leads outputs.Begin quiet = quiet
+quiet-unasking leads (outputs.Message (outgoing.Send to sequence body)) quiet = quiet
+quiet-unasking leads (outputs.Server orders.Begin) quiet = quiet
 quiet-unasking leads _ quiet = tt
 
 -- nothing is asked either by an output of the table that stands alone, or that the law's input covers
 pub alone-unasking : (output : Output) → StandsAlone output → IsUnasking false output
-alone-unasking (outputs.Send to sequence body) alone = quieter-body false body alone
-alone-unasking outputs.Begin alone = alone
+alone-unasking (outputs.Message (outgoing.Send to sequence body)) alone = quieter-body false body alone
+alone-unasking (outputs.Server orders.Begin) alone = alone
 alone-unasking _ alone = tt
 
 pub unasking : (leads : Bool) (outs : List Output) → All (Stands leads) outs → All (IsUnasking leads) outs
@@ -129,10 +137,10 @@ unasking leads outs quiet = All-weaker (Stands leads) (IsUnasking leads) (quiet-
 
 -- one that the law's input covers
 covered-quiet : (leads : Bool) (output : Output) → IsCovered output → Stands leads output
-covered-quiet leads (outputs.Send to sequence body) covered = quieter-body leads body covered
-covered-quiet leads outputs.Begin covered = covered
+covered-quiet leads (outputs.Message (outgoing.Send to sequence body)) covered = quieter-body leads body covered
+covered-quiet leads (outputs.Server orders.Begin) covered = covered
 covered-quiet leads (outputs.Require required) covered = covered
-covered-quiet leads outputs.ClaimsOutsideSync covered = covered
+covered-quiet leads (outputs.Tell tellings.ClaimsOutsideSync) covered = covered
 covered-quiet leads _ covered = tt
 
 pub covered : (leads : Bool) (outs : List Output) → All IsCovered outs → All (Stands leads) outs
@@ -149,12 +157,13 @@ renew-none m revision (Some members) = refl
 
 txn-none : (leads : Bool) (m incarnation sequence : ℕ) (txn : Txn) → QuietTxn leads txn
     → request_in (query_of m incarnation sequence txn) ≡ None
-txn-none leads m incarnation sequence (txns.Create info ttl failsafe sync) quiet =
+txn-none leads m incarnation sequence (txns.Lease (lease_txns.Create info ttl failsafe sync)) quiet =
     create-none m incarnation sequence sync quiet
-txn-none leads m incarnation sequence (txns.Renew revision info ttl status row failsafe) quiet =
+txn-none leads m incarnation sequence (txns.Lease (lease_txns.Renew revision info ttl status row failsafe)) quiet =
     renew-none m revision failsafe
-txn-none leads m incarnation sequence (txns.Claim revision sync) quiet = absurd quiet
-txn-none leads m incarnation sequence (txns.SetSync revision sync standbys) quiet = absurd quiet
+txn-none leads m incarnation sequence (txns.Sync (sync_txns.Claim revision sync)) quiet = absurd quiet
+txn-none leads m incarnation sequence (txns.Sync (sync_txns.SetSync revision sync standbys may_lack)) quiet =
+    absurd quiet
 txn-none leads m incarnation sequence _ quiet = refl
 
 body-none : (leads : Bool) (m incarnation sequence : ℕ) (body : Body) → QuietBody leads body
@@ -164,9 +173,9 @@ body-none leads m incarnation sequence _ quiet = refl
 
 output-none : (leads : Bool) (m incarnation : ℕ) (output : Output) → IsUnasking leads output
     → request_of m incarnation output ≡ None
-output-none leads m incarnation (outputs.Send targets.Store sequence body) quiet =
+output-none leads m incarnation (outputs.Message (outgoing.Send targets.Store sequence body)) quiet =
     body-none leads m incarnation sequence body quiet
-output-none leads m incarnation (outputs.Send (targets.Member member) sequence body) quiet = refl
+output-none leads m incarnation (outputs.Message (outgoing.Send (targets.Member member) sequence body)) quiet = refl
 output-none leads m incarnation _ quiet = refl
 
 -- no request is among such outputs
@@ -211,7 +220,7 @@ last-one leads m incarnation outs output all =
 
 -- nobody begins by them
 unbegun : (leads : Bool) (output : Output) → IsUnasking leads output → is_begin output ≡ false
-unbegun leads outputs.Begin all = absurd all
+unbegun leads (outputs.Server orders.Begin) all = absurd all
 unbegun leads _ all = refl
 
 pub asks-unbegun : (leads : Bool) (outs : List Output) → All (IsUnasking leads) outs → has_one is_begin outs ≡ false
@@ -233,15 +242,15 @@ last-unbegun leads (one ∷ outs) output all is =
 
 -- and each is as synchronous mode has it
 create-kept : (count quorum : ℕ) (info : MemberInfo) (ttl : Ticks) (failsafe : Option Expected) (sync : Option Expected)
-    → sync ≡ None → IsSynchronousTxn count quorum (txns.Create info ttl failsafe sync)
+    → sync ≡ None → IsSynchronousTxn count quorum (txns.Lease (lease_txns.Create info ttl failsafe sync))
 create-kept count quorum info ttl failsafe None is = tt
 create-kept count quorum info ttl failsafe (Some sync) is = absurd (none-some sync (sym is))
 
 kept-txn : (leads : Bool) (count quorum : ℕ) (txn : Txn) → QuietTxn leads txn → IsSynchronousTxn count quorum txn
-kept-txn leads count quorum (txns.Create info ttl failsafe sync) quiet =
+kept-txn leads count quorum (txns.Lease (lease_txns.Create info ttl failsafe sync)) quiet =
     create-kept count quorum info ttl failsafe sync quiet
-kept-txn leads count quorum (txns.SetSync revision sync standbys) quiet = absurd quiet
-kept-txn leads count quorum (txns.DropSync revision sync) quiet = quiet
+kept-txn leads count quorum (txns.Sync (sync_txns.SetSync revision sync standbys may_lack)) quiet = absurd quiet
+kept-txn leads count quorum (txns.Sync (sync_txns.DropSync revision sync)) quiet = quiet
 kept-txn leads count quorum _ quiet = tt
 
 kept-body : (leads : Bool) (count quorum : ℕ) (body : Body) → QuietBody leads body → IsSynchronousBody count quorum body
@@ -250,7 +259,8 @@ kept-body leads count quorum _ quiet = tt
 
 kept-output : (leads : Bool) (count quorum : ℕ) (output : Output) → IsUnasking leads output
     → IsSynchronousOutput count quorum output
-kept-output leads count quorum (outputs.Send to sequence body) all = kept-body leads count quorum body all
+kept-output leads count quorum (outputs.Message (outgoing.Send to sequence body)) all =
+    kept-body leads count quorum body all
 kept-output leads count quorum _ all = tt
 
 pub keeps-mode : (leads : Bool) (count quorum : ℕ) (outs : List Output) → All (IsUnasking leads) outs
@@ -261,8 +271,8 @@ keeps-mode leads count quorum outs all =
 -- none of them carries a set for the failsafe key, but where it may
 carried-txn : (leads : Bool) (failsafe : Option MemberSet) (sequence revision : ℕ) (info : MemberInfo)
     (ttl : Ticks) (status : Option Lsn) (row : Option HistoryRow) → MayCarrySet leads failsafe
-    → is_carrying (outputs.Send targets.Store sequence
-    (bodies.Request (txns.Renew revision info ttl status row failsafe)))
+    → is_carrying (outputs.Message (outgoing.Send targets.Store sequence
+    (bodies.Request (txns.Lease (lease_txns.Renew revision info ttl status row failsafe)))))
     ≡ true
     → leads ≡ true
 carried-txn leads (Some members) sequence revision info ttl status row may carries = may
@@ -270,7 +280,9 @@ carried-txn leads None sequence revision info ttl status row may carries = absur
 
 carried-output : (leads : Bool) (output : Output) → IsUnasking leads output → is_carrying output ≡ true → leads ≡ true
 carried-output leads
-    (outputs.Send targets.Store sequence (bodies.Request (txns.Renew revision info ttl status row failsafe))) all
+    (outputs.Message (outgoing.Send targets.Store sequence
+    (bodies.Request (txns.Lease (lease_txns.Renew revision info ttl status row failsafe)))))
+    all
     carries =
     carried-txn leads failsafe sequence revision info ttl status row all carries
 carried-output leads _ all carries = absurd (not-false false refl carries)
@@ -323,7 +335,8 @@ quietly leads outs output quiet more = All-push (Stands leads) outs output quiet
 pub passing-unasked : (leads : Bool) (o : Outcome) → All (Stands leads) o.outputs
     → All (IsUnasking leads) (passing o).outputs
 passing-unasked leads o quiet = let all : All (IsUnasking leads) o.outputs = unasking leads o.outputs quiet in
-    passing-by (All (IsUnasking leads)) o all (All-push (IsUnasking leads) o.outputs outputs.ClaimsOutsideSync all tt)
+    passing-by (All (IsUnasking leads)) o all
+    (All-push (IsUnasking leads) o.outputs (outputs.Tell tellings.ClaimsOutsideSync) all tt)
 
 -- whom commits wait for is told behind them
 pub unasked : (leads : Bool) (outs : List Output) (required : Required) → All (Stands leads) outs
@@ -333,17 +346,19 @@ unasked leads outs required quiet =
 
 -- what is told of the watchdog has a property with all before it
 module _ (P : Output → Type 0) (outs : List Output) (all : All P outs) where
-  pub all-disarmed : (deadline : Option Ticks) → P outputs.Disarmed → All P (disarmed deadline outs)
+  pub all-disarmed : (deadline : Option Ticks) → P (outputs.Watchdog feedings.Disarmed) → All P (disarmed deadline outs)
   all-disarmed None is = all
-  all-disarmed (Some deadline) is = All-push P outs outputs.Disarmed all is
+  all-disarmed (Some deadline) is = All-push P outs (outputs.Watchdog feedings.Disarmed) all is
 
-  pub all-armed : (deadline : Option Ticks) → ((until : Ticks) → P (outputs.Armed until)) → All P (armed deadline outs)
+  pub all-armed : (deadline : Option Ticks) → ((until : Ticks) → P (outputs.Watchdog (feedings.Armed until)))
+      → All P (armed deadline outs)
   all-armed None is = all
-  all-armed (Some deadline) is = All-push P outs (outputs.Armed deadline) all (is deadline)
+  all-armed (Some deadline) is = All-push P outs (outputs.Watchdog (feedings.Armed deadline)) all (is deadline)
 
-  pub all-fed : (deadline : Option Ticks) → ((until : Ticks) → P (outputs.Fed until)) → All P (fed_until deadline outs)
+  pub all-fed : (deadline : Option Ticks) → ((until : Ticks) → P (outputs.Watchdog (feedings.Fed until)))
+      → All P (fed_until deadline outs)
   all-fed None is = all
-  all-fed (Some deadline) is = All-push P outs (outputs.Fed deadline) all (is deadline)
+  all-fed (Some deadline) is = All-push P outs (outputs.Watchdog (feedings.Fed deadline)) all (is deadline)
 
 pub quiet-disarmed : (leads : Bool) (deadline : Option Ticks) (outs : List Output) → All (Stands leads) outs
     → All (Stands leads) (disarmed deadline outs)
@@ -363,8 +378,9 @@ ask-quiet : (leads : Bool) (who : Who) (sequence : ℕ) (member : Option MemberI
 ask-quiet leads who sequence None outs quiet = quiet
 ask-quiet leads who sequence (Some member) outs quiet =
     if-cases (All (Stands leads)) (is_other who member)
-    (with_output (outputs.Send (targets.Member member) sequence bodies.Ask) outs) outs
-    (λ _. quietly leads outs (outputs.Send (targets.Member member) sequence bodies.Ask) quiet tt) (λ _. quiet)
+    (with_output (outputs.Message (outgoing.Send (targets.Member member) sequence bodies.Ask)) outs) outs
+    (λ _. quietly leads outs (outputs.Message (outgoing.Send (targets.Member member) sequence bodies.Ask)) quiet tt)
+    (λ _. quiet)
 
 pub asks-quiet : (leads : Bool) (who : Who) (sequence count : ℕ) (outs : List Output)
     → All (Stands leads) outs → All (Stands leads) (asking_first who sequence count outs)
@@ -385,8 +401,10 @@ request-quiet : (leads : Bool) (members : MemberSet) (sequence : ℕ) (ttl : Tic
 request-quiet leads members sequence ttl None outs quiet = quiet
 request-quiet leads members sequence ttl (Some member) outs quiet =
     if-cases (All (Stands leads)) (has members member.number)
-    (with_output (outputs.Send (targets.Member member) sequence (bodies.FailsafeRequest ttl)) outs) outs
-    (λ _. quietly leads outs (outputs.Send (targets.Member member) sequence (bodies.FailsafeRequest ttl)) quiet tt)
+    (with_output (outputs.Message (outgoing.Send (targets.Member member) sequence (bodies.FailsafeRequest ttl))) outs)
+    outs
+    (λ _. quietly leads outs
+    (outputs.Message (outgoing.Send (targets.Member member) sequence (bodies.FailsafeRequest ttl))) quiet tt)
     (λ _. quiet)
 
 pub requests-quiet : (leads : Bool) (members : MemberSet) (sequence : ℕ) (ttl : Ticks) (count : ℕ) (outs : List Output)
@@ -402,10 +420,12 @@ fed-quiet : (leads : Bool) (deadline : Option Ticks) (members : MemberSet) (sequ
     → All (Stands leads) (fed_by_failsafe deadline members sequence since outs)
 fed-quiet leads None members sequence since outs quiet = quiet
 fed-quiet leads (Some until) members sequence since outs quiet =
-    quietly leads outs (outputs.FedByFailsafe until members sequence since) quiet tt
+    quietly leads outs (outputs.Watchdog (feedings.FedByFailsafe until members sequence since)) quiet tt
 
 pub staying-quiet : (leads : Bool) (deadline : Option Ticks) (members : MemberSet) (sequence : ℕ)
     (since : Ticks) (outs : List Output) → All (Stands leads) outs
-    → All (Stands leads) (with_output outputs.StaysByFailsafe (fed_by_failsafe deadline members sequence since outs))
+    → All (Stands leads)
+    (with_output (outputs.Note notings.StaysByFailsafe) (fed_by_failsafe deadline members sequence since outs))
 staying-quiet leads deadline members sequence since outs quiet =
-    quietly leads _ outputs.StaysByFailsafe (fed-quiet leads deadline members sequence since outs quiet) tt
+    quietly leads _ (outputs.Note notings.StaysByFailsafe)
+    (fed-quiet leads deadline members sequence since outs quiet) tt

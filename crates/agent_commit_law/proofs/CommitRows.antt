@@ -12,6 +12,7 @@ use Rattle.lease_store.specs.declared.granted.Granted.{Granted}
 use Rattle.lease_model.proofs.Tools.{not-false}
 use Rattle.store_keys.specs.declared.txn.Txn.{Txn}
 use Rattle.store_keys.specs.declared.txn.Txn.TheVariants as txns
+use Rattle.store_keys.specs.declared.txn.SyncTxn.TheVariants as sync_txns
 use Rattle.pg_model.specs.declared.status.ServerStatus.{ServerStatus}
 use Rattle.pg_model.specs.Facts.{has_data}
 use Rattle.cluster_view.specs.KeyValues.{sync_in}
@@ -38,6 +39,10 @@ use Rattle.agent_model.specs.declared.knowledge.SyncRead.{SyncRead}
 use Rattle.agent_model.specs.declared.machine.Replication.{Replication}
 use Rattle.agent_model.specs.declared.output.Output.{Output}
 use Rattle.agent_model.specs.declared.output.Output.TheVariants as outputs
+use Rattle.agent_model.specs.declared.output.Noting.TheVariants as notings
+use Rattle.agent_model.specs.declared.output.Outgoing.TheVariants as outgoing
+use Rattle.agent_model.specs.declared.output.ServerOrder.TheVariants as orders
+use Rattle.agent_model.specs.declared.output.Telling.TheVariants as tellings
 use Rattle.agent_model.specs.declared.output.Target.TheVariants as targets
 use Rattle.agent_model.specs.declared.why.Why.TheVariants.{HandOver}
 use Rattle.agent_model.specs.declared.who.Who.{Who}
@@ -80,8 +85,8 @@ inside-named : (named : Bool) (outs : List Output) (claim : Output)
 inside-named true outs claim inside = refl
 inside-named false outs claim inside =
     absurd (not-false (has_one is_claim_outside_sync (with_output claim (told_passing false outs))) inside
-    (one-before is_claim_outside_sync (with_output outputs.ClaimsOutsideSync outs) claim
-    (one-last is_claim_outside_sync outs outputs.ClaimsOutsideSync refl)))
+    (one-before is_claim_outside_sync (with_output (outputs.Tell tellings.ClaimsOutsideSync) outs) claim
+    (one-last is_claim_outside_sync outs (outputs.Tell tellings.ClaimsOutsideSync) refl)))
 
 -- a member that takes the key claims the sync key that its turn read, which names it
 arms-lawful : (now ttl : Ticks) (sequence : ℕ) (grant : Granted) (snapshot : SnapshotFacts) (s : State)
@@ -97,8 +102,8 @@ arms-lawful now ttl sequence grant snapshot s m input o b ground leased creates 
     let still : All (IsUnasking true) noted.outputs = passing-unasked true arm
     (quiet-armed true (deadline_after now ttl b.machine.watchdog) b.outputs
     (behind.idle.quiet true (λ _ _. refl) ground.quiet)) in
-    let output : Output = outputs.Send targets.Store (b.knows.sequence + 1)
-    (bodies.Request (txns.Claim grant.revision (expected_of b.knows.turn_sync))) in
+    let output : Output = outputs.Message (outgoing.Send targets.Store (b.knows.sequence + 1)
+    (bodies.Request (txns.Sync (sync_txns.Claim grant.revision (expected_of b.knows.turn_sync))))) in
     let request : SyncRequest =
     claim_request m o.knows.incarnation (b.knows.sequence + 1) grant.revision (expected_of b.knows.turn_sync) in
     let named : WinsByName (sync_seen b.knows.turn_sync) m = wins-named b.knows.who.me m b.knows.turn_sync
@@ -181,7 +186,7 @@ promotes-lawful now sequence revision grant snapshot s m input o b ground awaite
       ready = ap (λ (a : Agent). a.ready) is.agent;
       required = is.required ∙ unnamed-confirmers b.knows.turn_settings;
       sends = sends-nothing s m input o x is
-          (asks-last true m o.knows.incarnation (with_output required b.outputs) outputs.Begin all);
+          (asks-last true m o.knows.incarnation (with_output required b.outputs) (outputs.Server orders.Begin) all);
       turn = keeps-turn s m input o x is behind.turn;
       log =
           ground.stands.has_log (ap (λ (y : ServerStatus). has_data y.state) (sym behind.server)
@@ -370,7 +375,7 @@ led-lawful now sequence grant snapshot s m input o b w ground leased leads =
     record {
       ends = rests now sequence grant snapshot s m input o b ended ground
           (falls None b ended refl refl refl refl refl (waits-nothing b ended refl)
-          (λ leads h q. quietly leads led.outputs (outputs.Stop StartTooLong) (w.quiet leads q) tt));
+          (λ leads h q. quietly leads led.outputs (outputs.Server (orders.Stop StartTooLong)) (w.quiet leads q) tt));
       plans = plan-lawful now sequence grant snapshot s m input o b w ground leased leads;
       fails_over = failover-lawful now sequence grant snapshot s m input o b w ground leads;
     }
@@ -394,15 +399,15 @@ lease-lawful now ttl sequence grant snapshot s m input o b ground leased unready
       keeps = λ held is. led-lawful now sequence grant snapshot s m input o b (as-it-was b) ground leased (rw is refl);
       stops = λ _. still stopped
           (stays None b stopped refl refl refl refl (waits-nothing b stopped refl)
-          (λ leads h q. quietly leads b.outputs (outputs.Stop WatchdogNotArmed) q tt));
+          (λ leads h q. quietly leads b.outputs (outputs.Server (orders.Stop WatchdogNotArmed)) q tt));
       takes_over = λ _. takes-over-lawful now ttl sequence grant snapshot s m input o b ground;
       returns = still back
           (falls None b back refl refl refl refl refl (waits-nothing b back refl)
           (λ leads h q. quietly leads b.outputs _ q tt));
       refuses = still refused
           (falls None b refused refl refl refl refl refl (waits-nothing b refused refl)
-          (λ leads h q. quietly leads (with_output (outputs.Note agent_notes.CannotArm) b.outputs) _
-          (quietly leads b.outputs (outputs.Note agent_notes.CannotArm) q tt) tt));
+          (λ leads h q. quietly leads (with_output (outputs.Note (notings.Agent agent_notes.CannotArm)) b.outputs) _
+          (quietly leads b.outputs (outputs.Note (notings.Agent agent_notes.CannotArm)) q tt) tt));
       claims = λ creates.
           arms-lawful now ttl sequence grant snapshot s m input o b ground leased creates (unready-before creates);
     }

@@ -116,6 +116,8 @@ required-covers member_count published requireds.Nobody range over n is =
 required-covers member_count published requireds.AnyOne range over n is =
     absurd (not-false (published n) (none-of member_count published (omega (arith, over)) n (range n is)) is)
 required-covers member_count published (requireds.All members) range over n is = over n is
+required-covers member_count published (requireds.AtLeast number of) range over n is =
+    absurd (not-false (published n) (none-of member_count published (omega (arith, over)) n (range n is)) is)
 
 count-no : (member_count quorum : ℕ) (set : ℕ → Bool) → ((n : ℕ) → set n ≡ false) → count member_count set ≤ quorum
 count-no member_count quorum set none = omega (arith, count-empty member_count set none)
@@ -129,6 +131,8 @@ covers-required member_count quorum published requireds.Nobody within =
 covers-required member_count quorum published requireds.AnyOne within =
     count-no member_count quorum published (within-nobody published within)
 covers-required member_count quorum published (requireds.All members) within = within
+covers-required member_count quorum published (requireds.AtLeast number of) within =
+    count-no member_count quorum published (within-nobody published within)
 
 -- where nobody is named, the law has commits wait for nobody
 pub unnamed-confirmers : (settings : Config) → confirmers_in (unnamed settings) ≡ Nobody
@@ -162,6 +166,8 @@ narrows-all requireds.Nobody set some within =
 narrows-all requireds.AnyOne set some within =
     absurd (some-bits set.bits some (no-bits set (within-nobody (set_members set) within)))
 narrows-all (requireds.All members) set some within = within
+narrows-all (requireds.AtLeast number of) set some within =
+    absurd (some-bits set.bits some (no-bits set (within-nobody (set_members set) within)))
 
 -- a required list shrinks to members that it has
 pub waiting-narrows : (required : Required) (settings : Config) (set : MemberSet)

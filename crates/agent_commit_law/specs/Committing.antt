@@ -11,6 +11,8 @@ use Rattle.lease_store.specs.declared.granted.Granted.{Granted}
 use Rattle.store_keys.specs.declared.txn.Expected.{Expected}
 use Rattle.store_keys.specs.declared.txn.Txn.{Txn}
 use Rattle.store_keys.specs.declared.txn.Txn.TheVariants as txns
+use Rattle.store_keys.specs.declared.txn.LeaseTxn.TheVariants as lease_txns
+use Rattle.store_keys.specs.declared.txn.SyncTxn.TheVariants as sync_txns
 use Rattle.wal_model.specs.declared.entry.Entry.{Entry}
 use Rattle.wal_model.specs.Log.{end_of}
 use Rattle.pg_model.specs.Facts.{has_data}
@@ -38,6 +40,11 @@ use Rattle.agent_model.specs.declared.knowledge.SyncRead.{SyncRead}
 use Rattle.agent_model.specs.declared.knowledge.PendingQuestion.{PendingQuestion}
 use Rattle.agent_model.specs.declared.output.Output.{Output}
 use Rattle.agent_model.specs.declared.output.Output.TheVariants as outputs
+use Rattle.agent_model.specs.declared.output.Feeding.TheVariants as feedings
+use Rattle.agent_model.specs.declared.output.Noting.TheVariants as notings
+use Rattle.agent_model.specs.declared.output.Outgoing.TheVariants as outgoing
+use Rattle.agent_model.specs.declared.output.ServerOrder.TheVariants as orders
+use Rattle.agent_model.specs.declared.output.Telling.TheVariants as tellings
 use Rattle.agent_model.specs.declared.output.Target.TheVariants as targets
 use Rattle.agent_model.specs.Agents.{RoleFacts, Outcome, is_ready, is_leader}
 use Rattle.agent_model.specs.Claiming.{can_begin_on_claim}
@@ -187,7 +194,8 @@ request_of_body m incarnation sequence _ = None
 
 -- the same of an output
 abbrev pub request_of : ℕ → ℕ → Output → Option SyncRequest
-request_of m incarnation (outputs.Send targets.Store sequence body) = request_of_body m incarnation sequence body
+request_of m incarnation (outputs.Message (outgoing.Send targets.Store sequence body)) =
+    request_of_body m incarnation sequence body
 request_of m incarnation _ = None
 
 -- the requests among these outputs that compare the sync key
@@ -210,11 +218,11 @@ IsSent (request ∷ other ∷ more) sends = ⊥
 -- standbys may lack a commit: a create compares no sync key, nobody removes the
 -- sync key, and whom it comes to name are members, of which at most so many may
 abbrev pub IsSynchronousTxn : ℕ → ℕ → Txn → Type 0
-IsSynchronousTxn count quorum (txns.Create info ttl failsafe (Some sync)) = ⊥
-IsSynchronousTxn count quorum (txns.DropSync revision sync) = ⊥
-IsSynchronousTxn count quorum (txns.SetSync revision sync standbys) =
+IsSynchronousTxn count quorum (txns.Lease (lease_txns.Create info ttl failsafe (Some sync))) = ⊥
+IsSynchronousTxn count quorum (txns.Sync (sync_txns.DropSync revision sync)) = ⊥
+IsSynchronousTxn count quorum (txns.Sync (sync_txns.SetSync revision sync standbys may_lack)) =
     ((n : ℕ) → set_members standbys n ≡ true → n < count)
-    × (quorum_written (txns.SetSync revision sync standbys) ≤ quorum)
+    × (quorum_written (txns.Sync (sync_txns.SetSync revision sync standbys may_lack)) ≤ quorum)
 IsSynchronousTxn count quorum _ = Unit {0}
 
 -- the same of what a message says
@@ -224,7 +232,8 @@ IsSynchronousBody count quorum _ = Unit {0}
 
 -- the same of an output
 abbrev pub IsSynchronousOutput : ℕ → ℕ → Output → Type 0
-IsSynchronousOutput count quorum (outputs.Send to sequence body) = IsSynchronousBody count quorum body
+IsSynchronousOutput count quorum (outputs.Message (outgoing.Send to sequence body)) =
+    IsSynchronousBody count quorum body
 IsSynchronousOutput count quorum _ = Unit {0}
 
 -- the standbys that the sync key of a snapshot names have numbers below this one
@@ -245,11 +254,11 @@ pub record KnowsBelow (count : ℕ) (heard : Heard) (o : Outcome) : Type 0 where
 
 -- a request that neither compares the sync key nor writes it, nor carries a set for the failsafe key
 abbrev pub IsQuietTxn : Txn → Type 0
-IsQuietTxn (txns.Create info ttl failsafe sync) = sync ≡ None
-IsQuietTxn (txns.Renew revision info ttl status row failsafe) = failsafe ≡ None
-IsQuietTxn (txns.Claim revision sync) = ⊥
-IsQuietTxn (txns.SetSync revision sync standbys) = ⊥
-IsQuietTxn (txns.DropSync revision sync) = ⊥
+IsQuietTxn (txns.Lease (lease_txns.Create info ttl failsafe sync)) = sync ≡ None
+IsQuietTxn (txns.Lease (lease_txns.Renew revision info ttl status row failsafe)) = failsafe ≡ None
+IsQuietTxn (txns.Sync (sync_txns.Claim revision sync)) = ⊥
+IsQuietTxn (txns.Sync (sync_txns.SetSync revision sync standbys may_lack)) = ⊥
+IsQuietTxn (txns.Sync (sync_txns.DropSync revision sync)) = ⊥
 IsQuietTxn _ = Unit {0}
 
 -- the same of what a message says
@@ -260,27 +269,28 @@ IsQuietBody _ = Unit {0}
 -- an output that changes neither the server nor its log, and asks for
 -- no write of the sync key: the law's input covers it
 abbrev pub IsCovered : Output → Type 0
-IsCovered (outputs.Send to sequence body) = IsQuietBody body
-IsCovered (outputs.Armed until) = Unit {0}
-IsCovered (outputs.Fed until) = Unit {0}
-IsCovered outputs.Disarmed = Unit {0}
-IsCovered (outputs.Note note) = Unit {0}
-IsCovered (outputs.Told request told) = Unit {0}
+IsCovered (outputs.Message (outgoing.Send to sequence body)) = IsQuietBody body
+IsCovered (outputs.Watchdog (feedings.Armed until)) = Unit {0}
+IsCovered (outputs.Watchdog (feedings.Fed until)) = Unit {0}
+IsCovered (outputs.Watchdog feedings.Disarmed) = Unit {0}
+IsCovered (outputs.Note (notings.Agent note)) = Unit {0}
+IsCovered (outputs.Tell (tellings.Told request told)) = Unit {0}
 IsCovered _ = ⊥
 
 -- an output that may be an action of its own: neither does it ask for a write of the sync key, nor
 -- are others required by it, nor does the server begin; and it isn't the note that leads to a claim
 abbrev pub StandsAlone : Output → Type 0
-StandsAlone (outputs.Send to sequence body) = IsQuietBody body
+StandsAlone (outputs.Message (outgoing.Send to sequence body)) = IsQuietBody body
 StandsAlone (outputs.Require required) = ⊥
-StandsAlone outputs.Begin = ⊥
-StandsAlone outputs.ClaimsOutsideSync = ⊥
+StandsAlone (outputs.Server orders.Begin) = ⊥
+StandsAlone (outputs.Tell tellings.ClaimsOutsideSync) = ⊥
 StandsAlone _ = Unit {0}
 
 -- the output asks for a renewal that carries a set for the failsafe key
 abbrev pub is_carrying : Output → Bool
 is_carrying
-    (outputs.Send targets.Store sequence (bodies.Request (txns.Renew revision info ttl status row (Some members)))) =
+    (outputs.Message (outgoing.Send targets.Store sequence
+    (bodies.Request (txns.Lease (lease_txns.Renew revision info ttl status row (Some members)))))) =
     true
 is_carrying _ = false
 
@@ -294,7 +304,7 @@ pub data Closing : Type 0 where
 -- it as a list
 abbrev pub closing_outputs : Closing → List Output
 closing_outputs NoMore = []
-closing_outputs (Asks sequence body) = outputs.Send targets.Store sequence body ∷ []
+closing_outputs (Asks sequence body) = outputs.Message (outgoing.Send targets.Store sequence body) ∷ []
 closing_outputs (Requires required) = outputs.Require required ∷ []
 
 -- the table of orders: what may stand behind each. Outputs that may be
@@ -302,7 +312,7 @@ closing_outputs (Requires required) = outputs.Require required ∷ []
 abbrev pub MayStandBehind : Closing → List Output → Type 0
 MayStandBehind NoMore behind = All StandsAlone behind
 MayStandBehind (Asks sequence body) behind = behind ≡ []
-MayStandBehind (Requires required) behind = (behind ≡ []) ⊎ (behind ≡ outputs.Begin ∷ [])
+MayStandBehind (Requires required) behind = (behind ≡ []) ⊎ (behind ≡ (outputs.Server orders.Begin) ∷ [])
 
 -- the form of an input's outputs: they stand in one of these orders; or the law's input covers
 -- all up to the note that the sync key doesn't name the member, and its claim of that key
@@ -312,19 +322,21 @@ pub data HasForm (outs : List Output) : Type 0 where
       → (whole : front ++ (closing_outputs closing ++ behind) ≡ outs) → HasForm outs
   ClaimsOutsideSync : (front : List Output) → (sequence revision : ℕ) → (sync : Expected)
       → (covered : All IsCovered front)
-      → (whole : front ++ outputs.ClaimsOutsideSync
-      ∷ outputs.Send targets.Store sequence (bodies.Request (txns.Claim revision sync)) ∷ []
+      → (whole : front ++ (outputs.Tell tellings.ClaimsOutsideSync)
+      ∷ outputs.Message (outgoing.Send targets.Store sequence
+      (bodies.Request (txns.Sync (sync_txns.Claim revision sync))))
+      ∷ []
       ≡ outs)
       → HasForm outs
 
 -- the member takes the leader key though the sync key doesn't name it
 abbrev pub is_claim_outside_sync : Output → Bool
-is_claim_outside_sync outputs.ClaimsOutsideSync = true
+is_claim_outside_sync (outputs.Tell tellings.ClaimsOutsideSync) = true
 is_claim_outside_sync _ = false
 
 -- the server comes to accept writes by this output, or will when its start is complete
 abbrev pub is_begin : Output → Bool
-is_begin outputs.Begin = true
+is_begin (outputs.Server orders.Begin) = true
 is_begin _ = false
 
 -- whether the server is live after an input, but for its end, which is an action of its own

@@ -7,7 +7,7 @@ ghost use Rattle.event_book.specs.Members.{server_id_of};
 ghost use Rattle.agent_model.specs.Acting.{starting_replica, upstream_of};
 
 use crate::repairing::is_upstream;
-use agent_model::Output;
+use agent_model::{Output, ServerOrder};
 use agent_turn::{Turn, ends_forks};
 use pat_base::{MemberId, ServerId, State};
 
@@ -49,7 +49,8 @@ pub(crate) fn start_replica(turn: &mut Turn, leader: Option<MemberId>)
     turn.machine
         .server
         .start_replica(turn.moment, upstream_of(leader));
-    turn.out.put(Output::StartReplica { leader });
+    turn.out
+        .put(Output::Server(ServerOrder::StartReplica { leader }));
 }
 
 fn upstream_of(leader: Option<MemberId>) -> Option<ServerId>
@@ -78,7 +79,7 @@ fn follow_anew(turn: &mut Turn, leader: MemberId)
         end_fork(turn);
     } else {
         turn.machine.server.follow(server_of(leader));
-        turn.out.put(Output::Follow { leader });
+        turn.out.put(Output::Server(ServerOrder::Follow { leader }));
     }
 }
 
@@ -91,6 +92,6 @@ fn end_fork(turn: &mut Turn)
 {
     if turn.machine.server.diverged && ends_forks(&turn.knows.settings) {
         turn.machine.server.stop(turn.moment);
-        turn.out.put(Output::ShutDown);
+        turn.out.put(Output::Server(ServerOrder::ShutDown));
     }
 }

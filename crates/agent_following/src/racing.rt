@@ -12,7 +12,9 @@ ghost use Rattle.agent_turn.specs.Roles.{role_of};
 ghost use Rattle.agent_model.specs.Views.{view_of};
 
 use crate::following::start_replica;
-use agent_model::{Inquiry, Knowledge, Machine, Output, PendingQuestion, Question, SyncRead};
+use agent_model::{
+    Inquiry, Knowledge, Machine, Noting, Output, PendingQuestion, Question, SyncRead,
+};
 use agent_turn::{
     Role, Turn, all_answered, answers_until, ask_all, failsafe_compared, info_of, is_paused,
     may_create, view_of, word_of,
@@ -22,7 +24,7 @@ use event_book::AgentNote;
 use leader_race::{RaceKeys, may_race, wins_by};
 use pat_base::{Ineligibility, State, Ticks};
 use pg_model::ServerStatus;
-use store_keys::{SyncKey, Txn};
+use store_keys::{LeaseTxn, SyncKey, Txn};
 
 /// Nobody leads: a server that can start does so as a replica of none, and its agent tells of itself; else the member races,
 /// unless something bars it.
@@ -166,8 +168,7 @@ pub(crate) fn stay_out(bar: Ineligibility, turn: &mut Turn)
     ensures outcome { ComesTo (barred bar) turn.old turn.new }
     ensures left { Spent 2 1 turn.old turn.new }
 {
-    turn.out
-        .put(Output::Note(AgentNote::DoesNotRace { because: bar }));
+    turn.out.put(Output::Note(Noting::Agent(AgentNote::DoesNotRace { because: bar })));
     turn.touch();
 }
 
@@ -177,12 +178,12 @@ pub(crate) fn create(turn: &mut Turn)
     ensures outcome { ComesTo (creating turn.old.moment) turn.old turn.new }
     ensures left { Spent 1 1 turn.old turn.new }
 {
-    let create = Txn::Create {
+    let create = Txn::Lease(LeaseTxn::Create {
         info: info_of(&turn.knows.who, &turn.machine.server),
         ttl: turn.knows.settings.ttl_ticks(),
         failsafe: failsafe_compared(turn.knows),
         sync: None,
-    };
+    });
     let until = turn.moment + turn.knows.settings.retry_timeout_ticks();
     turn.ask(Question::Creating, until, Inquiry::request(create));
 }

@@ -4,7 +4,7 @@ ghost use Rattle.agent_turn.specs.Turns.{ComesTo, HasLeft, Spent};
 ghost use Rattle.agent_model.specs.Snapshots.{follows};
 ghost use Rattle.agent_model.specs.Repairs.{is_upstream, repair_in, repair_of, repaired_if, rewind_if};
 
-use agent_model::{Output, Repair};
+use agent_model::{Output, Repair, ServerOrder};
 use agent_turn::{Turn, lets_rewind};
 use pat_base::{MemberId, ServerId, State};
 use pg_model::ServerStatus;
@@ -61,6 +61,7 @@ pub fn put_repair(leader: MemberId, repair: Option<Repair>, turn: &mut Turn)
     ensures left { Spent 1 0 turn.old turn.new }
 {
     if let Some(repair) = repair {
-        turn.out.put(Output::Repair { leader, repair });
+        turn.out
+            .put(Output::Server(ServerOrder::Repair { leader, repair }));
     }
 }

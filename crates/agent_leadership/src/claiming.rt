@@ -8,13 +8,13 @@ ghost use Rattle.leader_key.specs.Lease.{armed_revision};
 ghost use Rattle.agent_model.specs.Claiming.{begins, begins_or_claims, can_begin_on_claim, claim_fails, claim_granted, claims, may_begin_on_claim, passing, postpones};
 ghost use Rattle.agent_turn.specs.Roles.{role_of};
 
-use agent_model::{Inquiry, Knowledge, Output, Question};
+use agent_model::{Inquiry, Knowledge, Noting, Output, Question, ServerOrder, Telling};
 use agent_turn::{Role, Turn, expected_of, is_named_if, is_paused, is_wanted_by, unnamed};
 use event_book::AgentNote;
 use leader_key::{Armed, Writer};
 use pat_base::State;
 use pg_model::ServerStatus;
-use store_keys::Txn;
+use store_keys::{SyncTxn, Txn};
 
 /// An agent with an armed watchdog begins; in synchronous mode it claims the sync key first.
 pub(crate) fn begin_or_claim(armed: Armed, turn: &mut Turn) -> Role
@@ -38,7 +38,7 @@ fn tell_passing(turn: &mut Turn)
     ensures left { Spent 1 0 turn.old turn.new }
 {
     if !is_named_if(turn.knows.who.me, turn.knows.turn_sync) {
-        turn.out.put(Output::ClaimsOutsideSync);
+        turn.out.put(Output::Tell(Telling::ClaimsOutsideSync));
     }
 }
 
@@ -49,10 +49,10 @@ fn claim(armed: Armed, turn: &mut Turn) -> Role
     ensures outcome { ComesTo (claims turn.old.moment (armed_revision armed)) turn.old turn.new }
     ensures left { Spent 1 1 turn.old turn.new }
 {
-    let claim = Txn::Claim {
+    let claim = Txn::Sync(SyncTxn::Claim {
         revision: armed.revision(),
         sync: expected_of(turn.knows.turn_sync),
-    };
+    });
     let until = turn.moment + turn.knows.settings.retry_timeout_ticks();
     turn.ask(Question::Claiming, until, Inquiry::request(claim));
     Role::Ready(armed)
@@ -69,7 +69,7 @@ fn begin(armed: Armed, turn: &mut Turn) -> Role
     turn.knows.crashed = None;
     let required = unnamed(&turn.knows.turn_settings);
     turn.require(required);
-    turn.out.put(Output::Begin);
+    turn.out.put(Output::Server(ServerOrder::Begin));
     turn.machine.server.promote();
     turn.machine.server.start_primary(turn.moment);
     Role::Leader(Writer::begin(armed))
@@ -131,6 +131,7 @@ fn postpone(armed: Armed, turn: &mut Turn) -> Role
     ensures left { Spent 2 0 turn.old turn.new }
 {
     let lease = turn.undo(armed);
-    turn.out.put(Output::Note(AgentNote::PostponesPromotion));
+    turn.out
+        .put(Output::Note(Noting::Agent(AgentNote::PostponesPromotion)));
     Role::Holder(lease)
 }

@@ -13,7 +13,8 @@ ghost use Rattle.leader_key.specs.Lease.{writer_revision};
 
 use crate::planning::take_step;
 use agent_model::{
-    Answers, Inquiry, Knowledge, Output, PendingQuestion, Question, SyncRead, Who, Why,
+    Answers, Inquiry, Knowledge, Noting, Output, PendingQuestion, Question, ServerOrder, SyncRead,
+    Who, Why,
 };
 use agent_turn::{
     Role, Turn, all_answered, answers_until, ask_all, ask_one, is_paused, is_settled,
@@ -24,7 +25,7 @@ use leader_key::Writer;
 use leader_race::{earlier, may_fail_over};
 use pat_base::{Lsn, MemberId, PeerAnswer};
 use pg_model::ServerStatus;
-use store_keys::{FailoverKey, Txn};
+use store_keys::{FailoverKey, OperatorTxn, Txn};
 
 /// What a leader owes its cluster with each renewal: what the failover key asks that its turn read, or without one a step with
 /// its synchronous standbys. In a pause these stay as they are.
@@ -96,7 +97,7 @@ fn clear(turn: &mut Turn)
     ensures left { Spent 1 1 turn.old turn.new }
 {
     if let Some(revision) = leader_revision(turn.knows.seen.as_ref()) {
-        turn.send(Inquiry::request(Txn::DropFailover { revision }));
+        turn.send(Inquiry::request(Txn::Operators(OperatorTxn::DropFailover { revision })));
     }
 }
 
@@ -223,10 +224,9 @@ fn hand_over(candidate: MemberId, writer: Writer, turn: &mut Turn) -> Role
     ensures left { Spent 2 0 turn.old turn.new }
 {
     turn.knows.handed_over = true;
-    turn.out
-        .put(Output::Note(AgentNote::HandsOver { candidate }));
+    turn.out.put(Output::Note(Noting::Agent(AgentNote::HandsOver { candidate })));
     turn.machine.server.stop(turn.moment);
-    turn.out.put(Output::ShutDown);
+    turn.out.put(Output::Server(ServerOrder::ShutDown));
     Role::Ending(writer, Why::HandOver)
 }
 

@@ -11,7 +11,7 @@ ghost use Rattle.agent_turn.specs.Roles.{role_of};
 
 use crate::claiming::begin_or_claim;
 use crate::handing_over::do_duties;
-use agent_model::{Knowledge, Machine, Output, Why};
+use agent_model::{Knowledge, Machine, Noting, Output, Why};
 use agent_turn::{Role, Turn, is_hold_active, is_wanted, may_lead_in_sync};
 use event_book::{AgentNote, Reason};
 use leader_key::{Lease, Writer};
@@ -136,7 +136,8 @@ fn cannot_arm(lease: Lease, turn: &mut Turn) -> Role
     ensures outcome { reached (role_of result) turn.new ≡ cannot_arm (lease_revision lease) (reached Follower turn.old) }
     ensures left { Spent 2 1 turn.old turn.new }
 {
-    turn.out.put(Output::Note(AgentNote::CannotArm));
+    turn.out
+        .put(Output::Note(Noting::Agent(AgentNote::CannotArm)));
     turn.release(lease);
     Role::Follower
 }

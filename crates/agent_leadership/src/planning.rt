@@ -9,7 +9,7 @@ use agent_model::{Inquiry, Knowledge, Machine, Question, Settling, SyncRead};
 use agent_turn::{Turn, expected_of, sync_read_if, view_of, waiting_for};
 use cluster_view::{LeaderView, RoleWord};
 use pat_base::{MemberSet, Required, Ticks};
-use store_keys::Txn;
+use store_keys::{SyncTxn, Txn};
 use sync_state::{Plan, plan};
 
 /// A leader under the leader key of this revision takes the step that the newest snapshot calls for, if there is one.
@@ -76,11 +76,12 @@ fn name(revision: u64, settling: Settling, standbys: MemberSet, turn: &mut Turn)
     ensures outcome { ComesTo (naming turn.old.moment revision settling standbys) turn.old turn.new }
     ensures left { Spent 1 1 turn.old turn.new }
 {
-    let write = Txn::SetSync {
+    let write = Txn::Sync(SyncTxn::SetSync {
         revision,
         sync: expected_of(sync_read_if(turn.knows.seen.as_ref())),
         standbys,
-    };
+        quorum: None,
+    });
     write_sync(settling, write, turn);
 }
 
@@ -91,10 +92,10 @@ fn switch_off(revision: u64, read: Option<SyncRead>, turn: &mut Turn)
     ensures left { Spent 1 1 turn.old turn.new }
 {
     if let Some(read) = read {
-        let write = Txn::DropSync {
+        let write = Txn::Sync(SyncTxn::DropSync {
             revision,
             sync: read.revision,
-        };
+        });
         write_sync(Settling::ClearsList, write, turn);
     }
 }

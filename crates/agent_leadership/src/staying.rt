@@ -9,7 +9,9 @@ ghost use Rattle.agent_model.specs.Agents.{IsWithin, Leader};
 ghost use Rattle.agent_model.specs.StayingPrimary.{accepted_failsafe, acknowledged_to, asking_to_stay, awaits_failsafe, failsafe_answered, fed_by_failsafe, is_staying, may_stay, others_known, requesting_all, requesting_one, seeks_to_stay, stays, stays_by, unacknowledged};
 ghost use Rattle.agent_model.specs.Wake.{leader_unanswered};
 
-use agent_model::{Inquiry, Knowledge, Output, PendingQuestion, Question, Target};
+use agent_model::{
+    Feeding, Inquiry, Knowledge, Noting, Outgoing, Output, PendingQuestion, Question, Target,
+};
 use agent_turn::{
     Outputs, Role, Turn, answers_until, comes_late, deadline_of, is_armable, is_paused,
 };
@@ -108,11 +110,11 @@ fn request_one(
 {
     if let Some(member) = member {
         if members.contains(member) {
-            out.put(Output::Send {
+            out.put(Output::Message(Outgoing::Send {
                 to: Target::Member(member),
                 sequence,
                 body: Inquiry::failsafe_request(ttl),
-            });
+            }));
         }
     }
 }
@@ -131,7 +133,7 @@ fn stay(writer: &Writer, turn: &mut Turn, ttl: Ticks, sequence: u64, since: Tick
     let deadline = deadline_of(&turn.machine.watchdog);
     let members = turn.knows.failsafe.members;
     note_fed(turn.out, deadline, members, sequence, since);
-    turn.out.put(Output::StaysByFailsafe);
+    turn.out.put(Output::Note(Noting::StaysByFailsafe));
     turn.knows.waited = None;
 }
 
@@ -148,12 +150,12 @@ fn note_fed(
     ensures room { out.old.spare ≤ out.new.spare + 1 }
 {
     if let Some(until) = deadline {
-        out.put(Output::FedByFailsafe {
+        out.put(Output::Watchdog(Feeding::FedByFailsafe {
             until,
             members,
             sequence,
             since,
-        });
+        }));
     }
 }
 

@@ -6,6 +6,7 @@ use Rattle.pat_base.specs.declared.ticks.Ticks.{Ticks}
 use Rattle.pat_base.specs.ServerState.{live}
 use Rattle.lease_store.specs.declared.granted.Granted.{Granted}
 use Rattle.store_keys.specs.declared.txn.Txn.TheVariants as txns
+use Rattle.store_keys.specs.declared.txn.LeaseTxn.TheVariants as lease_txns
 use Rattle.cluster_view.specs.Snapshots.{SnapshotFacts}
 use Rattle.event_book.specs.declared.agent_note.AgentNote.TheVariants as agent_notes
 use Rattle.event_book.specs.declared.message.Body.TheVariants as bodies
@@ -13,6 +14,10 @@ use Rattle.event_book.specs.declared.reason.Reason.TheVariants.{StartTooLong, Wa
 use Rattle.leader_key.specs.Watchdog.{is_armable}
 use Rattle.agent_model.specs.declared.output.Output.{Output}
 use Rattle.agent_model.specs.declared.output.Output.TheVariants as outputs
+use Rattle.agent_model.specs.declared.output.Feeding.TheVariants as feedings
+use Rattle.agent_model.specs.declared.output.Noting.TheVariants as notings
+use Rattle.agent_model.specs.declared.output.Outgoing.TheVariants as outgoing
+use Rattle.agent_model.specs.declared.output.ServerOrder.TheVariants as orders
 use Rattle.agent_model.specs.declared.output.Target.TheVariants as targets
 use Rattle.agent_model.specs.Acting.{armed, comes_late, deadline_after, arming, ending_server, is_hold_active, is_refusing, waiting_no_more}
 use Rattle.agent_model.specs.Agents.{Outcome, is_ready}
@@ -39,15 +44,15 @@ use Rattle.agent_sending.proofs.Sending.{silent-passing, Decides, learned-fronts
 use Rattle.agent_sending.proofs.MaySend.Fronts.{Silent, Released}
 
 begins-one : (P Q : Type 0) → (P → Q) → (output : Output) → BeginsOnly P output → BeginsOnly Q output
-begins-one P Q more outputs.Begin e = more e
-begins-one P Q more (outputs.Restart as_primary) e = λ is. more (e is)
+begins-one P Q more (outputs.Server orders.Begin) e = more e
+begins-one P Q more (outputs.Server (orders.Restart as_primary)) e = λ is. more (e is)
 begins-one P Q more _ e = tt
 
 -- where nothing is granted, only a server that was live before comes to accept writes
 unbegun : (G : Grounds) (o after : Outcome) → ((revision : ℕ) → G.gives revision → ⊥) → (output : Output)
     → MayPut G o after output → BeginsOnly (live o.machine.server.state ≡ true) output
-unbegun G o after none outputs.Begin may = absurd (none may.0 may.1)
-unbegun G o after none (outputs.Restart as_primary) may = may
+unbegun G o after none (outputs.Server orders.Begin) may = absurd (none may.0 may.1)
+unbegun G o after none (outputs.Server (orders.Restart as_primary)) may = may
 unbegun G o after none _ may = tt
 
 all-begin : (P : List Output → Type 0) (Q : Type 0) → ((outs : List Output) → Q → P outs)
@@ -75,8 +80,8 @@ Whatever expected = Unit {0}
 
 mild-never : (K : Option Expected → Type 0) (low high : ℕ) (output : Output) → IsMild K low high output
     → BeginsOnly ⊥ output
-mild-never K low high outputs.Begin mild = mild
-mild-never K low high (outputs.Restart as_primary) mild = absurd mild
+mild-never K low high (outputs.Server orders.Begin) mild = mild
+mild-never K low high (outputs.Server (orders.Restart as_primary)) mild = absurd mild
 mild-never K low high _ mild = tt
 
 mild-begins : (P : List Output → Type 0) (K : Option Expected → Type 0) (low : ℕ) (x : Outcome)
@@ -105,12 +110,12 @@ pub data BeginsOn (now : Ticks) (sequence : ℕ) (grant : Granted) (o : Outcome)
 
 armed-first : (outs : List Output) (until : Ticks) (armable : Bool) → armable ≡ true
     → has_one is_arming (armed (if armable then Some until else None) outs) ≡ true
-armed-first outs until true is = one-last is_arming outs (outputs.Armed until) refl
+armed-first outs until true is = one-last is_arming outs (outputs.Watchdog (feedings.Armed until)) refl
 armed-first outs until false is = absurd (no-way is)
 
 silent-never : (output : Output) → IsSilent output → BeginsOnly ⊥ output
-silent-never outputs.Begin silent = silent
-silent-never (outputs.Restart as_primary) silent = absurd silent
+silent-never (outputs.Server orders.Begin) silent = silent
+silent-never (outputs.Server (orders.Restart as_primary)) silent = absurd silent
 silent-never _ silent = tt
 
 silent-begins : (P : List Output → Type 0) (outs : List Output) → All IsSilent outs → OutputsBeginBehind P [] outs
@@ -119,14 +124,16 @@ silent-begins P outs silent = never P [] outs (All-weaker IsSilent (BeginsOnly �
 gives-back-begins : (P : List Output → Type 0) (revision : ℕ) (b : Outcome) → All IsSilent b.outputs
     → OutputsBeginBehind P [] (gives_back revision b).outputs
 gives-back-begins P revision b silent = behind-push P [] b.outputs
-    (outputs.Send targets.Store (b.knows.sequence + 1) (bodies.Request (txns.Release revision)))
+    (outputs.Message (outgoing.Send targets.Store (b.knows.sequence + 1)
+    (bodies.Request (txns.Lease (lease_txns.Release revision)))))
     (silent-begins P b.outputs silent) (λ all is. tt)
 
 cannot-arm-begins : (P : List Output → Type 0) (revision : ℕ) (b : Outcome) → All IsSilent b.outputs
     → OutputsBeginBehind P [] (cannot_arm revision b).outputs
 cannot-arm-begins P revision b silent =
-    gives-back-begins P revision (record b { outputs = with_output (outputs.Note agent_notes.CannotArm) b.outputs })
-    (silently b.outputs (outputs.Note agent_notes.CannotArm) silent tt)
+    gives-back-begins P revision
+    (record b { outputs = with_output (outputs.Note (notings.Agent agent_notes.CannotArm)) b.outputs })
+    (silently b.outputs (outputs.Note (notings.Agent agent_notes.CannotArm)) silent tt)
 
 -- what a leader does behind silent outputs lets no server begin
 duties-begin : (P : List Output → Type 0) (now : Ticks) (revision : ℕ) (low : ℕ) (led : Outcome)
@@ -162,7 +169,7 @@ begins-begins : (P : List Output → Type 0) (now : Ticks) (revision : ℕ) (b :
     all ≡ [] ++ with_output (outputs.Require (unnamed b.knows.turn_settings)) b.outputs → P all)
     → OutputsBeginBehind P [] (begins now revision b).outputs
 begins-begins P now revision b silent last = let required : Output = outputs.Require (unnamed b.knows.turn_settings) in
-    behind-push P [] (with_output required b.outputs) outputs.Begin
+    behind-push P [] (with_output required b.outputs) (outputs.Server orders.Begin)
     (silent-begins P (with_output required b.outputs) (silently b.outputs required silent tt)) last
 
 arms-begins : (now ttl : Ticks) (sequence : ℕ) (grant : Granted) (revision : ℕ) (o b : Outcome)
@@ -218,16 +225,16 @@ granted-begins now sequence grant snapshot b unpaused armable silent =
     let kept : Outcome = kept_on grant.revision told in
     let over : Outcome = takes_over now grant.revision (arming now waited.ttl told) in
     let unarmed : OutputsBeginBehind Mine [] (ending_server now WatchdogNotArmed told).outputs =
-    silent-begins Mine (with_output (outputs.Stop WatchdogNotArmed) b.outputs)
-    (silently b.outputs (outputs.Stop WatchdogNotArmed) silent tt) in
+    silent-begins Mine (with_output (outputs.Server (orders.Stop WatchdogNotArmed)) b.outputs)
+    (silently b.outputs (outputs.Server (orders.Stop WatchdogNotArmed)) silent tt) in
     let rest : All IsSilent led.outputs =
     silent-fed (deadline_after now waited.ttl b.machine.watchdog) b.outputs silent in
     record {
       other = silent-begins Mine b.outputs silent;
       leader = λ held _ _ _.
           renewed-by (λ (x : Outcome). OutputsBeginBehind Mine [] x.outputs) now waited.ttl grant.revision told
-          (silent-begins Mine (with_output (outputs.Stop StartTooLong) led.outputs)
-          (silently led.outputs (outputs.Stop StartTooLong) rest tt))
+          (silent-begins Mine (with_output (outputs.Server (orders.Stop StartTooLong)) led.outputs)
+          (silently led.outputs (outputs.Server (orders.Stop StartTooLong)) rest tt))
           (duties-begin Mine now grant.revision b.knows.sequence led (omega arith) rest);
       unleased = λ _ _ _. if-cases (λ (x : Outcome). OutputsBeginBehind Mine [] x.outputs)
           (is_refusing b.machine.watchdog.mode b.machine.watchdog.works) (ending_server now WatchdogNotArmed told) over
@@ -238,8 +245,8 @@ granted-begins now sequence grant snapshot b unpaused armable silent =
           (waited, is, decision) in_time refl (armable (waited, is, decision)) silent;
       keeps_late =
           λ held _ _ _. judges-start-by (λ (x : Outcome). OutputsBeginBehind Mine [] x.outputs) now grant.revision kept
-          (silent-begins Mine (with_output (outputs.Stop StartTooLong) b.outputs)
-          (silently b.outputs (outputs.Stop StartTooLong) silent tt))
+          (silent-begins Mine (with_output (outputs.Server (orders.Stop StartTooLong)) b.outputs)
+          (silently b.outputs (outputs.Server (orders.Stop StartTooLong)) silent tt))
           (duties-begin Mine now grant.revision b.knows.sequence kept (omega arith) silent);
       ends_late = λ _ _. unarmed;
       refuses_late = λ _ _. cannot-arm-begins Mine grant.revision told silent;

@@ -9,6 +9,7 @@ use Rattle.pat_base.specs.ServerState.{live}
 use Rattle.store_keys.specs.declared.txn.Expected.{Expected}
 use Rattle.store_keys.specs.declared.txn.Txn.{Txn}
 use Rattle.store_keys.specs.declared.txn.Txn.TheVariants as txns
+use Rattle.store_keys.specs.declared.txn.LeaseTxn.TheVariants as lease_txns
 use Rattle.cluster_view.specs.Snapshots.{SnapshotFacts}
 use Rattle.event_book.specs.declared.message.Body.{Body}
 use Rattle.event_book.specs.declared.message.Body.TheVariants as bodies
@@ -20,6 +21,7 @@ use Rattle.lease_model.specs.Past.{members_if, query_of}
 use Rattle.lease_model.proofs.Tools.{some-is, none-some}
 use Rattle.agent_model.specs.declared.output.Output.{Output}
 use Rattle.agent_model.specs.declared.output.Output.TheVariants as outputs
+use Rattle.agent_model.specs.declared.output.Outgoing.TheVariants as outgoing
 use Rattle.agent_model.specs.declared.output.Target.TheVariants as targets
 use Rattle.agent_model.specs.declared.who.Who.{Who}
 use Rattle.failsafe.specs.declared.asks.Ask.{Ask}
@@ -124,15 +126,16 @@ pub record LeavesSeen (s : State) (m runs : ℕ) (input : AgentInput) (after : O
 txn-query : (s : State) (m runs : ℕ) (input : AgentInput) (G : Grounds) (o after : Outcome) (sequence : ℕ)
     → LeavesSeen s m runs input after → AreLawfulGrounds s m input G o after → (txn : Txn)
     → MayTransact G o after sequence txn → MayQuery s m input (was_of o) (was_of after) sequence (query_of txn)
-txn-query s m runs input G o after sequence seen grounds (txns.Create info ttl failsafe sync) may =
+txn-query s m runs input G o after sequence seen grounds (txns.Lease (lease_txns.Create info ttl failsafe sync)) may =
     grounds.creates failsafe may
-txn-query s m runs input G o after sequence seen grounds (txns.Renew revision info ttl status row failsafe) may = (
-  subst (λ (x : ℕ). leader_seen_if after.knows.seen ≡ Some (record { holder = x; revision = revision }))
-      seen.me may.0,
-  may.1,
-  carry-set s runs input after sequence seen.machine seen.mode may.1 failsafe may.2,
-)
-txn-query s m runs input G o after sequence seen grounds (txns.Release revision) may =
+txn-query s m runs input G o after sequence seen grounds
+    (txns.Lease (lease_txns.Renew revision info ttl status row failsafe)) may = (
+      subst (λ (x : ℕ). leader_seen_if after.knows.seen ≡ Some (record { holder = x; revision = revision }))
+          seen.me may.0,
+      may.1,
+      carry-set s runs input after sequence seen.machine seen.mode may.1 failsafe may.2,
+    )
+txn-query s m runs input G o after sequence seen grounds (txns.Lease (lease_txns.Release revision)) may =
     (λ a. may.0 (acts-seen input.machine runs after seen.machine a), owns-either may.1)
   where
     owns-either : (lease_of o.role ≡ Some revision) ⊎ G.gives revision → Owns s m input.heard (was_of o) revision
@@ -180,7 +183,7 @@ sent-may : (s : State) (m runs : ℕ) (input : AgentInput) (G : Grounds) (o afte
     → IsSentBy m o.knows.incarnation s.clock after.outputs flying → MaySend s m input (was_of o) (was_of after) flying
 sent-may s m runs input G o after flying seen grounds all (AsksStore sequence body query among query_is is) =
     let may : SendsNew G o after sequence body =
-    put-among G o after (outputs.Send targets.Store sequence body) all among in
+    put-among G o after (outputs.Message (outgoing.Send targets.Store sequence body)) all among in
     subst (λ (x : Flying). MaySend s m input (was_of o) (was_of after) x) (sym is)
     (record {
       member = refl;
@@ -193,12 +196,13 @@ sent-may s m runs input G o after flying seen grounds all (AsksStore sequence bo
 sent-may s m runs input G o after flying seen grounds all (AsksMember to sequence ttl among is) =
     subst (λ (x : Flying). MaySend s m input (was_of o) (was_of after) x) (sym is)
     (grounds.requests sequence ttl
-    (put-among G o after (outputs.Send (targets.Member to) sequence (bodies.FailsafeRequest ttl)) all among).2)
+    (put-among G o after
+    (outputs.Message (outgoing.Send (targets.Member to) sequence (bodies.FailsafeRequest ttl))) all among).2)
 sent-may s m runs input G o after flying seen grounds all (SaysYes to run sequence among is) =
     subst (λ (x : Flying). MaySend s m input (was_of o) (was_of after) x) (sym is)
     (grounds.acknowledges to run sequence
-    (one-yes after.outputs (outputs.FailsafeAnswer to run sequence true) among refl)
-    (put-among G o after (outputs.FailsafeAnswer to run sequence true) all among refl))
+    (one-yes after.outputs (outputs.Message (outgoing.FailsafeAnswer to run sequence true)) among refl)
+    (put-among G o after (outputs.Message (outgoing.FailsafeAnswer to run sequence true)) all among refl))
 
 -- what an input that goes on brings to be lawful
 pub record Proper (s : State) (m : ℕ) (input : AgentInput) (told : Option SnapshotFacts) (G : Grounds)
@@ -314,7 +318,8 @@ ready-left s m runs now o after stands brings basis ready = basis ∙ stands.rea
 silent-yes : (G : Grounds) (o after : Outcome)
     → ((to : MemberId) (run sequence : ℕ) → G.acknowledges to run sequence → ⊥) → (output : Output)
     → MayPut G o after output → is_yes output ≡ false
-silent-yes G o after none (outputs.FailsafeAnswer to run sequence accepted) may = refuses accepted may
+silent-yes G o after none (outputs.Message (outgoing.FailsafeAnswer to run sequence accepted)) may =
+    refuses accepted may
   where
     refuses : (accepted : Bool) → (accepted ≡ true → G.acknowledges to run sequence) → accepted ≡ false
     refuses true may = absurd (none to run sequence (may refl))

@@ -17,6 +17,7 @@ use Rattle.event_book.specs.Functions.{set_members}
 use Rattle.lease_model.proofs.Tools.{some-is, none-some}
 use Rattle.agent_model.specs.declared.heard.Heard.TheVariants.{FailsafeAsked, FailsafeAnswered}
 use Rattle.agent_model.specs.declared.output.Output.TheVariants as outputs
+use Rattle.agent_model.specs.declared.output.Outgoing.TheVariants as outgoing
 use Rattle.agent_model.specs.StayingPrimary.{accepted_failsafe, awaits_failsafe, failsafe_answered, failsafe_answered_for, failsafe_asked, is_staying, span_after, unacknowledged_as}
 use Rattle.agent_model.specs.Acting.{waiting_no_more}
 use Rattle.agent_model.specs.Outputs.{has_one, with_output}
@@ -114,13 +115,13 @@ front-no : (o b : Outcome) → Fronts o b → All (λ (output : Output). is_yes 
 front-no o b (Silent all) = All-weaker IsSilent (λ (output : Output). is_yes output ≡ false) silent-no b.outputs all
   where
     silent-no : (output : Output) → IsSilent output → is_yes output ≡ false
-    silent-no (outputs.FailsafeAnswer to run sequence accepted) e = absurd e
+    silent-no (outputs.Message (outgoing.FailsafeAnswer to run sequence accepted)) e = absurd e
     silent-no _ e = refl
 front-no o b (Released revision held alone role ended counted all) = All-weaker
     (IsReleaseOr (o.knows.sequence + 1) revision) (λ (output : Output). is_yes output ≡ false) release-no b.outputs all
   where
     silent-no : (output : Output) → IsSilent output → is_yes output ≡ false
-    silent-no (outputs.FailsafeAnswer to run sequence accepted) e = absurd e
+    silent-no (outputs.Message (outgoing.FailsafeAnswer to run sequence accepted)) e = absurd e
     silent-no _ e = refl
 
     release-no : (output : Output) → IsReleaseOr (o.knows.sequence + 1) revision output → is_yes output ≡ false
@@ -147,7 +148,7 @@ request-answers now from incarnation sequence ttl o alone silent = let b : Outco
         (λ _ _. holds-for now ttl (reconciled now o).machine.hold)
         (λ e.
         absurd (no-way (sym (no-yes-before (reconciled now o).outputs before-it
-        (outputs.FailsafeAnswer from incarnation sequence false))
+        (outputs.Message (outgoing.FailsafeAnswer from incarnation sequence false)))
         ∙ e)))
 
 -- this member's yes to that request

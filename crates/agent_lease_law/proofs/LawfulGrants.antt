@@ -5,7 +5,7 @@ use Rattle.pat_base.specs.declared.member_set.MemberSet.{MemberSet}
 use Rattle.pat_base.specs.declared.ticks.Ticks.{Ticks}
 use Rattle.lease_store.specs.declared.granted.Granted.{Granted}
 use Rattle.store_keys.specs.declared.value.KeyEntry.{KeyEntry}
-use Rattle.cluster_view.specs.Snapshots.{SnapshotFacts, failsafe_by, failsafe_of_entry}
+use Rattle.cluster_view.specs.Snapshots.{SnapshotFacts, failsafe_by, value_by}
 use Rattle.leader_key.specs.declared.watchdog.Mode.{Mode}
 use Rattle.leader_key.specs.Watchdog.{WatchdogFacts, IsLeaseSpan, greatest_margin, timeout_of, is_armable, is_late, fed}
 use Rattle.lease_model.specs.Leases.{LeaderSeen, FailsafeKey}
@@ -133,7 +133,7 @@ listed-known known revision None key is p e = absurd (none-some key is)
 
 pub entry-known : (known : MemberSet) (found : Option KeyEntry) (key : FailsafeKey)
     → failsafe_entry_seen found ≡ Some key → (p : ℕ) → key.members p ≡ true
-    → set_members (known_with known (failsafe_of_entry found)) p ≡ true
+    → set_members (known_with known (value_by failsafe_by found)) p ≡ true
 entry-known known (Some found) key is p e = listed-known known found.revision (failsafe_by found.value) key is p e
 entry-known known None key is p e = absurd (none-some key is)
 

@@ -9,7 +9,7 @@ use Rattle.pat_base.specs.ServerState.{live}
 use Rattle.lease_store.specs.declared.granted.Granted.{Granted}
 use Rattle.store_keys.specs.declared.key.Key.TheVariants as keys
 use Rattle.wal_model.specs.declared.entry.HistoryPoint.{HistoryPoint}
-use Rattle.cluster_view.specs.Snapshots.{SnapshotFacts, entry_in, failsafe_by}
+use Rattle.cluster_view.specs.Snapshots.{SnapshotFacts, entry_in, failsafe_by, found_by}
 use Rattle.leader_key.specs.Watchdog.{is_armable, timeout_of}
 use Rattle.store_keys.specs.declared.config.Config.{Config}
 use Rattle.store_keys.specs.declared.value.KeyEntry.{KeyEntry}
@@ -26,7 +26,7 @@ use Rattle.lease_model.proofs.Tools.{some-is, none-some}
 use Rattle.agent_model.specs.declared.heard.Heard.{Heard}
 use Rattle.agent_model.specs.declared.heard.Heard.TheVariants.{Wake, ReadAnswered, Granted as HeardGranted, Mismatch, Asked, Answered, FailsafeAsked, FailsafeAnswered, Operated as HearsOperator}
 use Rattle.agent_model.specs.declared.knowledge.FailsafeRead.{FailsafeRead}
-use Rattle.agent_model.specs.FailsafeKeys.{failsafe_compared, failsafe_expected, failsafe_read_by, failsafe_read_of_entry}
+use Rattle.agent_model.specs.FailsafeKeys.{failsafe_compared, failsafe_expected, failsafe_read_by, failsafe_read_at}
 use Rattle.agent_model.specs.StayingPrimary.{is_staying, others_known}
 use Rattle.agent_model.specs.Acting.{lease_span}
 use Rattle.agent_model.specs.Peers.{awaits_others}
@@ -496,7 +496,7 @@ read-creates s m runs input now sequence snapshot o stands hears =
     }
   where
     read-seen : (found : Option KeyEntry)
-        → failsafe_read_seen (failsafe_read_of_entry found) ≡ failsafe_entry_seen found
+        → failsafe_read_seen (found_by failsafe_read_at found) ≡ failsafe_entry_seen found
     read-seen None = refl
     read-seen (Some found) = by (failsafe_by found.value)
       where

@@ -19,6 +19,7 @@ use Rattle.agent_model.specs.declared.knowledge.PendingQuestion.{PendingQuestion
 use Rattle.agent_model.specs.declared.machine.Machine.{Machine}
 use Rattle.agent_model.specs.declared.output.Output.{Output}
 use Rattle.agent_model.specs.declared.output.Output.TheVariants as outputs
+use Rattle.agent_model.specs.declared.output.Outgoing.TheVariants as outgoing
 use Rattle.agent_model.specs.declared.output.Target.TheVariants as targets
 use Rattle.agent_model.specs.Agents.{Outcome, is_ready}
 use Rattle.agent_model.specs.Outputs.{is_arming, is_feeding, has_one, OutputsBeginBehind}
@@ -124,22 +125,25 @@ query_in _ = None
 -- in this incarnation, its failsafe request to another member, or its acknowledgement of another one's
 pub data IsSentBy (m incarnation clock : ℕ) (outs : List Output) (flying : Flying) : Type 0 where
   AsksStore : (sequence : ℕ) (body : Body) (query : Query)
-      → (among : Contains outs (outputs.Send targets.Store sequence body)) → (query_is : query_in body ≡ Some query)
+      → (among : Contains outs (outputs.Message (outgoing.Send targets.Store sequence body)))
+      → (query_is : query_in body ≡ Some query)
       → (is : flying
       ≡ Requested (record { member = m; incarnation = incarnation; sequence = sequence; sent = clock; query = query }))
       → IsSentBy m incarnation clock outs flying
   AsksMember : (to : MemberId) (sequence : ℕ) (ttl : Ticks)
-      → (among : Contains outs (outputs.Send (targets.Member to) sequence (bodies.FailsafeRequest ttl)))
+      → (among : Contains outs
+      (outputs.Message (outgoing.Send (targets.Member to) sequence (bodies.FailsafeRequest ttl))))
       → (is : flying ≡ FailsafeRequested
       (record { member = m; incarnation = incarnation; sequence = sequence; ttl = ttl.0; sent = clock }))
       → IsSentBy m incarnation clock outs flying
-  SaysYes : (to : MemberId) (run sequence : ℕ) → (among : Contains outs (outputs.FailsafeAnswer to run sequence true))
+  SaysYes : (to : MemberId) (run sequence : ℕ)
+      → (among : Contains outs (outputs.Message (outgoing.FailsafeAnswer to run sequence true)))
       → (is : flying ≡ Acknowledged (record { member = to.number; incarnation = run; sequence = sequence; by = m }))
       → IsSentBy m incarnation clock outs flying
 
 -- an output by which a member acknowledges another one's failsafe request
 abbrev pub is_yes : Output → Bool
-is_yes (outputs.FailsafeAnswer to incarnation sequence accepted) = accepted
+is_yes (outputs.Message (outgoing.FailsafeAnswer to incarnation sequence accepted)) = accepted
 is_yes _ = false
 
 -- the failsafe request that a message in flight is, if it is one

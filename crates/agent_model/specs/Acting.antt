@@ -6,6 +6,7 @@ use Rattle.pat_base.specs.declared.server_state.Required.{Required}
 use Rattle.pat_base.specs.declared.ticks.Ticks.{Ticks}
 use Rattle.store_keys.specs.declared.config.Config.{Config}
 use Rattle.store_keys.specs.declared.txn.Txn.TheVariants as txns
+use Rattle.store_keys.specs.declared.txn.LeaseTxn.TheVariants as lease_txns
 use Rattle.pg_model.specs.declared.status.ServerStatus.{ServerStatus}
 use Rattle.pg_model.specs.Status.{status_replica_started, status_primary_started, status_stopping, status_following, status_promoted}
 use Rattle.event_book.specs.declared.message.Body.{Body}
@@ -21,6 +22,9 @@ use Rattle.agent_model.specs.declared.knowledge.PendingQuestion.{PendingQuestion
 use Rattle.agent_model.specs.declared.machine.Machine.{Machine}
 use Rattle.agent_model.specs.declared.output.Output.{Output}
 use Rattle.agent_model.specs.declared.output.Output.TheVariants as outputs
+use Rattle.agent_model.specs.declared.output.Feeding.TheVariants as feedings
+use Rattle.agent_model.specs.declared.output.Outgoing.TheVariants as outgoing
+use Rattle.agent_model.specs.declared.output.ServerOrder.TheVariants as orders
 use Rattle.agent_model.specs.declared.output.Target.TheVariants as targets
 use Rattle.agent_model.specs.Agents.{Outcome}
 use Rattle.agent_model.specs.Info.{info_of}
@@ -43,7 +47,7 @@ counted knows = record knows { sequence = knows.sequence + 1 }
 abbrev pub sending : Body → Outcome → Outcome
 sending body o = record o {
   knows = counted o.knows;
-  outputs = with_output (outputs.Send targets.Store (o.knows.sequence + 1) body) o.outputs;
+  outputs = with_output (outputs.Message (outgoing.Send targets.Store (o.knows.sequence + 1) body)) o.outputs;
 }
 
 -- the agent waits for the answer to its last question until a moment: what it asked for are leases of its settings'
@@ -74,20 +78,20 @@ touching o =
 
 -- the agent gives the leader key of this revision up
 abbrev pub releasing : ℕ → Outcome → Outcome
-releasing revision o = sending (bodies.Request (txns.Release revision)) o
+releasing revision o = sending (bodies.Request (txns.Lease (lease_txns.Release revision))) o
 
 -- the agent ends its server
 abbrev pub ending_server : Ticks → Reason → Outcome → Outcome
 ending_server now reason o = record o {
   machine = record o.machine { server = status_stopping now o.machine.server };
-  outputs = with_output (outputs.Stop reason) o.outputs;
+  outputs = with_output (outputs.Server (orders.Stop reason)) o.outputs;
 }
 
 -- the server shuts down
 abbrev pub shutting_down : Ticks → Outcome → Outcome
 shutting_down now o = record o {
   machine = record o.machine { server = status_stopping now o.machine.server };
-  outputs = with_output outputs.ShutDown o.outputs;
+  outputs = with_output (outputs.Server orders.ShutDown) o.outputs;
 }
 
 -- the server of this member, if one is named
@@ -99,14 +103,14 @@ upstream_of (Some leader) = Some (server_id_of leader)
 abbrev pub starting_replica : Ticks → Option MemberId → Outcome → Outcome
 starting_replica now leader o = record o {
   machine = record o.machine { server = status_replica_started now (upstream_of leader) o.machine.server };
-  outputs = with_output (outputs.StartReplica leader) o.outputs;
+  outputs = with_output (outputs.Server (orders.StartReplica leader)) o.outputs;
 }
 
 -- the server follows this member's
 abbrev pub following_server : MemberId → Outcome → Outcome
 following_server leader o = record o {
   machine = record o.machine { server = status_following (server_id_of leader) o.machine.server };
-  outputs = with_output (outputs.Follow leader) o.outputs;
+  outputs = with_output (outputs.Server (orders.Follow leader)) o.outputs;
 }
 
 -- a replica is promoted, and one that is down and was a primary starts as one again; another server stays as it is
@@ -117,7 +121,7 @@ status_begun now s = status_primary_started now (status_promoted s)
 abbrev pub beginning : Ticks → Outcome → Outcome
 beginning now o = record o {
   machine = record o.machine { server = status_begun now o.machine.server };
-  outputs = with_output outputs.Begin o.outputs;
+  outputs = with_output (outputs.Server orders.Begin) o.outputs;
 }
 
 -- the server's commits wait for these
@@ -136,7 +140,7 @@ without_deadline machine = record machine { watchdog = record machine.watchdog {
 -- a deadline that is removed is told
 abbrev pub disarmed : Option Ticks → List Output → List Output
 disarmed None out = out
-disarmed (Some deadline) out = with_output outputs.Disarmed out
+disarmed (Some deadline) out = with_output (outputs.Watchdog feedings.Disarmed) out
 
 -- the watchdog has no deadline any more
 abbrev pub disarming : Outcome → Outcome
@@ -163,12 +167,12 @@ is_refusing _ works = false
 -- a first deadline is told, if there is one
 abbrev pub armed : Option Ticks → List Output → List Output
 armed None out = out
-armed (Some until) out = with_output (outputs.Armed until) out
+armed (Some until) out = with_output (outputs.Watchdog (feedings.Armed until)) out
 
 -- a new deadline is told, if there is one
 abbrev pub fed_until : Option Ticks → List Output → List Output
 fed_until None out = out
-fed_until (Some until) out = with_output (outputs.Fed until) out
+fed_until (Some until) out = with_output (outputs.Watchdog (feedings.Fed until)) out
 
 -- the watchdog gets its first deadline, where it is used and its device works
 abbrev pub arming : Ticks → Ticks → Outcome → Outcome

@@ -9,6 +9,7 @@ use Rattle.pg_model.specs.declared.status.ServerStatus.{ServerStatus}
 use Rattle.event_book.specs.declared.message.Body.TheVariants as bodies
 use Rattle.agent_model.specs.declared.output.Output.{Output}
 use Rattle.agent_model.specs.declared.output.Output.TheVariants as outputs
+use Rattle.agent_model.specs.declared.output.Outgoing.TheVariants as outgoing
 use Rattle.agent_model.specs.declared.output.Target.TheVariants as targets
 use Rattle.agent_model.specs.declared.who.Who.{Who}
 use Rattle.agent_model.specs.Info.{runs}
@@ -41,7 +42,8 @@ is_other who member = nat_lt member.number who.members && not (member.number == 
 abbrev pub asking_one : Who → ℕ → Option MemberId → List Output → List Output
 asking_one who sequence None out = out
 asking_one who sequence (Some member) out =
-    if is_other who member then with_output (outputs.Send (targets.Member member) sequence bodies.Ask) out else out
+    if is_other who member
+    then with_output (outputs.Message (outgoing.Send (targets.Member member) sequence bodies.Ask)) out else out
 
 -- the asks to the other members among so many first ones, in the order
 -- in which the script declares them, all under one number

@@ -5,6 +5,7 @@ use Rattle.pat_base.specs.declared.server_state.State.{State}
 use Rattle.pat_base.specs.declared.server_state.State.TheVariants as states
 use Rattle.pat_base.specs.declared.ticks.Ticks.{Ticks}
 use Rattle.store_keys.specs.declared.txn.Txn.TheVariants as txns
+use Rattle.store_keys.specs.declared.txn.SyncTxn.TheVariants as sync_txns
 use Rattle.pg_model.specs.declared.status.ServerStatus.{ServerStatus}
 use Rattle.event_book.specs.declared.agent_note.AgentNote.TheVariants as agent_notes
 use Rattle.event_book.specs.declared.message.Body.TheVariants as bodies
@@ -12,6 +13,8 @@ use Rattle.agent_model.specs.declared.knowledge.Knowledge.{Knowledge}
 use Rattle.agent_model.specs.declared.knowledge.Question.TheVariants.{Claiming}
 use Rattle.agent_model.specs.declared.output.Output.{Output}
 use Rattle.agent_model.specs.declared.output.Output.TheVariants as outputs
+use Rattle.agent_model.specs.declared.output.Noting.TheVariants as notings
+use Rattle.agent_model.specs.declared.output.Telling.TheVariants as tellings
 use Rattle.agent_model.specs.Acting.{seconds_after, asking, disarming, beginning, requiring}
 use Rattle.agent_model.specs.Agents.{RoleFacts, Holder, Ready, Leader, Outcome}
 use Rattle.agent_model.specs.Outputs.{with_output}
@@ -29,12 +32,12 @@ begins now revision o = record (beginning now (requiring (unnamed o.knows.turn_s
 abbrev pub claims : Ticks → ℕ → Outcome → Outcome
 claims now revision o =
     record (asking now Claiming (seconds_after now o.knows.settings.retry_timeout)
-    (bodies.Request (txns.Claim revision (expected_of o.knows.turn_sync))) o) { role = Ready revision }
+    (bodies.Request (txns.Sync (sync_txns.Claim revision (expected_of o.knows.turn_sync)))) o) { role = Ready revision }
 
 -- that the member leads though the sync key doesn't name it stands behind what it did so far
 abbrev pub told_passing : Bool → List Output → List Output
 told_passing true out = out
-told_passing false out = with_output outputs.ClaimsOutsideSync out
+told_passing false out = with_output (outputs.Tell tellings.ClaimsOutsideSync) out
 
 -- the member notes where the sync key, as its turn read it, doesn't name it: a failover by hand alone lets it lead then
 abbrev pub passing : Outcome → Outcome
@@ -49,7 +52,7 @@ begins_or_claims now revision o =
 abbrev pub postpones : ℕ → Outcome → Outcome
 postpones revision o = let undone = disarming o in record undone {
   role = Holder revision;
-  outputs = with_output (outputs.Note agent_notes.PostponesPromotion) undone.outputs;
+  outputs = with_output (outputs.Note (notings.Agent agent_notes.PostponesPromotion)) undone.outputs;
 }
 
 -- a claim of the sync key fails: who is about to begin on it doesn't

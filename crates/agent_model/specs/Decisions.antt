@@ -15,6 +15,7 @@ use Rattle.agent_model.specs.declared.knowledge.Question.TheVariants.{ComparingP
 use Rattle.agent_model.specs.declared.knowledge.PendingQuestion.{PendingQuestion}
 use Rattle.agent_model.specs.declared.machine.Machine.{Machine}
 use Rattle.agent_model.specs.declared.output.Output.TheVariants as outputs
+use Rattle.agent_model.specs.declared.output.Noting.TheVariants as notings
 use Rattle.agent_model.specs.declared.why.Why.TheVariants.{HandOver}
 use Rattle.agent_model.specs.Acting.{waiting_no_more, releasing, ending_server, arming, comes_late, feeding, is_refusing, is_hold_active}
 use Rattle.agent_model.specs.Agents.{RoleFacts, Follower, Holder, Ready, Leader, Ending, Unleased, Outcome, is_ready, is_leader}
@@ -98,7 +99,8 @@ gives_back revision o = record (releasing revision o) { role = Follower }
 -- nobody begins whose watchdog can't be armed
 abbrev pub cannot_arm : ℕ → Outcome → Outcome
 cannot_arm revision o =
-    gives_back revision (record o { outputs = with_output (outputs.Note agent_notes.CannotArm) o.outputs })
+    gives_back revision
+    (record o { outputs = with_output (outputs.Note (notings.Agent agent_notes.CannotArm)) o.outputs })
 
 -- nobody begins without an armed watchdog, where the member needs one
 abbrev pub arms : Ticks → Ticks → ℕ → Outcome → Outcome

@@ -4,8 +4,8 @@ use Rattle.pat_base.specs.declared.member_set.MemberSet.{MemberSet}
 use Rattle.store_keys.specs.declared.key.Key.TheVariants as keys
 use Rattle.store_keys.specs.declared.txn.Expected.{Expected}
 use Rattle.store_keys.specs.declared.txn.Expected.TheVariants.{Absent, Revision}
-use Rattle.store_keys.specs.declared.value.KeyEntry.{KeyEntry}
-use Rattle.cluster_view.specs.Snapshots.{SnapshotFacts, entry_in, failsafe_by}
+use Rattle.store_keys.specs.declared.value.Value.{Value}
+use Rattle.cluster_view.specs.Snapshots.{SnapshotFacts, entry_in, failsafe_by, found_by}
 use Rattle.failsafe.specs.Listing.{set_to_write}
 use Rattle.agent_model.specs.declared.knowledge.Knowledge.{Knowledge}
 use Rattle.agent_model.specs.declared.knowledge.FailsafeRead.{FailsafeRead}
@@ -17,14 +17,13 @@ abbrev pub failsafe_read_by : ℕ → Option MemberSet → Option FailsafeRead
 failsafe_read_by revision None = None
 failsafe_read_by revision (Some members) = Some (record { members = members; revision = revision })
 
--- the same of the key's entry
-abbrev pub failsafe_read_of_entry : Option KeyEntry → Option FailsafeRead
-failsafe_read_of_entry None = None
-failsafe_read_of_entry (Some found) = failsafe_read_by found.revision (failsafe_by found.value)
+-- the same of a value of it
+abbrev pub failsafe_read_at : ℕ → Value → Option FailsafeRead
+failsafe_read_at revision value = failsafe_read_by revision (failsafe_by value)
 
 -- the failsafe key that a snapshot has, with its revision
 abbrev pub failsafe_read_in : SnapshotFacts → Option FailsafeRead
-failsafe_read_in snapshot = failsafe_read_of_entry (entry_in keys.Failsafe snapshot)
+failsafe_read_in snapshot = found_by failsafe_read_at (entry_in keys.Failsafe snapshot)
 
 -- what a request expects of a failsafe key that was read so
 abbrev pub failsafe_expected : Option FailsafeRead → Expected

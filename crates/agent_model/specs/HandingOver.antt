@@ -7,6 +7,7 @@ use Rattle.pat_base.specs.declared.peer_answer.PeerAnswer.{PeerAnswer}
 use Rattle.pat_base.specs.declared.ticks.Ticks.{Ticks}
 use Rattle.leader_race.specs.Eligibility.{may_fail_over}
 use Rattle.store_keys.specs.declared.txn.Txn.TheVariants as txns
+use Rattle.store_keys.specs.declared.txn.OperatorTxn.TheVariants as operator_txns
 use Rattle.store_keys.specs.declared.value.FailoverKey.{FailoverKey}
 use Rattle.pg_model.specs.declared.status.ServerStatus.{ServerStatus}
 use Rattle.cluster_view.specs.declared.snapshot.LeaderEntry.{LeaderEntry}
@@ -20,6 +21,7 @@ use Rattle.agent_model.specs.declared.knowledge.Question.TheVariants.{FindingCan
 use Rattle.agent_model.specs.declared.knowledge.SyncRead.{SyncRead}
 use Rattle.agent_model.specs.declared.output.Output.{Output}
 use Rattle.agent_model.specs.declared.output.Output.TheVariants as outputs
+use Rattle.agent_model.specs.declared.output.Noting.TheVariants as notings
 use Rattle.agent_model.specs.declared.why.Why.TheVariants.{HandOver}
 use Rattle.agent_model.specs.declared.who.Who.{Who}
 use Rattle.agent_model.specs.Acting.{counted, waiting, sending, shutting_down, waiting_no_more}
@@ -47,7 +49,7 @@ leader_revision (Some snapshot) = option_map (λ (leader : LeaderEntry). leader.
 -- the agent asks that the failover key be removed, under the leader key of this revision
 abbrev pub clearing_under : Option ℕ → Outcome → Outcome
 clearing_under None o = o
-clearing_under (Some revision) o = sending (bodies.Request (txns.DropFailover revision)) o
+clearing_under (Some revision) o = sending (bodies.Request (txns.Operators (operator_txns.DropFailover revision))) o
 
 -- the same under the leader key that was read last
 abbrev pub clearing : Outcome → Outcome
@@ -90,7 +92,7 @@ successor_by (Some failover) knows server = first_of (is_successor knows server 
 -- the member notes that it hands over to this one, and ends its server; it gives up the leader key when that has ended
 abbrev pub hands_over : Ticks → ℕ → MemberId → Outcome → Outcome
 hands_over now revision candidate o = record (shutting_down now (record o {
-  outputs = with_output (outputs.Note (agent_notes.HandsOver candidate)) o.outputs;
+  outputs = with_output (outputs.Note (notings.Agent (agent_notes.HandsOver candidate))) o.outputs;
 })) { role = Ending revision HandOver; knows = record o.knows { handed_over = true } }
 
 -- a leader hands over, or asks that the failover key be removed where nobody may lead next

@@ -12,6 +12,7 @@ use Rattle.store_keys.specs.declared.config.Config.{Config}
 use Rattle.lease_store.specs.declared.granted.Granted.{Granted}
 use Rattle.store_keys.specs.declared.key.Key.TheVariants as keys
 use Rattle.store_keys.specs.declared.txn.Txn.TheVariants as txns
+use Rattle.store_keys.specs.declared.txn.OperatorTxn.TheVariants as operator_txns
 use Rattle.store_keys.specs.declared.value.FailoverKey.{FailoverKey}
 use Rattle.store_keys.specs.declared.value.KeyEntry.{KeyEntry}
 use Rattle.pg_model.specs.Running.{is_primary}
@@ -34,6 +35,8 @@ use Rattle.agent_model.specs.declared.operating.Operation.TheVariants.{FailingOv
 use Rattle.agent_model.specs.declared.operating.Told.{Told}
 use Rattle.agent_model.specs.declared.operating.Told.TheVariants as tolds
 use Rattle.agent_model.specs.declared.output.Output.TheVariants as outputs
+use Rattle.agent_model.specs.declared.output.ServerOrder.TheVariants as orders
+use Rattle.agent_model.specs.declared.output.Telling.TheVariants as tellings
 use Rattle.agent_model.specs.Acting.{seconds_after, lease_span, counted, sending}
 use Rattle.agent_model.specs.Agents.{Outcome}
 use Rattle.agent_model.specs.Decisions.{is_write_of}
@@ -48,7 +51,7 @@ most_operator_ticks = 600
 
 -- the agent answers the operator's request of this number
 abbrev pub telling : ℕ → Told → Outcome → Outcome
-telling request told o = record o { outputs = with_output (outputs.Told request told) o.outputs }
+telling request told o = record o { outputs = with_output (outputs.Tell (tellings.Told request told)) o.outputs }
 
 -- it answers the request that waits, which waits no more
 abbrev pub answering : ℕ → Told → Outcome → Outcome
@@ -100,14 +103,14 @@ abbrev pub restarting : Ticks → Outcome → Outcome
 restarting now o = record o {
   knows = record o.knows { begun = Some now };
   machine = record o.machine { server = status_restarted now o.machine.server };
-  outputs = with_output (outputs.Restart (is_primary o.machine.server.state)) o.outputs;
+  outputs = with_output (outputs.Server (orders.Restart (is_primary o.machine.server.state))) o.outputs;
 }
 
 -- the server is wiped, and waits for a copy
 abbrev pub wiping : Outcome → Outcome
 wiping o = record o {
   machine = record o.machine { server = status_wiped o.machine.server };
-  outputs = with_output outputs.Wipe o.outputs;
+  outputs = with_output (outputs.Server orders.Wipe) o.outputs;
 }
 
 -- the number of a failsafe request that no message brings: those of messages are counted from 1
@@ -125,9 +128,10 @@ asked_to_hold now request ttl o =
 -- what an agent does on a request of this number, which passed its checks
 abbrev pub operated : Ticks → ℕ → OperatorRequest → Outcome → Outcome
 operated now request (requests.Failover kind failover) o = operating now request (FailingOver kind)
-    (bodies.Request (txns.SetFailover failover (lease_span o.knows.settings))) o
+    (bodies.Request (txns.Operators (operator_txns.SetFailover failover (lease_span o.knows.settings)))) o
 operated now request (requests.Configuration config) o =
-    operating now request Configuring (bodies.Request (txns.SetConfig (config_revision o.knows.seen) config)) o
+    operating now request Configuring
+    (bodies.Request (txns.Operators (operator_txns.SetConfig (config_revision o.knows.seen) config))) o
 operated now request requests.Restart o = telling request (tolds.Text ok texts.Restarted) (restarting now o)
 operated now request requests.Reinit o = telling request (tolds.Text ok texts.ReinitializeStarted) (wiping o)
 operated now request (requests.Hold from ttl) o = asked_to_hold now request (record { 0 = ttl }) o

@@ -3,7 +3,6 @@
 use Rattle.std.specs.Prelude.{◌&&◌, ◌||◌, not, Bool, true, false, List, Option, Some, None}
 use Rattle.pat_base.specs.declared.member_id.MemberId.{MemberId}
 use Rattle.pat_base.specs.declared.server_state.State.{State}
-use Rattle.pat_base.specs.declared.server_state.State.TheVariants as states
 use Rattle.pat_base.specs.declared.ticks.Ticks.{Ticks}
 use Rattle.store_keys.specs.declared.config.Config.{Config}
 use Rattle.store_keys.specs.declared.value.FailoverKey.{FailoverKey}
@@ -14,9 +13,12 @@ use Rattle.event_book.specs.declared.agent_note.AgentNote.TheVariants as agent_n
 use Rattle.agent_model.specs.declared.knowledge.Knowledge.{Knowledge}
 use Rattle.agent_model.specs.declared.output.Output.{Output}
 use Rattle.agent_model.specs.declared.output.Output.TheVariants as outputs
+use Rattle.agent_model.specs.declared.output.Feeding.TheVariants as feedings
+use Rattle.agent_model.specs.declared.output.Noting.TheVariants as notings
 use Rattle.agent_model.specs.Acting.{without_deadline}
 use Rattle.agent_model.specs.Agents.{Unleased, Outcome}
 use Rattle.agent_model.specs.Outputs.{with_output}
+use Rattle.pg_model.specs.Facts.{is_replica}
 
 -- the cluster is paused, by the newest snapshot
 abbrev pub is_paused : Knowledge → Bool
@@ -37,14 +39,18 @@ ends_forks settings = not (settings.use_pg_rewind || settings.pause)
 -- a primary runs on without the leader key
 abbrev pub running_without_key : Outcome → Outcome
 running_without_key o =
-    record o { role = Unleased; outputs = with_output (outputs.Note agent_notes.RunsWithoutKey) o.outputs }
+    record o {
+      role = Unleased;
+      outputs = with_output (outputs.Note (notings.Agent agent_notes.RunsWithoutKey)) o.outputs;
+    }
 
 -- a deadline that is removed is told; where that comes of a renewal, it is noted besides
 abbrev pub disabling_told : Bool → Option Ticks → List Output → List Output
 disabling_told renews None out = out
 disabling_told true (Some deadline) out =
-    with_output (outputs.Note agent_notes.DisablesWatchdog) (with_output outputs.Disarmed out)
-disabling_told false (Some deadline) out = with_output outputs.Disarmed out
+    with_output (outputs.Note (notings.Agent agent_notes.DisablesWatchdog))
+    (with_output (outputs.Watchdog feedings.Disarmed) out)
+disabling_told false (Some deadline) out = with_output (outputs.Watchdog feedings.Disarmed) out
 
 -- a member leads without a watchdog: its deadline is removed, on a renewal or on the grant of a free key
 abbrev pub disabling_watchdog : Bool → Outcome → Outcome
@@ -52,11 +58,6 @@ disabling_watchdog renews o = record o {
   machine = without_deadline o.machine;
   outputs = disabling_told renews o.machine.watchdog.deadline o.outputs;
 }
-
--- the server runs as a replica
-abbrev pub is_replica : State → Bool
-is_replica states.Replica = true
-is_replica _ = false
 
 -- an operator wants this member to lead, by a failover key, and its
 -- server is a replica: only such a one takes the leader key in a pause

@@ -7,6 +7,7 @@ use Rattle.agent_model.specs.declared.knowledge.Question.{Question}
 use Rattle.agent_model.specs.declared.knowledge.Question.TheVariants.{ComparingPositions, FindingCandidate}
 use Rattle.agent_model.specs.declared.knowledge.PendingQuestion.{PendingQuestion}
 use Rattle.agent_model.specs.declared.output.Output.TheVariants as outputs
+use Rattle.agent_model.specs.declared.output.Outgoing.TheVariants as outgoing
 use Rattle.agent_model.specs.Acting.{waiting_no_more}
 use Rattle.agent_model.specs.Agents.{Outcome}
 use Rattle.agent_model.specs.Answers.{with_answer, all_answered, peer_answer_of}
@@ -19,7 +20,9 @@ use Rattle.agent_model.specs.Racing.{judged}
 abbrev pub asked : MemberId → ℕ → ℕ → Outcome → Outcome
 asked from incarnation sequence o = record o {
   outputs =
-      with_output (outputs.Answer from incarnation sequence (peer_answer_of o.knows.who o.machine.server)) o.outputs;
+      with_output
+      (outputs.Message (outgoing.Answer from incarnation sequence (peer_answer_of o.knows.who o.machine.server)))
+      o.outputs;
 }
 
 -- a question to the other members in a race

@@ -5,6 +5,7 @@ use Rattle.pat_base.specs.declared.server_state.Required.TheVariants.{Nobody, Al
 use Rattle.pat_base.specs.declared.ticks.Ticks.{Ticks}
 use Rattle.store_keys.specs.declared.txn.Txn.{Txn}
 use Rattle.store_keys.specs.declared.txn.Txn.TheVariants as txns
+use Rattle.store_keys.specs.declared.txn.SyncTxn.TheVariants as sync_txns
 use Rattle.lease_store.specs.Writes.{nobody}
 use Rattle.event_book.specs.declared.message.Body.TheVariants as bodies
 use Rattle.cluster_view.specs.declared.view.LeaderView.{LeaderView}
@@ -42,12 +43,14 @@ writing_sync now settling txn o =
 -- it asks that these be the standbys in the sync key, as that was read last
 abbrev pub naming : Ticks → ℕ → Settling → MemberSet → Outcome → Outcome
 naming now revision settling standbys o =
-    writing_sync now settling (txns.SetSync revision (expected_of (sync_read_if o.knows.seen)) standbys) o
+    writing_sync now settling
+    (txns.Sync (sync_txns.SetSync revision (expected_of (sync_read_if o.knows.seen)) standbys None)) o
 
 -- it asks that the sync key be removed, which was read so
 abbrev pub switching_off : Ticks → ℕ → Option SyncRead → Outcome → Outcome
 switching_off now revision None o = o
-switching_off now revision (Some read) o = writing_sync now ClearsList (txns.DropSync revision read.revision) o
+switching_off now revision (Some read) o =
+    writing_sync now ClearsList (txns.Sync (sync_txns.DropSync revision read.revision)) o
 
 -- the end of the log is noted: who becomes a standby from now on must have confirmed it first
 abbrev pub noting : Outcome → Outcome

@@ -4,6 +4,7 @@ use Rattle.std.specs.Prelude.{ℕ, ◌+◌, ◌&&◌, if◌then◌else◌, not, 
 use Rattle.pat_base.specs.declared.ticks.Ticks.{Ticks}
 use Rattle.pat_base.specs.declared.ineligibility.Ineligibility.{Ineligibility}
 use Rattle.store_keys.specs.declared.txn.Txn.TheVariants as txns
+use Rattle.store_keys.specs.declared.txn.LeaseTxn.TheVariants as lease_txns
 use Rattle.pg_model.specs.declared.status.ServerStatus.{ServerStatus}
 use Rattle.pg_model.specs.Facts.{is_down}
 use Rattle.event_book.specs.declared.agent_note.AgentNote.TheVariants as agent_notes
@@ -20,6 +21,7 @@ use Rattle.agent_model.specs.declared.knowledge.Question.TheVariants.{ComparingP
 use Rattle.agent_model.specs.declared.knowledge.SyncRead.{SyncRead}
 use Rattle.agent_model.specs.declared.machine.Machine.{Machine}
 use Rattle.agent_model.specs.declared.output.Output.TheVariants as outputs
+use Rattle.agent_model.specs.declared.output.Noting.TheVariants as notings
 use Rattle.agent_model.specs.Acting.{seconds_after, lease_span, counted, waiting, asking, touching, starting_replica, waiting_no_more}
 use Rattle.agent_model.specs.Agents.{Follower, Outcome}
 use Rattle.agent_model.specs.Answers.{asking_all, all_answered}
@@ -46,13 +48,14 @@ bar_of now knows machine = bar_by (view_of now words.Follower knows machine) kno
 -- the agent asks for the leader key
 abbrev pub creating : Ticks → Outcome → Outcome
 creating now o = asking now Creating (seconds_after now o.knows.settings.retry_timeout)
-    (bodies.Request (txns.Create (info_of o.knows.who o.machine.server) (lease_span o.knows.settings)
-    (failsafe_compared o.knows) None))
+    (bodies.Request (txns.Lease (lease_txns.Create (info_of o.knows.who o.machine.server) (lease_span o.knows.settings)
+    (failsafe_compared o.knows) None)))
     o
 
 -- a member that is barred tells by what, and tells of itself
 abbrev pub barred : Ineligibility → Outcome → Outcome
-barred bar o = touching (record o { outputs = with_output (outputs.Note (agent_notes.DoesNotRace bar)) o.outputs })
+barred bar o =
+    touching (record o { outputs = with_output (outputs.Note (notings.Agent (agent_notes.DoesNotRace bar))) o.outputs })
 
 -- what the last turn read that a race is judged by: the failover key,
 -- and the sync key where the synchronous mode is active

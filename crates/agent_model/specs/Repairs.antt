@@ -7,6 +7,7 @@ use Rattle.pat_base.specs.declared.server_state.State.TheVariants as states
 use Rattle.store_keys.specs.declared.config.Config.{Config}
 use Rattle.pg_model.specs.declared.status.ServerStatus.{ServerStatus}
 use Rattle.agent_model.specs.declared.output.Output.TheVariants as outputs
+use Rattle.agent_model.specs.declared.output.ServerOrder.TheVariants as orders
 use Rattle.agent_model.specs.declared.output.Repair.{Repair}
 use Rattle.agent_model.specs.declared.output.Repair.TheVariants.{Rewind, Clone}
 use Rattle.agent_model.specs.Agents.{Outcome}
@@ -37,7 +38,7 @@ repair_of settings leader s = repair_in (lets_rewind settings) (is_upstream lead
 -- the agent has the log of its server repaired by this leader's. Whether that can
 -- be done shows where it is done, so the agent reckons with its server as it was
 abbrev pub repairing : MemberId → Repair → Outcome → Outcome
-repairing leader repair o = record o { outputs = with_output (outputs.Repair leader repair) o.outputs }
+repairing leader repair o = record o { outputs = with_output (outputs.Server (orders.Repair leader repair)) o.outputs }
 
 -- the same, if there is a repair
 abbrev pub repaired_if : MemberId → Option Repair → Outcome → Outcome

@@ -10,6 +10,7 @@ use Rattle.pat_base.specs.declared.server_state.State.TheVariants as states
 use Rattle.pat_base.specs.declared.ticks.Ticks.{Ticks}
 use Rattle.store_keys.specs.declared.txn.Txn.{Txn}
 use Rattle.store_keys.specs.declared.txn.Txn.TheVariants as txns
+use Rattle.store_keys.specs.declared.txn.LeaseTxn.TheVariants as lease_txns
 use Rattle.store_keys.specs.declared.value.HistoryRow.{HistoryRow}
 use Rattle.wal_model.specs.declared.entry.HistoryPoint.{HistoryPoint}
 use Rattle.pg_model.specs.declared.status.ServerStatus.{ServerStatus}
@@ -102,8 +103,8 @@ row_told now points knows server =
 -- the renewal of this revision, with what it tells of the member and
 -- of its server, and whom it writes into the failsafe key
 abbrev pub renewal : Ticks → List HistoryPoint → ℕ → Knowledge → ServerStatus → Option MemberSet → Txn
-renewal now points revision knows server carried = txns.Renew revision (info_of knows.who server)
-    (lease_span knows.settings) (status_told server) (row_told now points knows server) carried
+renewal now points revision knows server carried = txns.Lease (lease_txns.Renew revision (info_of knows.who server)
+    (lease_span knows.settings) (status_told server) (row_told now points knows server) carried)
 
 -- when the turn began that asks this
 abbrev pub turn_start : Ticks → Option Ticks → Ticks

@@ -20,6 +20,10 @@ use Rattle.agent_model.specs.declared.knowledge.PendingQuestion.{PendingQuestion
 use Rattle.agent_model.specs.declared.machine.Machine.{Machine}
 use Rattle.agent_model.specs.declared.output.Output.{Output}
 use Rattle.agent_model.specs.declared.output.Output.TheVariants as outputs
+use Rattle.agent_model.specs.declared.output.Feeding.TheVariants as feedings
+use Rattle.agent_model.specs.declared.output.Noting.TheVariants as notings
+use Rattle.agent_model.specs.declared.output.Outgoing.TheVariants as outgoing
+use Rattle.agent_model.specs.declared.output.Telling.TheVariants as tellings
 use Rattle.agent_model.specs.declared.output.Target.TheVariants as targets
 use Rattle.agent_model.specs.declared.why.Why.TheVariants.{Lost}
 use Rattle.agent_model.specs.Acting.{comes_late, counted, deadline_after, ending_server, lease_span, waiting, waiting_no_more}
@@ -38,7 +42,8 @@ others_known knows = without_member knows.known knows.who.me
 abbrev pub requesting_one : MemberSet → ℕ → Ticks → Option MemberId → List Output → List Output
 requesting_one members sequence ttl None out = out
 requesting_one members sequence ttl (Some member) out = if has members member.number
-    then with_output (outputs.Send (targets.Member member) sequence (bodies.FailsafeRequest ttl)) out else out
+    then with_output
+    (outputs.Message (outgoing.Send (targets.Member member) sequence (bodies.FailsafeRequest ttl))) out else out
 
 -- the failsafe requests to those of the set among so many first members, all under one number
 abbrev pub requesting_first : MemberSet → ℕ → Ticks → ℕ → List Output → List Output
@@ -69,14 +74,14 @@ with_failsafe_feed now ttl machine = record machine {
 abbrev pub fed_by_failsafe : Option Ticks → MemberSet → ℕ → Ticks → List Output → List Output
 fed_by_failsafe None members sequence since out = out
 fed_by_failsafe (Some until) members sequence since out =
-    with_output (outputs.FedByFailsafe until members sequence since) out
+    with_output (outputs.Watchdog (feedings.FedByFailsafe until members sequence since)) out
 
 -- the member stays primary: its watchdog is fed for this span, and it waits for nothing
 abbrev pub stays : Ticks → Ticks → ℕ → Ticks → Outcome → Outcome
 stays now ttl sequence since o = record o {
   knows = record o.knows { waited = None };
   machine = with_failsafe_feed now ttl o.machine;
-  outputs = with_output outputs.StaysByFailsafe
+  outputs = with_output (outputs.Note notings.StaysByFailsafe)
       (fed_by_failsafe (deadline_after now ttl o.machine.watchdog) o.knows.failsafe.members sequence since o.outputs);
 }
 
@@ -174,7 +179,7 @@ span_after now span = record { 0 = now.0 + span.0 }
 -- what a member answers a failsafe request
 abbrev pub answering_failsafe : MemberId → ℕ → ℕ → Bool → Outcome → Outcome
 answering_failsafe to incarnation sequence accepted o = record o {
-  outputs = with_output (outputs.FailsafeAnswer to incarnation sequence accepted) o.outputs;
+  outputs = with_output (outputs.Message (outgoing.FailsafeAnswer to incarnation sequence accepted)) o.outputs;
 }
 
 -- a member promises not to take the leader key for this span, on the
@@ -182,7 +187,7 @@ answering_failsafe to incarnation sequence accepted o = record o {
 abbrev pub holding_for : Ticks → MemberId → ℕ → Ticks → Outcome → Outcome
 holding_for now from sequence ttl o = record o {
   machine = record o.machine { hold = prolonged_to (span_after now ttl) o.machine.hold };
-  outputs = with_output (outputs.HoldTaken (span_after now ttl) from sequence) o.outputs;
+  outputs = with_output (outputs.Tell (tellings.HoldTaken (span_after now ttl) from sequence)) o.outputs;
 }
 
 -- a member that is asked acknowledges and holds, where it may

@@ -9,10 +9,10 @@ use Rattle.store_keys.specs.declared.key.Key.TheVariants as keys
 use Rattle.store_keys.specs.declared.txn.Expected.{Expected}
 use Rattle.store_keys.specs.declared.txn.Expected.TheVariants.{Absent, Revision}
 use Rattle.store_keys.specs.declared.value.SyncKey.{SyncKey}
-use Rattle.store_keys.specs.declared.value.KeyEntry.{KeyEntry}
+use Rattle.store_keys.specs.declared.value.Value.{Value}
 use Rattle.cluster_view.specs.KeyValues.{sync_by}
 use Rattle.cluster_view.specs.Naming.{is_failover_to, is_named}
-use Rattle.cluster_view.specs.Snapshots.{SnapshotFacts, entry_in}
+use Rattle.cluster_view.specs.Snapshots.{SnapshotFacts, entry_in, found_by}
 use Rattle.agent_model.specs.declared.knowledge.Knowledge.{Knowledge}
 use Rattle.agent_model.specs.declared.knowledge.SyncRead.{SyncRead}
 
@@ -21,14 +21,13 @@ abbrev pub sync_read_by : ℕ → Option SyncKey → Option SyncRead
 sync_read_by revision None = None
 sync_read_by revision (Some key) = Some (record { key = key; revision = revision })
 
--- the same of the key's entry
-abbrev pub sync_read_of_entry : Option KeyEntry → Option SyncRead
-sync_read_of_entry None = None
-sync_read_of_entry (Some found) = sync_read_by found.revision (sync_by found.value)
+-- the same of a value of it
+abbrev pub sync_read_at : ℕ → Value → Option SyncRead
+sync_read_at revision value = sync_read_by revision (sync_by value)
 
 -- the sync key that a snapshot has, with its revision
 abbrev pub sync_read_in : SnapshotFacts → Option SyncRead
-sync_read_in snapshot = sync_read_of_entry (entry_in keys.Sync snapshot)
+sync_read_in snapshot = found_by sync_read_at (entry_in keys.Sync snapshot)
 
 -- the same of a snapshot that may be absent
 abbrev pub sync_read_if : Option SnapshotFacts → Option SyncRead

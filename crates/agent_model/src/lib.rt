@@ -18,6 +18,6 @@ pub use inquiry::Inquiry;
 pub use knowledge::{FailsafeRead, Knowledge, PendingQuestion, Question, Settling, SyncRead};
 pub use machine::{Machine, Replication};
 pub use operating::{Operating, Operation, Told};
-pub use output::{Output, Repair, Target};
+pub use output::{Feeding, Noting, Outgoing, Output, Repair, ServerOrder, Target, Telling};
 pub use who::Who;
 pub use why::Why;

@@ -7,6 +7,7 @@ use Rattle.pat_base.specs.declared.peer_answer.PeerAnswer.{PeerAnswer}
 use Rattle.pat_base.specs.declared.ticks.Ticks.{Ticks}
 use Rattle.lease_store.specs.declared.granted.Granted.{Granted}
 use Rattle.store_keys.specs.declared.txn.Txn.TheVariants as txns
+use Rattle.store_keys.specs.declared.txn.LeaseTxn.TheVariants as lease_txns
 use Rattle.wal_model.specs.declared.entry.HistoryPoint.{HistoryPoint}
 use Rattle.cluster_view.specs.Snapshots.{SnapshotFacts}
 use Rattle.event_book.specs.declared.agent_note.AgentNote.TheVariants as agent_notes
@@ -23,6 +24,11 @@ use Rattle.agent_model.specs.declared.knowledge.Knowledge.{Knowledge}
 use Rattle.agent_model.specs.declared.machine.Machine.{Machine}
 use Rattle.agent_model.specs.declared.output.Output.{Output}
 use Rattle.agent_model.specs.declared.output.Output.TheVariants as outputs
+use Rattle.agent_model.specs.declared.output.Feeding.TheVariants as feedings
+use Rattle.agent_model.specs.declared.output.Noting.TheVariants as notings
+use Rattle.agent_model.specs.declared.output.Outgoing.TheVariants as outgoing
+use Rattle.agent_model.specs.declared.output.ServerOrder.TheVariants as orders
+use Rattle.agent_model.specs.declared.output.Telling.TheVariants as tellings
 use Rattle.agent_model.specs.declared.output.Target.TheVariants as targets
 use Rattle.agent_model.specs.declared.why.Why.{Why}
 use Rattle.agent_model.specs.declared.why.Why.TheVariants.{HandOver, Lost}
@@ -64,8 +70,8 @@ after-push now machine (one ∷ outs) output = after-push now (machine_after_out
 
 -- an output that the table makes, and that repairs no log
 abbrev IsPlain : Output → Type 0
-IsPlain (outputs.Send (targets.Member member) sequence body) = IsAsk body
-IsPlain (outputs.Repair leader repair) = ⊥
+IsPlain (outputs.Message (outgoing.Send (targets.Member member) sequence body)) = IsAsk body
+IsPlain (outputs.Server (orders.Repair leader repair)) = ⊥
 IsPlain _ = Unit {0}
 
 -- a machine and the outputs so far: it is what they make of the machine before, and none of them repairs a log
@@ -82,12 +88,12 @@ one-more now start machine outs output plain r = record {
 }
 
 plain-table : (output : Output) → IsPlain output → IsOfTable output
-plain-table (outputs.Send (targets.Member member) sequence body) plain = plain
-plain-table (outputs.Repair leader repair) plain = tt
+plain-table (outputs.Message (outgoing.Send (targets.Member member) sequence body)) plain = plain
+plain-table (outputs.Server (orders.Repair leader repair)) plain = tt
 plain-table _ plain = tt
 
 plain-ends : (output : Output) (later : List Output) → IsPlain output → EndsRepairing output later
-plain-ends (outputs.Repair leader repair) later plain = absurd plain
+plain-ends (outputs.Server (orders.Repair leader repair)) later plain = absurd plain
 plain-ends _ later plain = tt
 
 plain-last : (outs : List Output) → All IsPlain outs → RepairsLast outs
@@ -98,10 +104,10 @@ plain-last (output ∷ later) plain = (
 )
 
 repair-last : (leader : MemberId) (r : Repair) (outs : List Output) → All IsPlain outs
-    → RepairsLast (outs ++ outputs.Repair leader r ∷ [])
+    → RepairsLast (outs ++ outputs.Server (orders.Repair leader r) ∷ [])
 repair-last leader r [] plain = (refl, tt)
 repair-last leader r (output ∷ later) plain = (
-  plain-ends output (later ++ outputs.Repair leader r ∷ []) (All-head IsPlain output later plain),
+  plain-ends output (later ++ outputs.Server (orders.Repair leader r) ∷ []) (All-head IsPlain output later plain),
   repair-last leader r later (All-tail IsPlain output later plain),
 )
 
@@ -117,8 +123,8 @@ carried-out now start o r = record {
 repaired-out : (now : Ticks) (start : Machine) (leader : MemberId) (repair : Repair) (o : Outcome)
     → Reached now start o.machine o.outputs → IsCarriedOut now start (repairing leader repair o)
 repaired-out now start leader repair o r = record {
-  machine_is = r.machine_is ∙ sym (after-push now start o.outputs (outputs.Repair leader repair));
-  kinds = All-push IsOfTable o.outputs (outputs.Repair leader repair)
+  machine_is = r.machine_is ∙ sym (after-push now start o.outputs (outputs.Server (orders.Repair leader repair)));
+  kinds = All-push IsOfTable o.outputs (outputs.Server (orders.Repair leader repair))
       (All-weaker IsPlain IsOfTable plain-table o.outputs r.kinds) tt;
   last = repair-last leader repair o.outputs r.kinds;
 }
@@ -126,7 +132,8 @@ repaired-out now start leader repair o r = record {
 disarms : (now : Ticks) (start machine : Machine) (outs : List Output) (deadline : Option Ticks)
     → machine.watchdog.deadline ≡ deadline → Reached now start machine outs
     → Reached now start (without_deadline machine) (disarmed deadline outs)
-disarms now start machine outs (Some deadline) is r = one-more now start machine outs outputs.Disarmed tt r
+disarms now start machine outs (Some deadline) is r =
+    one-more now start machine outs (outputs.Watchdog feedings.Disarmed) tt r
 disarms now start machine outs None is r = subst (λ (x : Machine). Reached now start x outs)
     (ap (λ (d : Option Ticks). record machine { watchdog = record machine.watchdog { deadline = d } }) is) r
 
@@ -136,7 +143,7 @@ feeds : (now : Ticks) (start machine : Machine) (outs : List Output) (until : Ti
       watchdog = if armable then record machine.watchdog { deadline = Some until } else machine.watchdog;
       by_failsafe = not armable && machine.by_failsafe;
     }) (fed_until (if armable then Some until else None) outs)
-feeds now start machine outs until true r = one-more now start machine outs (outputs.Fed until) tt r
+feeds now start machine outs until true r = one-more now start machine outs (outputs.Watchdog (feedings.Fed until)) tt r
 feeds now start machine outs until false r = r
 
 arms-it : (now : Ticks) (start machine : Machine) (outs : List Output) (until : Ticks) (armable : Bool)
@@ -145,7 +152,8 @@ arms-it : (now : Ticks) (start machine : Machine) (outs : List Output) (until : 
       watchdog = if armable then record machine.watchdog { deadline = Some until } else machine.watchdog;
       by_failsafe = not armable && machine.by_failsafe;
     }) (armed (if armable then Some until else None) outs)
-arms-it now start machine outs until true r = one-more now start machine outs (outputs.Armed until) tt r
+arms-it now start machine outs until true r =
+    one-more now start machine outs (outputs.Watchdog (feedings.Armed until)) tt r
 arms-it now start machine outs until false r = r
 
 stays-fed : (now : Ticks) (start machine : Machine) (outs : List Output) (until : Ticks) (members : MemberSet)
@@ -155,7 +163,7 @@ stays-fed : (now : Ticks) (start machine : Machine) (outs : List Output) (until 
       by_failsafe = armable || machine.by_failsafe;
     }) (fed_by_failsafe (if armable then Some until else None) members sequence since outs)
 stays-fed now start machine outs until members sequence since true r =
-    one-more now start machine outs (outputs.FedByFailsafe until members sequence since) tt r
+    one-more now start machine outs (outputs.Watchdog (feedings.FedByFailsafe until members sequence since)) tt r
 stays-fed now start machine outs until members sequence since false r = r
 
 abbrev Reaches : Ticks → Machine → Outcome → Type 0
@@ -167,22 +175,25 @@ disarm-reaches now start o r = disarms now start o.machine o.outputs o.machine.w
 send-reaches : (now : Ticks) (start : Machine) (body : Body) (o : Outcome) → Reaches now start o
     → Reaches now start (sending body o)
 send-reaches now start body o r =
-    one-more now start o.machine o.outputs (outputs.Send targets.Store (o.knows.sequence + 1) body) tt r
+    one-more now start o.machine o.outputs
+    (outputs.Message (outgoing.Send targets.Store (o.knows.sequence + 1) body)) tt r
 
 touch-reaches : (now : Ticks) (start : Machine) (o : Outcome) → Reaches now start o → Reaches now start (touching o)
 touch-reaches now start o r = one-more now start o.machine o.outputs _ tt r
 
 end-reaches : (now : Ticks) (start : Machine) (reason : Reason) (o : Outcome) → Reaches now start o
     → Reaches now start (ending_server now reason o)
-end-reaches now start reason o r = one-more now start o.machine o.outputs (outputs.Stop reason) tt r
+end-reaches now start reason o r = one-more now start o.machine o.outputs (outputs.Server (orders.Stop reason)) tt r
 
 start-reaches : (now : Ticks) (start : Machine) (leader : Option MemberId) (o : Outcome) → Reaches now start o
     → Reaches now start (starting_replica now leader o)
-start-reaches now start leader o r = one-more now start o.machine o.outputs (outputs.StartReplica leader) tt r
+start-reaches now start leader o r =
+    one-more now start o.machine o.outputs (outputs.Server (orders.StartReplica leader)) tt r
 
 follow-one-reaches : (now : Ticks) (start : Machine) (leader : MemberId) (o : Outcome) → Reaches now start o
     → Reaches now start (following_server leader o)
-follow-one-reaches now start leader o r = one-more now start o.machine o.outputs (outputs.Follow leader) tt r
+follow-one-reaches now start leader o r =
+    one-more now start o.machine o.outputs (outputs.Server (orders.Follow leader)) tt r
 
 feed-reaches : (now ttl : Ticks) (start : Machine) (o : Outcome) → Reaches now start o
     → Reaches now start (feeding now ttl o)
@@ -216,8 +227,11 @@ before-reaches now start o r = before-by (Reaches now start) now o (record {
 judged-reaches : (now : Ticks) (start : Machine) (o : Outcome) → Reaches now start o → Reaches now start (judged now o)
 judged-reaches now start o r = judged-by (Reaches now start) now o (one-more now start o.machine o.outputs _ tt r)
     (λ bar. touch-reaches now start
-    (record (waiting_no_more o) { outputs = with_output (outputs.Note (agent_notes.DoesNotRace bar)) o.outputs })
-    (one-more now start o.machine o.outputs (outputs.Note (agent_notes.DoesNotRace bar)) tt r))
+    (record (waiting_no_more o) {
+      outputs =
+          with_output (outputs.Note (notings.Agent (agent_notes.DoesNotRace bar))) o.outputs;
+    })
+    (one-more now start o.machine o.outputs (outputs.Note (notings.Agent (agent_notes.DoesNotRace bar))) tt r))
 
 -- asks of other members leave the machine alone
 ask-reaches : (now : Ticks) (start machine : Machine) (who : Who) (sequence : ℕ) (member : Option MemberId)
@@ -226,8 +240,10 @@ ask-reaches : (now : Ticks) (start machine : Machine) (who : Who) (sequence : �
 ask-reaches now start machine who sequence None outs r = r
 ask-reaches now start machine who sequence (Some member) outs r =
     if-cases (Reached now start machine) (is_other who member)
-    (with_output (outputs.Send (targets.Member member) sequence bodies.Ask) outs) outs
-    (λ _. one-more now start machine outs (outputs.Send (targets.Member member) sequence bodies.Ask) tt r) (λ _. r)
+    (with_output (outputs.Message (outgoing.Send (targets.Member member) sequence bodies.Ask)) outs) outs
+    (λ _.
+    one-more now start machine outs (outputs.Message (outgoing.Send (targets.Member member) sequence bodies.Ask)) tt r)
+    (λ _. r)
 
 asks-reach : (now : Ticks) (start machine : Machine) (who : Who) (sequence count : ℕ) (outs : List Output)
     → Reached now start machine outs → Reached now start machine (asking_first who sequence count outs)
@@ -245,7 +261,7 @@ whom-reach now start machine who (Some candidate) sequence outs r =
 
 shut-reaches : (now : Ticks) (start : Machine) (o : Outcome) → Reaches now start o
     → Reaches now start (shutting_down now o)
-shut-reaches now start o r = one-more now start o.machine o.outputs outputs.ShutDown tt r
+shut-reaches now start o r = one-more now start o.machine o.outputs (outputs.Server orders.ShutDown) tt r
 
 handover-rows : (now : Ticks) (start : Machine) (revision : ℕ) (o : Outcome) → Reaches now start o
     → HandoverRows (Reaches now start) now revision o
@@ -253,14 +269,17 @@ handover-rows now start revision o r = record {
   kept = r;
   clears = λ compared. send-reaches now start _ (waiting_no_more o) r;
   hands = λ candidate. shut-reaches now start
-      (record (waiting_no_more o) { outputs = with_output (outputs.Note (agent_notes.HandsOver candidate)) o.outputs })
-      (one-more now start o.machine o.outputs (outputs.Note (agent_notes.HandsOver candidate)) tt r);
+      (record (waiting_no_more o) {
+        outputs =
+            with_output (outputs.Note (notings.Agent (agent_notes.HandsOver candidate))) o.outputs;
+      })
+      (one-more now start o.machine o.outputs (outputs.Note (notings.Agent (agent_notes.HandsOver candidate))) tt r);
 }
 
 reply-rows : (now : Ticks) (start : Machine) (o : Outcome) → Reaches now start o → ReplyRows (Reaches now start) o
 reply-rows now start o r = record {
   kept = r;
-  answers = λ request told. one-more now start o.machine o.outputs (outputs.Told request told) tt r;
+  answers = λ request told. one-more now start o.machine o.outputs (outputs.Tell (tellings.Told request told)) tt r;
 }
 
 require-reaches : (now : Ticks) (start : Machine) (required : Required) (o : Outcome) → Reaches now start o
@@ -270,7 +289,7 @@ require-reaches now start required o r = one-more now start o.machine o.outputs 
 postpone-reaches : (now : Ticks) (start : Machine) (held : ℕ) (o : Outcome) → Reaches now start o
     → Reaches now start (postpones held o)
 postpone-reaches now start held o r = one-more now start (disarming o).machine (disarming o).outputs
-    (outputs.Note agent_notes.PostponesPromotion) tt (disarm-reaches now start o r)
+    (outputs.Note (notings.Agent agent_notes.PostponesPromotion)) tt (disarm-reaches now start o r)
 
 -- requests to other members leave the machine alone
 request-reaches : (now : Ticks) (start machine : Machine) (members : MemberSet) (sequence : ℕ) (ttl : Ticks)
@@ -279,9 +298,11 @@ request-reaches : (now : Ticks) (start machine : Machine) (members : MemberSet) 
 request-reaches now start machine members sequence ttl None outs r = r
 request-reaches now start machine members sequence ttl (Some member) outs r =
     if-cases (Reached now start machine) (has members member.number)
-    (with_output (outputs.Send (targets.Member member) sequence (bodies.FailsafeRequest ttl)) outs) outs
+    (with_output (outputs.Message (outgoing.Send (targets.Member member) sequence (bodies.FailsafeRequest ttl))) outs)
+    outs
     (λ _.
-    one-more now start machine outs (outputs.Send (targets.Member member) sequence (bodies.FailsafeRequest ttl)) tt r)
+    one-more now start machine outs
+    (outputs.Message (outgoing.Send (targets.Member member) sequence (bodies.FailsafeRequest ttl))) tt r)
     (λ _. r)
 
 requests-reach : (now : Ticks) (start machine : Machine) (members : MemberSet) (sequence : ℕ) (ttl : Ticks)
@@ -300,7 +321,7 @@ stays-reaches now ttl sequence since start o r =
     let until : Ticks = record { 0 = now.0 + timeout_of o.machine.watchdog.margin ttl.0 } in
     one-more now start (with_failsafe_feed now ttl o.machine)
     (fed_by_failsafe (deadline_after now ttl o.machine.watchdog) o.knows.failsafe.members sequence since o.outputs)
-    outputs.StaysByFailsafe tt
+    (outputs.Note notings.StaysByFailsafe) tt
     (stays-fed now start o.machine o.outputs until o.knows.failsafe.members sequence since
     (is_armable o.machine.watchdog.mode o.machine.watchdog.works) r)
 
@@ -355,8 +376,8 @@ free-reaches now start o r = let x : Outcome = record o { role = Follower } in
       starts = touch-reaches now start (starting_replica now None x) (start-reaches now start None x r);
       touches = touch-reaches now start x r;
       bars = λ bar. touch-reaches now start (record x {
-        outputs = with_output (outputs.Note (agent_notes.DoesNotRace bar)) x.outputs;
-      }) (one-more now start o.machine o.outputs (outputs.Note (agent_notes.DoesNotRace bar)) tt r);
+        outputs = with_output (outputs.Note (notings.Agent (agent_notes.DoesNotRace bar))) x.outputs;
+      }) (one-more now start o.machine o.outputs (outputs.Note (notings.Agent (agent_notes.DoesNotRace bar))) tt r);
       judges = judged-reaches now start (unheard x) r;
       asks = asks-reach now start o.machine o.knows.who (o.knows.sequence + 1) MOST_MEMBERS o.outputs r;
     })
@@ -374,7 +395,8 @@ answered-reaches now start sequence answer o r = answered-by (Reaches now start)
 -- a primary runs on without the leader key
 run-reaches : (now : Ticks) (start : Machine) (o : Outcome) → Reaches now start o
     → Reaches now start (running_without_key o)
-run-reaches now start o r = one-more now start o.machine o.outputs (outputs.Note agent_notes.RunsWithoutKey) tt r
+run-reaches now start o r =
+    one-more now start o.machine o.outputs (outputs.Note (notings.Agent agent_notes.RunsWithoutKey)) tt r
 
 got-carries : (now : Ticks) (points : List HistoryPoint) (start : Machine) (sequence : ℕ) (snapshot : SnapshotFacts)
     (o : Outcome) → Reaches now start o → IsCarriedOut now start (read_answered now points sequence snapshot o)
@@ -437,8 +459,8 @@ rests : (now : Ticks) (start machine : Machine) (outs : List Output) (renews : B
     → machine.watchdog.deadline ≡ deadline → Reached now start machine outs
     → Reached now start (without_deadline machine) (disabling_told renews deadline outs)
 rests now start machine outs true (Some deadline) is r =
-    one-more now start (without_deadline machine) (with_output outputs.Disarmed outs)
-    (outputs.Note agent_notes.DisablesWatchdog) tt (disarms now start machine outs (Some deadline) is r)
+    one-more now start (without_deadline machine) (with_output (outputs.Watchdog feedings.Disarmed) outs)
+    (outputs.Note (notings.Agent agent_notes.DisablesWatchdog)) tt (disarms now start machine outs (Some deadline) is r)
 rests now start machine outs false (Some deadline) is r = disarms now start machine outs (Some deadline) is r
 rests now start machine outs renews None is r = disarms now start machine outs None is r
 
@@ -456,17 +478,19 @@ unleased-reaches now ttl start revision o r =
 begin-reaches : (now : Ticks) (start : Machine) (revision : ℕ) (o : Outcome) → Reaches now start o
     → Reaches now start (begins now revision o)
 begin-reaches now start revision o r = let waits : Outcome = requiring (unnamed o.knows.turn_settings) o in one-more now
-    start waits.machine waits.outputs outputs.Begin tt (require-reaches now start (unnamed o.knows.turn_settings) o r)
+    start waits.machine waits.outputs (outputs.Server orders.Begin) tt
+    (require-reaches now start (unnamed o.knows.turn_settings) o r)
 
 passing-reaches : (now : Ticks) (start : Machine) (o : Outcome) → Reaches now start o → Reaches now start (passing o)
 passing-reaches now start o r = passing-by (λ (outs : List Output). Reached now start o.machine outs) o r
-    (one-more now start o.machine o.outputs outputs.ClaimsOutsideSync tt r)
+    (one-more now start o.machine o.outputs (outputs.Tell tellings.ClaimsOutsideSync) tt r)
 
 cannot-reaches : (now : Ticks) (start : Machine) (revision : ℕ) (o : Outcome) → Reaches now start o
     → Reaches now start (cannot_arm revision o)
-cannot-reaches now start revision o r = send-reaches now start (bodies.Request (txns.Release revision)) (record o {
-  outputs = with_output (outputs.Note agent_notes.CannotArm) o.outputs;
-}) (one-more now start o.machine o.outputs (outputs.Note agent_notes.CannotArm) tt r)
+cannot-reaches now start revision o r =
+    send-reaches now start (bodies.Request (txns.Lease (lease_txns.Release revision))) (record o {
+      outputs = with_output (outputs.Note (notings.Agent agent_notes.CannotArm)) o.outputs;
+    }) (one-more now start o.machine o.outputs (outputs.Note (notings.Agent agent_notes.CannotArm)) tt r)
 
 arms-reaches : (now ttl : Ticks) (start : Machine) (revision : ℕ) (o : Outcome) → Reaches now start o
     → Reaches now start (arms now ttl revision o)
@@ -529,14 +553,18 @@ act-rows : (now : Ticks) (start : Machine) (request : ℕ) (o : Outcome) → Rea
 act-rows now start request o r = record {
   asks = λ operation txn _. send-reaches now start (bodies.Request txn) o r;
   restarts =
-      λ told. one-more now start (restarting now o).machine (restarting now o).outputs (outputs.Told request told) tt
-      (one-more now start o.machine o.outputs (outputs.Restart (is_primary o.machine.server.state)) tt r);
-  wipes = λ told. one-more now start (wiping o).machine (wiping o).outputs (outputs.Told request told) tt
-      (one-more now start o.machine o.outputs outputs.Wipe tt r);
+      λ told. one-more now start (restarting now o).machine (restarting now o).outputs
+      (outputs.Tell (tellings.Told request told)) tt
+      (one-more now start o.machine o.outputs
+      (outputs.Server (orders.Restart (is_primary o.machine.server.state))) tt r);
+  wipes =
+      λ told. one-more now start (wiping o).machine (wiping o).outputs (outputs.Tell (tellings.Told request told)) tt
+      (one-more now start o.machine o.outputs (outputs.Server orders.Wipe) tt r);
   holds = λ ttl told _. let held : Outcome = holding_for now o.knows.who.me unnumbered ttl o in
-      one-more now start held.machine held.outputs (outputs.Told request told) tt
-      (one-more now start o.machine o.outputs (outputs.HoldTaken (span_after now ttl) o.knows.who.me unnumbered) tt r);
-  refuses = λ told. one-more now start o.machine o.outputs (outputs.Told request told) tt r;
+      one-more now start held.machine held.outputs (outputs.Tell (tellings.Told request told)) tt
+      (one-more now start o.machine o.outputs
+      (outputs.Tell (tellings.HoldTaken (span_after now ttl) o.knows.who.me unnumbered)) tt r);
+  refuses = λ told. one-more now start o.machine o.outputs (outputs.Tell (tellings.Told request told)) tt r;
 }
 
 step-carries : (now : Ticks) (points : List HistoryPoint) (heard : Heard) (start : Machine) (o : Outcome)
@@ -571,9 +599,12 @@ step-carries now points (FailsafeAsked from incarnation sequence ttl) start o r 
     carried-out now start (failsafe_asked now from incarnation sequence ttl first)
     (failsafe-asked-by (Reaches now start) now from incarnation sequence ttl first
     (λ _. one-more now start (holding_for now from sequence ttl first).machine
-    (holding_for now from sequence ttl first).outputs (outputs.FailsafeAnswer from incarnation sequence true) tt
-    (one-more now start first.machine first.outputs (outputs.HoldTaken (span_after now ttl) from sequence) tt fresh))
-    (one-more now start first.machine first.outputs (outputs.FailsafeAnswer from incarnation sequence false) tt fresh))
+    (holding_for now from sequence ttl first).outputs
+    (outputs.Message (outgoing.FailsafeAnswer from incarnation sequence true)) tt
+    (one-more now start first.machine first.outputs
+    (outputs.Tell (tellings.HoldTaken (span_after now ttl) from sequence)) tt fresh))
+    (one-more now start first.machine first.outputs
+    (outputs.Message (outgoing.FailsafeAnswer from incarnation sequence false)) tt fresh))
 step-carries now points (FailsafeAnswered from sequence accepted sent) start o r =
     let first : Outcome = reconciled now o in
     let fresh : Reaches now start first = before-reaches now start o r in

@@ -8,6 +8,10 @@ use Rattle.pg_model.specs.declared.status.ServerStatus.{ServerStatus}
 use Rattle.agent_model.specs.declared.machine.Machine.{Machine}
 use Rattle.agent_model.specs.declared.output.Output.{Output}
 use Rattle.agent_model.specs.declared.output.Output.TheVariants as outputs
+use Rattle.agent_model.specs.declared.output.Feeding.TheVariants as feedings
+use Rattle.agent_model.specs.declared.output.Outgoing.TheVariants as outgoing
+use Rattle.agent_model.specs.declared.output.ServerOrder.TheVariants as orders
+use Rattle.agent_model.specs.declared.output.Telling.TheVariants as tellings
 use Rattle.agent_model.specs.declared.output.Target.TheVariants as targets
 use Rattle.agent_model.specs.Acting.{status_begun, upstream_of, without_deadline, with_required}
 use Rattle.agent_model.specs.Agents.{Outcome}
@@ -24,22 +28,25 @@ with_deadline deadline by_failsafe machine =
 
 -- the machine once this output is carried out at this moment
 abbrev pub machine_after_output : Ticks → Machine → Output → Machine
-machine_after_output now machine outputs.Begin = with_server (status_begun now machine.server) machine
-machine_after_output now machine (outputs.StartReplica leader) =
+machine_after_output now machine (outputs.Server orders.Begin) = with_server (status_begun now machine.server) machine
+machine_after_output now machine (outputs.Server (orders.StartReplica leader)) =
     with_server (status_replica_started now (upstream_of leader) machine.server) machine
-machine_after_output now machine (outputs.Stop reason) = with_server (status_stopping now machine.server) machine
-machine_after_output now machine outputs.ShutDown = with_server (status_stopping now machine.server) machine
-machine_after_output now machine (outputs.Restart as_primary) =
+machine_after_output now machine (outputs.Server (orders.Stop reason)) =
+    with_server (status_stopping now machine.server) machine
+machine_after_output now machine (outputs.Server orders.ShutDown) =
+    with_server (status_stopping now machine.server) machine
+machine_after_output now machine (outputs.Server (orders.Restart as_primary)) =
     with_server (status_restarted now machine.server) machine
-machine_after_output now machine outputs.Wipe = with_server (status_wiped machine.server) machine
-machine_after_output now machine (outputs.Follow leader) =
+machine_after_output now machine (outputs.Server orders.Wipe) = with_server (status_wiped machine.server) machine
+machine_after_output now machine (outputs.Server (orders.Follow leader)) =
     with_server (status_following (server_id_of leader) machine.server) machine
-machine_after_output now machine (outputs.Armed until) = with_deadline until false machine
-machine_after_output now machine (outputs.Fed until) = with_deadline until false machine
-machine_after_output now machine (outputs.FedByFailsafe until members sequence since) = with_deadline until true machine
-machine_after_output now machine outputs.Disarmed = without_deadline machine
+machine_after_output now machine (outputs.Watchdog (feedings.Armed until)) = with_deadline until false machine
+machine_after_output now machine (outputs.Watchdog (feedings.Fed until)) = with_deadline until false machine
+machine_after_output now machine (outputs.Watchdog (feedings.FedByFailsafe until members sequence since)) =
+    with_deadline until true machine
+machine_after_output now machine (outputs.Watchdog feedings.Disarmed) = without_deadline machine
 machine_after_output now machine (outputs.Require required) = with_required required machine
-machine_after_output now machine (outputs.HoldTaken until from sequence) =
+machine_after_output now machine (outputs.Tell (tellings.HoldTaken until from sequence)) =
     record machine { hold = prolonged_to until machine.hold }
 machine_after_output now machine _ = machine
 
@@ -51,12 +58,12 @@ machine_after_outputs now machine (output ∷ later) =
 
 -- an output that the table makes: of another member it only asks how far its server is, and whether it may stay primary
 abbrev pub IsOfTable : Output → Type 0
-IsOfTable (outputs.Send (targets.Member member) sequence body) = IsAsk body
+IsOfTable (outputs.Message (outgoing.Send (targets.Member member) sequence body)) = IsAsk body
 IsOfTable _ = Unit {0}
 
 -- nothing comes behind this output, where a log is repaired by it
 abbrev pub EndsRepairing : Output → List Output → Type 0
-EndsRepairing (outputs.Repair leader repair) later = later ≡ []
+EndsRepairing (outputs.Server (orders.Repair leader repair)) later = later ≡ []
 EndsRepairing _ later = Unit {0}
 
 -- where a log is repaired by one of these outputs, that is the last one

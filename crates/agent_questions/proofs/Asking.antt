@@ -6,6 +6,8 @@ use Rattle.pat_base.specs.declared.member_id.MemberId.{MemberId}
 use Rattle.pat_base.specs.declared.ticks.Ticks.{Ticks}
 use Rattle.store_keys.specs.declared.config.Config.{Config}
 use Rattle.store_keys.specs.declared.txn.Txn.TheVariants as txns
+use Rattle.store_keys.specs.declared.txn.LeaseTxn.TheVariants as lease_txns
+use Rattle.store_keys.specs.declared.txn.OperatorTxn.TheVariants as operator_txns
 use Rattle.event_book.specs.declared.agent_note.AgentNote.TheVariants as agent_notes
 use Rattle.event_book.specs.declared.message.Body.{Body}
 use Rattle.event_book.specs.declared.message.Body.TheVariants as bodies
@@ -17,6 +19,11 @@ use Rattle.agent_model.specs.declared.knowledge.PendingQuestion.{PendingQuestion
 use Rattle.agent_model.specs.declared.operating.Told.{Told}
 use Rattle.agent_model.specs.declared.output.Output.{Output}
 use Rattle.agent_model.specs.declared.output.Output.TheVariants as outputs
+use Rattle.agent_model.specs.declared.output.Feeding.TheVariants as feedings
+use Rattle.agent_model.specs.declared.output.Noting.TheVariants as notings
+use Rattle.agent_model.specs.declared.output.Outgoing.TheVariants as outgoing
+use Rattle.agent_model.specs.declared.output.ServerOrder.TheVariants as orders
+use Rattle.agent_model.specs.declared.output.Telling.TheVariants as tellings
 use Rattle.agent_model.specs.declared.output.Target.TheVariants as targets
 use Rattle.agent_model.specs.declared.why.Why.{Why}
 use Rattle.agent_model.specs.declared.why.Why.TheVariants.{HandOver, Lost}
@@ -44,26 +51,28 @@ all-of : {X : Type 0} (P Q : X → Type 0) (xs : List X) → ((x : X) → P x �
 all-of P Q xs more all = λ k d h. more _ (all k d h)
 
 abbrev no-message : Output → Type 0
-no-message (outputs.Send to sequence body) = ⊥
+no-message (outputs.Message (outgoing.Send to sequence body)) = ⊥
 no-message _ = Unit {0}
 
 between-other : (low high : ℕ) (output : Output) → no-message output → SendsBetween low high output
-between-other low high (outputs.Send to sequence body) is = absurd is
+between-other low high (outputs.Message (outgoing.Send to sequence body)) is = absurd is
 between-other low high _ is = tt
 
 asks-other : (waited : PendingQuestion) (output : Output) → no-message output → AsksFor waited output
-asks-other waited (outputs.Send to sequence body) is = absurd is
+asks-other waited (outputs.Message (outgoing.Send to sequence body)) is = absurd is
 asks-other waited _ is = tt
 
 between-later : (low high more : ℕ) → high ≤ more → (output : Output) → SendsBetween low high output
     → SendsBetween low more output
-between-later low high more h (outputs.Send to sequence body) is = (is.0, omega (arith, is.1, h), is.2)
+between-later low high more h (outputs.Message (outgoing.Send to sequence body)) is =
+    (is.0, omega (arith, is.1, h), is.2)
 between-later low high more h _ is = tt
 
 -- a number above all that were sent is none of theirs
 above-all : (low high : ℕ) (waited : PendingQuestion) → high < waited.sequence → (output : Output)
     → SendsBetween low high output → AsksFor waited output
-above-all low high waited h (outputs.Send to sequence body) is = λ e. absurd (omega (arith, e, h, is.1))
+above-all low high waited h (outputs.Message (outgoing.Send to sequence body)) is =
+    λ e. absurd (omega (arith, e, h, is.1))
 above-all low high waited h _ is = tt
 
 -- ---- what holds of an outcome so far, from what the agent knew at first
@@ -125,21 +134,22 @@ rests now known knows after outs who incarnation last waited r = record {
 next-sends : (known knows : Knowledge) (outs : List Output) (body : Body) → known.sequence ≤ knows.sequence
     → IsQuestion body → All (SendsBetween known.sequence knows.sequence) outs
     → All (SendsBetween known.sequence (knows.sequence + 1))
-    (outs ++ outputs.Send targets.Store (knows.sequence + 1) body ∷ [])
+    (outs ++ outputs.Message (outgoing.Send targets.Store (knows.sequence + 1) body) ∷ [])
 next-sends known knows outs body last span all =
     All-push (SendsBetween known.sequence (knows.sequence + 1)) outs
-    (outputs.Send targets.Store (knows.sequence + 1) body)
+    (outputs.Message (outgoing.Send targets.Store (knows.sequence + 1) body))
     (all-of (SendsBetween known.sequence knows.sequence) (SendsBetween known.sequence (knows.sequence + 1)) outs
     (between-later known.sequence knows.sequence (knows.sequence + 1) (omega arith)) all)
     (omega (arith, last), omega arith, span)
 
 next-waits : (now : Ticks) (known knows : Knowledge) (outs : List Output) (body : Body) → WaitsOn now known knows outs
-    → WaitsOn now known (counted knows) (outs ++ outputs.Send targets.Store (knows.sequence + 1) body ∷ [])
+    → WaitsOn now known (counted knows)
+    (outs ++ outputs.Message (outgoing.Send targets.Store (knows.sequence + 1) body) ∷ [])
 next-waits now known knows outs body (Same is) = Same is
 next-waits now known knows outs body (Nothing is) = Nothing is
 next-waits now known knows outs body (New waited is later counts sent span asks) =
     New waited is later (omega (arith, counts)) sent span
-    (All-push (AsksFor waited) outs (outputs.Send targets.Store (knows.sequence + 1) body) asks
+    (All-push (AsksFor waited) outs (outputs.Message (outgoing.Send targets.Store (knows.sequence + 1) body)) asks
     (λ e. absurd (omega (arith, e, counts))))
 
 pub send-reaches : (now : Ticks) (known : Knowledge) (body : Body) (o : Outcome) → IsQuestion body
@@ -175,7 +185,8 @@ ask-reaches now known question until body o span asks puts r =
       last = omega (arith, r.last);
       sends = next-sends known o.knows o.outputs body r.last span r.sends;
       waits = New waited refl (omega (arith, r.last)) (omega arith) refl (is-lease o.knows.settings)
-          (All-push (AsksFor waited) o.outputs (outputs.Send targets.Store (o.knows.sequence + 1) body)
+          (All-push (AsksFor waited) o.outputs
+          (outputs.Message (outgoing.Send targets.Store (o.knows.sequence + 1) body))
           (all-of (SendsBetween known.sequence o.knows.sequence) (AsksFor waited) o.outputs
           (above-all known.sequence o.knows.sequence waited (omega arith)) r.sends)
           (λ _. record { lease = asks; write = puts }));
@@ -183,17 +194,18 @@ ask-reaches now known question until body o span asks puts r =
 
 disarms : (now : Ticks) (known knows : Knowledge) (outs : List Output) (deadline : Option Ticks)
     → AsksAnew now known knows outs → AsksAnew now known knows (disarmed deadline outs)
-disarms now known knows outs (Some deadline) r = one-more now known knows outs outputs.Disarmed tt r
+disarms now known knows outs (Some deadline) r = one-more now known knows outs (outputs.Watchdog feedings.Disarmed) tt r
 disarms now known knows outs None r = r
 
 pub feeds : (now : Ticks) (known knows : Knowledge) (outs : List Output) (until : Option Ticks)
     → AsksAnew now known knows outs → AsksAnew now known knows (fed_until until outs)
-feeds now known knows outs (Some until) r = one-more now known knows outs (outputs.Fed until) tt r
+feeds now known knows outs (Some until) r = one-more now known knows outs (outputs.Watchdog (feedings.Fed until)) tt r
 feeds now known knows outs None r = r
 
 pub arms-it : (now : Ticks) (known knows : Knowledge) (outs : List Output) (until : Option Ticks)
     → AsksAnew now known knows outs → AsksAnew now known knows (armed until outs)
-arms-it now known knows outs (Some until) r = one-more now known knows outs (outputs.Armed until) tt r
+arms-it now known knows outs (Some until) r =
+    one-more now known knows outs (outputs.Watchdog (feedings.Armed until)) tt r
 arms-it now known knows outs None r = r
 
 disarm-reaches : (now : Ticks) (known : Knowledge) (o : Outcome) → Reaches now known o → Reaches now known (disarming o)
@@ -202,7 +214,8 @@ disarm-reaches now known o r = disarms now known o.knows o.outputs o.machine.wat
 ended-reaches : (now : Ticks) (known : Knowledge) (why : Why) (held : ℕ) (o : Outcome) → Reaches now known o
     → Reaches now known (has_ended why held o)
 ended-reaches now known HandOver held o r =
-    send-reaches now known (bodies.Request (txns.Release held)) (disarming o) tt (disarm-reaches now known o r)
+    send-reaches now known (bodies.Request (txns.Lease (lease_txns.Release held))) (disarming o) tt
+    (disarm-reaches now known o r)
 ended-reaches now known Lost held o r = disarm-reaches now known o r
 
 pub before-reaches : (now : Ticks) (known : Knowledge) (o : Outcome) → Reaches now known o
@@ -229,8 +242,13 @@ judged-reaches now known o r =
     (ask-reaches now known Creating (seconds_after now o.knows.settings.retry_timeout) _ (waiting_no_more o)
     (is-spanned o.knows.settings) (λ _. refl) (λ e. absurd (both e)) quiet)
     (λ bar. send-reaches now known _
-    (record (waiting_no_more o) { outputs = with_output (outputs.Note (agent_notes.DoesNotRace bar)) o.outputs }) tt
-    (one-more now known (waiting_no_more o).knows o.outputs (outputs.Note (agent_notes.DoesNotRace bar)) tt quiet))
+    (record (waiting_no_more o) {
+      outputs =
+          with_output (outputs.Note (notings.Agent (agent_notes.DoesNotRace bar))) o.outputs;
+    })
+    tt
+    (one-more now known (waiting_no_more o).knows o.outputs
+    (outputs.Note (notings.Agent (agent_notes.DoesNotRace bar))) tt quiet))
 
 -- the asks to other members, all under the next number
 ask-sends : (low high : ℕ) (who : Who) (sequence : ℕ) (member : Option MemberId) (outs : List Output)
@@ -239,8 +257,9 @@ ask-sends : (low high : ℕ) (who : Who) (sequence : ℕ) (member : Option Membe
 ask-sends low high who sequence None outs later less all = all
 ask-sends low high who sequence (Some member) outs later less all =
     if-cases (λ (l : List Output). All (SendsBetween low high) l) (is_other who member)
-    (with_output (outputs.Send (targets.Member member) sequence bodies.Ask) outs) outs
-    (λ _. All-push (SendsBetween low high) outs (outputs.Send (targets.Member member) sequence bodies.Ask) all
+    (with_output (outputs.Message (outgoing.Send (targets.Member member) sequence bodies.Ask)) outs) outs
+    (λ _. All-push (SendsBetween low high) outs
+    (outputs.Message (outgoing.Send (targets.Member member) sequence bodies.Ask)) all
     (later, less, tt))
     (λ _. all)
 
@@ -253,7 +272,7 @@ asks-send low high who sequence (suc count) outs later less all = ask-sends low 
 -- they ask for no lease, and for no write
 asks-none : (waited : PendingQuestion) (output : Output) → asks_lease waited.question ≡ false
     → asks_sync waited.question ≡ false → AsksFor waited output
-asks-none waited (outputs.Send to sequence body) lease write = λ _. record {
+asks-none waited (outputs.Message (outgoing.Send to sequence body)) lease write = λ _. record {
   lease = λ leasing. absurd (both (sym lease ∙ leasing));
   write = λ writing. absurd (both (sym write ∙ writing));
 }
@@ -314,7 +333,8 @@ check-reaches now known candidate o r =
 -- a failover key is to be removed
 pub drop-reaches : (now : Ticks) (known : Knowledge) (revision : ℕ) (o : Outcome) → Reaches now known o
     → Reaches now known (dropping revision o)
-drop-reaches now known revision o r = send-reaches now known (bodies.Request (txns.DropFailover revision)) o tt r
+drop-reaches now known revision o r =
+    send-reaches now known (bodies.Request (txns.Operators (operator_txns.DropFailover revision))) o tt r
 
 -- a handover is judged
 pub handover-reaches : (now : Ticks) (known : Knowledge) (revision : ℕ) (o : Outcome) → Reaches now known o
@@ -326,19 +346,21 @@ handover-reaches now known revision o r =
       clears = λ compared. drop-reaches now known compared (waiting_no_more o) quiet;
       hands = λ candidate.
           goes-on now known (waiting_no_more o).knows (hands_over now revision candidate (waiting_no_more o)).knows
-          (with_output outputs.ShutDown (with_output (outputs.Note (agent_notes.HandsOver candidate)) o.outputs))
+          (with_output (outputs.Server orders.ShutDown)
+          (with_output (outputs.Note (notings.Agent (agent_notes.HandsOver candidate))) o.outputs))
           refl refl refl refl
           (one-more now known (waiting_no_more o).knows
-          (with_output (outputs.Note (agent_notes.HandsOver candidate)) o.outputs) outputs.ShutDown tt
+          (with_output (outputs.Note (notings.Agent (agent_notes.HandsOver candidate))) o.outputs)
+          (outputs.Server orders.ShutDown) tt
           (one-more now known (waiting_no_more o).knows o.outputs
-          (outputs.Note (agent_notes.HandsOver candidate)) tt quiet));
+          (outputs.Note (notings.Agent (agent_notes.HandsOver candidate))) tt quiet));
     }
 
 -- operators are answered
 answer-reaches : (now : Ticks) (known : Knowledge) (request : ℕ) (told : Told) (o : Outcome)
     → Reaches now known o → Reaches now known (answering request told o)
 answer-reaches now known request told o r = goes-on now known o.knows (answering request told o).knows _ refl
-    refl refl refl (one-more now known o.knows o.outputs (outputs.Told request told) tt r)
+    refl refl refl (one-more now known o.knows o.outputs (outputs.Tell (tellings.Told request told)) tt r)
 
 pub reply-reaches : (now : Ticks) (known : Knowledge) (o : Outcome) → Reaches now known o
     → ReplyRows (Reaches now known) o
@@ -348,7 +370,7 @@ reply-reaches now known o r = record { kept = r; answers = λ request told. answ
 pub postpone-reaches : (now : Ticks) (known : Knowledge) (held : ℕ) (o : Outcome) → Reaches now known o
     → Reaches now known (postpones held o)
 postpone-reaches now known held o r = one-more now known o.knows (disarmed o.machine.watchdog.deadline o.outputs)
-    (outputs.Note agent_notes.PostponesPromotion) tt (disarm-reaches now known o r)
+    (outputs.Note (notings.Agent agent_notes.PostponesPromotion)) tt (disarm-reaches now known o r)
 
 -- requests to other members, all under one number
 request-sends : (low high : ℕ) (members : MemberSet) (sequence : ℕ) (ttl : Ticks) (member : Option MemberId)
@@ -357,9 +379,11 @@ request-sends : (low high : ℕ) (members : MemberSet) (sequence : ℕ) (ttl : T
 request-sends low high members sequence ttl None outs later less all = all
 request-sends low high members sequence ttl (Some member) outs later less all =
     if-cases (λ (l : List Output). All (SendsBetween low high) l) (has members member.number)
-    (with_output (outputs.Send (targets.Member member) sequence (bodies.FailsafeRequest ttl)) outs) outs
+    (with_output (outputs.Message (outgoing.Send (targets.Member member) sequence (bodies.FailsafeRequest ttl))) outs)
+    outs
     (λ _. All-push (SendsBetween low high) outs
-    (outputs.Send (targets.Member member) sequence (bodies.FailsafeRequest ttl)) all (later, less, tt))
+    (outputs.Message (outgoing.Send (targets.Member member) sequence (bodies.FailsafeRequest ttl))) all
+    (later, less, tt))
     (λ _. all)
 
 requests-send : (low high : ℕ) (members : MemberSet) (sequence : ℕ) (ttl : Ticks) (count : ℕ) (outs : List Output)

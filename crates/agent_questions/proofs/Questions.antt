@@ -8,6 +8,9 @@ use Rattle.store_keys.specs.declared.action.OperatorRequest.{OperatorRequest}
 use Rattle.lease_store.specs.declared.granted.Granted.{Granted}
 use Rattle.store_keys.specs.declared.txn.Txn.{Txn}
 use Rattle.store_keys.specs.declared.txn.Txn.TheVariants as txns
+use Rattle.store_keys.specs.declared.txn.LeaseTxn.TheVariants as lease_txns
+use Rattle.store_keys.specs.declared.txn.OperatorTxn.TheVariants as operator_txns
+use Rattle.store_keys.specs.declared.txn.SyncTxn.TheVariants as sync_txns
 use Rattle.lease_store.specs.Writes.{nobody}
 use Rattle.wal_model.specs.declared.entry.HistoryPoint.{HistoryPoint}
 use Rattle.cluster_view.specs.Snapshots.{SnapshotFacts}
@@ -29,6 +32,11 @@ use Rattle.agent_model.specs.declared.machine.Machine.{Machine}
 use Rattle.agent_model.specs.declared.operating.Told.{Told}
 use Rattle.agent_model.specs.declared.output.Output.{Output}
 use Rattle.agent_model.specs.declared.output.Output.TheVariants as outputs
+use Rattle.agent_model.specs.declared.output.Feeding.TheVariants as feedings
+use Rattle.agent_model.specs.declared.output.Noting.TheVariants as notings
+use Rattle.agent_model.specs.declared.output.Outgoing.TheVariants as outgoing
+use Rattle.agent_model.specs.declared.output.ServerOrder.TheVariants as orders
+use Rattle.agent_model.specs.declared.output.Telling.TheVariants as tellings
 use Rattle.agent_model.specs.declared.why.Why.TheVariants.{HandOver}
 use Rattle.agent_model.specs.Acting.{requiring, ending_server, seconds_after, lease_span, arming, feeding, sending, touching, starting_replica, is_refusing, deadline_after, waiting_no_more}
 use Rattle.agent_model.specs.Agents.{RoleFacts, Follower, Ending, Outcome, outcome_from}
@@ -67,7 +75,7 @@ stay-fed : (now : Ticks) (known knows : Knowledge) (outs : List Output) (until :
     → AsksAnew now known knows (fed_by_failsafe until members sequence since outs)
 stay-fed now known knows outs None members sequence since r = r
 stay-fed now known knows outs (Some until) members sequence since r =
-    one-more now known knows outs (outputs.FedByFailsafe until members sequence since) tt r
+    one-more now known knows outs (outputs.Watchdog (feedings.FedByFailsafe until members sequence since)) tt r
 
 stay-reaches : (now ttl : Ticks) (known : Knowledge) (sequence : ℕ) (since : Ticks) (o : Outcome)
     → Reaches now known o → Reaches now known (stays now ttl sequence since o)
@@ -75,8 +83,8 @@ stay-reaches now ttl known sequence since o r =
     let until : Option Ticks = deadline_after now ttl o.machine.watchdog in
     let fed : List Output = fed_by_failsafe until o.knows.failsafe.members sequence since o.outputs in
     rests now known o.knows (stays now ttl sequence since o).knows
-    (with_output outputs.StaysByFailsafe fed) refl refl refl refl
-    (one-more now known o.knows fed outputs.StaysByFailsafe tt
+    (with_output (outputs.Note notings.StaysByFailsafe) fed) refl refl refl refl
+    (one-more now known o.knows fed (outputs.Note notings.StaysByFailsafe) tt
     (stay-fed now known o.knows o.outputs until o.knows.failsafe.members sequence since r))
 
 overdue-reaches : (now : Ticks) (known : Knowledge) (o : Outcome) → Reaches now known o
@@ -133,11 +141,12 @@ follow-reaches now known leader o r = let x : Outcome = led_by_another o in
     let led : Reaches now known x = goes-on now known o.knows x.knows o.outputs refl refl refl refl r in
     let told : Reaches now known (touching row) = touch-reaches now known row
     (follow-by (Reaches now known) may now leader o.machine.server.state x led
-    (one-more now known x.knows o.outputs (outputs.StartReplica (Some leader)) tt led)
-    (one-more now known x.knows o.outputs (outputs.Follow leader) tt led)
-    (one-more now known x.knows o.outputs outputs.ShutDown tt led)) in
+    (one-more now known x.knows o.outputs (outputs.Server (orders.StartReplica (Some leader))) tt led)
+    (one-more now known x.knows o.outputs (outputs.Server (orders.Follow leader)) tt led)
+    (one-more now known x.knows o.outputs (outputs.Server orders.ShutDown) tt led)) in
     repaired-by (Reaches now known) leader (repair_of o.knows.settings leader o.machine.server) (touching row) told
-    (λ repair. one-more now known (touching row).knows (touching row).outputs (outputs.Repair leader repair) tt told)
+    (λ repair. one-more now known (touching row).knows (touching row).outputs
+    (outputs.Server (orders.Repair leader repair)) tt told)
 
 free-reaches : (now : Ticks) (known : Knowledge) (o : Outcome) → Reaches now known o
     → Reaches now known (finds_free now o)
@@ -146,11 +155,11 @@ free-reaches now known o r = let x : Outcome = record o { role = Follower } in
     goes-on now known o.knows (unheard x).knows o.outputs refl refl refl refl r in
     free-by (Reaches now known) now x (record {
       starts = touch-reaches now known (starting_replica now None x)
-          (one-more now known o.knows o.outputs (outputs.StartReplica None) tt r);
+          (one-more now known o.knows o.outputs (outputs.Server (orders.StartReplica None)) tt r);
       touches = touch-reaches now known x r;
       bars = λ bar. touch-reaches now known (record x {
-        outputs = with_output (outputs.Note (agent_notes.DoesNotRace bar)) x.outputs;
-      }) (one-more now known o.knows o.outputs (outputs.Note (agent_notes.DoesNotRace bar)) tt r);
+        outputs = with_output (outputs.Note (notings.Agent (agent_notes.DoesNotRace bar))) x.outputs;
+      }) (one-more now known o.knows o.outputs (outputs.Note (notings.Agent (agent_notes.DoesNotRace bar))) tt r);
       judges = judged-reaches now known (unheard x) alone;
       asks = others-reach now known (unheard x) alone;
     })
@@ -203,10 +212,11 @@ got-reaches now points known sequence snapshot o r =
       touches = touch-reaches now known read told;
       follows = λ leader _ _. follow-reaches now known leader.holder read told;
       free = λ _ _. free-reaches now known read told;
-      runs_on = λ _. one-more now known read.knows o.outputs (outputs.Note agent_notes.RunsWithoutKey) tt told;
+      runs_on = λ _.
+          one-more now known read.knows o.outputs (outputs.Note (notings.Agent agent_notes.RunsWithoutKey)) tt told;
       asks_on = λ _. ask-reaches now known Creating (seconds_after now read.knows.settings.retry_timeout) _
           (running_without_key read) (is-spanned read.knows.settings) (λ _. refl) (λ e. absurd (both e))
-          (one-more now known read.knows o.outputs (outputs.Note agent_notes.RunsWithoutKey) tt told);
+          (one-more now known read.knows o.outputs (outputs.Note (notings.Agent agent_notes.RunsWithoutKey)) tt told);
     })
 
 refused-reaches : (now : Ticks) (known : Knowledge) (sequence : ℕ) (o : Outcome) → Reaches now known o
@@ -221,7 +231,7 @@ refused-reaches now known sequence o r =
       unleased = λ _. one-more now known _ o.outputs _ tt quiet;
       follower = λ held _. quiet;
       ready = λ held _. postpone-reaches now known held (waiting_no_more o) quiet;
-      runs_on = λ _. one-more now known _ o.outputs (outputs.Note agent_notes.RunsWithoutKey) tt quiet;
+      runs_on = λ _. one-more now known _ o.outputs (outputs.Note (notings.Agent agent_notes.RunsWithoutKey)) tt quiet;
     })
 
 feed-reaches : (now ttl : Ticks) (known : Knowledge) (o : Outcome) → Reaches now known o
@@ -234,9 +244,9 @@ arm-reaches now ttl known o r = arms-it now known o.knows o.outputs (deadline_af
 
 -- a write of the sync key, which says what it settles
 writes-question : (settling : Settling) (txn : Txn) → IsPutBy (Syncing settling) txn → IsQuestion (bodies.Request txn)
-writes-question KeepsList (txns.SetSync revision sync standbys) puts = tt
-writes-question (NamesStandbys set) (txns.SetSync revision sync standbys) puts = tt
-writes-question ClearsList (txns.DropSync revision sync) puts = tt
+writes-question KeepsList (txns.Sync (sync_txns.SetSync revision sync standbys may_lack)) puts = tt
+writes-question (NamesStandbys set) (txns.Sync (sync_txns.SetSync revision sync standbys may_lack)) puts = tt
+writes-question ClearsList (txns.Sync (sync_txns.DropSync revision sync)) puts = tt
 writes-question _ _ puts = absurd puts
 
 write-reaches : (now : Ticks) (known : Knowledge) (settling : Settling) (txn : Txn) (o : Outcome)
@@ -253,20 +263,21 @@ off-reaches : (now : Ticks) (known : Knowledge) (revision : ℕ) (read : Option 
     → Reaches now known o → Reaches now known (switching_off now revision read o)
 off-reaches now known revision None o r = r
 off-reaches now known revision (Some read) o r =
-    write-reaches now known ClearsList (txns.DropSync revision read.revision) o tt r
+    write-reaches now known ClearsList (txns.Sync (sync_txns.DropSync revision read.revision)) o tt r
 
 plan-reaches : (now : Ticks) (known : Knowledge) (revision : ℕ) (plan : Plan) (o : Outcome)
     → Reaches now known o → Reaches now known (planned_as now revision plan o)
 plan-reaches now known revision plans.Keep o r = r
 plan-reaches now known revision plans.SwitchOff o r = off-reaches now known revision (sync_read_if o.knows.seen) o r
 plan-reaches now known revision plans.Mark o r = write-reaches now known (NamesStandbys nobody)
-    (txns.SetSync revision (expected_of (sync_read_if o.knows.seen)) nobody) o refl r
+    (txns.Sync (sync_txns.SetSync revision (expected_of (sync_read_if o.knows.seen)) nobody None)) o refl r
 plan-reaches now known revision (plans.Withdraw standbys) o r = write-reaches now known (NamesStandbys standbys)
-    (txns.SetSync revision (expected_of (sync_read_if o.knows.seen)) standbys) o refl r
+    (txns.Sync (sync_txns.SetSync revision (expected_of (sync_read_if o.knows.seen)) standbys None)) o refl r
 plan-reaches now known revision (plans.AddRequired members) o r = require-reaches now known (needs.All members)
     (noting o) (goes-on now known o.knows (noting o).knows o.outputs refl refl refl refl r)
 plan-reaches now known revision (plans.Publish standbys) o r =
-    write-reaches now known KeepsList (txns.SetSync revision (expected_of (sync_read_if o.knows.seen)) standbys) o tt r
+    write-reaches now known KeepsList
+    (txns.Sync (sync_txns.SetSync revision (expected_of (sync_read_if o.knows.seen)) standbys None)) o tt r
 plan-reaches now known revision (plans.DropRequired members) o r =
     require-reaches now known (waiting_for o.knows.settings members) o r
 
@@ -313,21 +324,23 @@ unleased-reaches now ttl known revision o r = let armed-now : Outcome = arming n
 begin-reaches : (now : Ticks) (known : Knowledge) (revision : ℕ) (o : Outcome) → Reaches now known o
     → Reaches now known (begins now revision o)
 begin-reaches now known revision o r = goes-on now known o.knows _ _ refl refl refl refl
-    (one-more now known o.knows _ outputs.Begin tt (require-reaches now known (unnamed o.knows.turn_settings) o r))
+    (one-more now known o.knows _ (outputs.Server orders.Begin) tt
+    (require-reaches now known (unnamed o.knows.turn_settings) o r))
 
 -- a claim, behind what is noted of the sync key
 claim-reaches : (now : Ticks) (known : Knowledge) (revision : ℕ) (o : Outcome) → Reaches now known o
     → Reaches now known (claims now revision (passing o))
 claim-reaches now known revision o r =
     ask-reaches now known Claiming _ _ (passing o) tt (λ e. absurd (both e)) (λ _. tt)
-    (passing-by (AsksAnew now known o.knows) o r (one-more now known o.knows o.outputs outputs.ClaimsOutsideSync tt r))
+    (passing-by (AsksAnew now known o.knows) o r
+    (one-more now known o.knows o.outputs (outputs.Tell tellings.ClaimsOutsideSync) tt r))
 
 cannot-reaches : (now : Ticks) (known : Knowledge) (revision : ℕ) (o : Outcome) → Reaches now known o
     → Reaches now known (cannot_arm revision o)
 cannot-reaches now known revision o r =
-    send-reaches now known (bodies.Request (txns.Release revision)) (record o {
-      outputs = with_output (outputs.Note agent_notes.CannotArm) o.outputs;
-    }) tt (one-more now known o.knows o.outputs (outputs.Note agent_notes.CannotArm) tt r)
+    send-reaches now known (bodies.Request (txns.Lease (lease_txns.Release revision))) (record o {
+      outputs = with_output (outputs.Note (notings.Agent agent_notes.CannotArm)) o.outputs;
+    }) tt (one-more now known o.knows o.outputs (outputs.Note (notings.Agent agent_notes.CannotArm)) tt r)
 
 arms-reaches : (now ttl : Ticks) (known : Knowledge) (revision : ℕ) (o : Outcome) → Reaches now known o
     → Reaches now known (arms now ttl revision o)
@@ -344,15 +357,18 @@ takes-reaches : (now ttl : Ticks) (known : Knowledge) (revision : ℕ) (o : Outc
 takes-reaches now ttl known revision o r =
     if-cases (Reaches now known) (may_take now o.knows o.machine) (arms now ttl revision o) (gives_back revision o)
     (λ _. arms-reaches now ttl known revision o r)
-    (λ _. send-reaches now known (bodies.Request (txns.Release revision)) o tt r)
+    (λ _. send-reaches now known (bodies.Request (txns.Lease (lease_txns.Release revision))) o tt r)
 
 -- a watchdog that rests
 rests-told : (now : Ticks) (known after : Knowledge) (renews : Bool) (deadline : Option Ticks) (outs : List Output)
     → AsksAnew now known after outs → AsksAnew now known after (disabling_told renews deadline outs)
 rests-told now known after renews None outs r = r
-rests-told now known after true (Some deadline) outs r = one-more now known after (with_output outputs.Disarmed outs)
-    (outputs.Note agent_notes.DisablesWatchdog) tt (one-more now known after outs outputs.Disarmed tt r)
-rests-told now known after false (Some deadline) outs r = one-more now known after outs outputs.Disarmed tt r
+rests-told now known after true (Some deadline) outs r =
+    one-more now known after (with_output (outputs.Watchdog feedings.Disarmed) outs)
+    (outputs.Note (notings.Agent agent_notes.DisablesWatchdog)) tt
+    (one-more now known after outs (outputs.Watchdog feedings.Disarmed) tt r)
+rests-told now known after false (Some deadline) outs r =
+    one-more now known after outs (outputs.Watchdog feedings.Disarmed) tt r
 
 disabled-reaches : (now : Ticks) (known : Knowledge) (renews : Bool) (o : Outcome) → Reaches now known o
     → Reaches now known (disabling_watchdog renews o)
@@ -373,7 +389,8 @@ granted-reaches now known sequence grant snapshot o r =
       keeps_late = λ held _. start-reaches now known grant.revision (kept_on grant.revision told) next;
       ends_late = λ _. one-more now known told.knows told.outputs _ tt next;
       refuses_late = λ _. cannot-reaches now known grant.revision told next;
-      returns_late = λ _. send-reaches now known (bodies.Request (txns.Release grant.revision)) told tt next;
+      returns_late =
+          λ _. send-reaches now known (bodies.Request (txns.Lease (lease_txns.Release grant.revision))) told tt next;
       leads_in_pause = λ renews _ held _. duties-reach now known grant.revision
           (leading_in_pause renews grant.revision told) (disabled-reaches now known renews told next);
       unleased_in_pause = λ renews _ _. goes-on now known told.knows _
@@ -381,7 +398,7 @@ granted-reaches now known sequence grant snapshot o r =
       takes_in_pause = λ renews _ _. let rest : Outcome = disabling_watchdog renews told in
           let rested : Reaches now known rest = disabled-reaches now known renews told next in
           takes-in-pause-by (Reaches now known) now renews grant.revision told
-          (send-reaches now known (bodies.Request (txns.Release grant.revision)) told tt next)
+          (send-reaches now known (bodies.Request (txns.Lease (lease_txns.Release grant.revision))) told tt next)
           (begin-reaches now known grant.revision rest rested) (claim-reaches now known grant.revision rest rested);
     })
     (λ after reached.
@@ -409,8 +426,8 @@ refused-any-reaches now known sequence o r = refused-any-by (Reaches now known) 
 
 -- what an operator asks is done
 operator-question : (txn : Txn) → IsOperatorTxn txn → IsQuestion (bodies.Request txn)
-operator-question (txns.SetFailover failover ttl) is = tt
-operator-question (txns.SetConfig revision config) is = tt
+operator-question (txns.Operators (operator_txns.SetFailover failover ttl)) is = tt
+operator-question (txns.Operators (operator_txns.SetConfig revision config)) is = tt
 operator-question _ is = absurd is
 
 operated-reaches : (now : Ticks) (known : Knowledge) (request : ℕ) (asked : OperatorRequest) (o : Outcome)
@@ -422,15 +439,16 @@ operated-reaches now known request asked o r = operated-by (Reaches now known) n
       (send-reaches now known body o (operator-question txn is) r);
   restarts = λ told.
       let again : Outcome = restarting now o in
-      one-more now known again.knows again.outputs (outputs.Told request told) tt
+      one-more now known again.knows again.outputs (outputs.Tell (tellings.Told request told)) tt
       (goes-on now known o.knows again.knows again.outputs refl refl refl refl
       (one-more now known o.knows o.outputs _ tt r));
-  wipes = λ told. one-more now known o.knows (wiping o).outputs (outputs.Told request told) tt
-      (one-more now known o.knows o.outputs outputs.Wipe tt r);
+  wipes = λ told. one-more now known o.knows (wiping o).outputs (outputs.Tell (tellings.Told request told)) tt
+      (one-more now known o.knows o.outputs (outputs.Server orders.Wipe) tt r);
   holds = λ ttl told _. one-more now known o.knows (holding_for now o.knows.who.me unnumbered ttl o).outputs
-      (outputs.Told request told) tt
-      (one-more now known o.knows o.outputs (outputs.HoldTaken (span_after now ttl) o.knows.who.me unnumbered) tt r);
-  refuses = λ told. one-more now known o.knows o.outputs (outputs.Told request told) tt r;
+      (outputs.Tell (tellings.Told request told)) tt
+      (one-more now known o.knows o.outputs
+      (outputs.Tell (tellings.HoldTaken (span_after now ttl) o.knows.who.me unnumbered)) tt r);
+  refuses = λ told. one-more now known o.knows o.outputs (outputs.Tell (tellings.Told request told)) tt r;
 })
 
 step-reaches : (now : Ticks) (points : List HistoryPoint) (heard : Heard) (known : Knowledge) (o : Outcome)
@@ -453,9 +471,11 @@ step-reaches now points (FailsafeAsked from incarnation sequence ttl) known o r 
     let fresh : Reaches now known first = before-reaches now known o r in
     failsafe-asked-by (Reaches now known) now from incarnation sequence ttl first
     (λ _. one-more now known first.knows (holding_for now from sequence ttl first).outputs
-    (outputs.FailsafeAnswer from incarnation sequence true) tt
-    (one-more now known first.knows first.outputs (outputs.HoldTaken (span_after now ttl) from sequence) tt fresh))
-    (one-more now known first.knows first.outputs (outputs.FailsafeAnswer from incarnation sequence false) tt fresh)
+    (outputs.Message (outgoing.FailsafeAnswer from incarnation sequence true)) tt
+    (one-more now known first.knows first.outputs
+    (outputs.Tell (tellings.HoldTaken (span_after now ttl) from sequence)) tt fresh))
+    (one-more now known first.knows first.outputs
+    (outputs.Message (outgoing.FailsafeAnswer from incarnation sequence false)) tt fresh)
 step-reaches now points (FailsafeAnswered from sequence accepted sent) known o r =
     staying-reaches now known from sequence accepted sent (reconciled now o) (before-reaches now known o r)
 step-reaches now points (Operated action) known o r =

@@ -3,6 +3,7 @@ use Rattle.std.specs.Prelude.{ℕ, ◌≡◌, ◌≤◌, ◌<◌, true, List, So
 use Rattle.pat_base.specs.declared.ticks.Ticks.{Ticks}
 use Rattle.store_keys.specs.declared.txn.Txn.{Txn}
 use Rattle.store_keys.specs.declared.txn.Txn.TheVariants as txns
+use Rattle.store_keys.specs.declared.txn.SyncTxn.TheVariants as sync_txns
 use Rattle.leader_key.specs.Watchdog.{IsLeaseSpan}
 use Rattle.event_book.specs.declared.message.Body.{Body}
 use Rattle.event_book.specs.declared.message.Body.TheVariants as bodies
@@ -13,6 +14,7 @@ use Rattle.agent_model.specs.declared.knowledge.Settling.TheVariants.{KeepsList,
 use Rattle.agent_model.specs.declared.knowledge.PendingQuestion.{PendingQuestion}
 use Rattle.agent_model.specs.declared.output.Output.{Output}
 use Rattle.agent_model.specs.declared.output.Output.TheVariants as outputs
+use Rattle.agent_model.specs.declared.output.Outgoing.TheVariants as outgoing
 use Rattle.agent_model.specs.declared.output.Target.{Target}
 use Rattle.agent_model.specs.declared.output.Target.TheVariants as targets
 use Rattle.agent_model.specs.Decisions.{asks_lease, asks_sync}
@@ -31,16 +33,17 @@ IsAskedOf (targets.Member member) body = IsAsk body
 
 -- a message that is sent is a question under a number above the first of these and at most the second
 abbrev pub SendsBetween : ℕ → ℕ → Output → Type 0
-SendsBetween low high (outputs.Send to sequence body) = (low < sequence) × (sequence ≤ high) × IsAskedOf to body
+SendsBetween low high (outputs.Message (outgoing.Send to sequence body)) =
+    (low < sequence) × (sequence ≤ high) × IsAskedOf to body
 SendsBetween low high _ = Unit {0}
 
 -- the question is put by this request: a claim, or a write of the sync
 -- key that names the standbys to which the required list settles
 abbrev pub IsPutBy : Question → Txn → Type 0
-IsPutBy Claiming (txns.Claim revision sync) = Unit {0}
-IsPutBy (Syncing KeepsList) (txns.SetSync revision sync standbys) = Unit {0}
-IsPutBy (Syncing (NamesStandbys set)) (txns.SetSync revision sync standbys) = standbys ≡ set
-IsPutBy (Syncing ClearsList) (txns.DropSync revision sync) = Unit {0}
+IsPutBy Claiming (txns.Sync (sync_txns.Claim revision sync)) = Unit {0}
+IsPutBy (Syncing KeepsList) (txns.Sync (sync_txns.SetSync revision sync standbys may_lack)) = Unit {0}
+IsPutBy (Syncing (NamesStandbys set)) (txns.Sync (sync_txns.SetSync revision sync standbys may_lack)) = standbys ≡ set
+IsPutBy (Syncing ClearsList) (txns.Sync (sync_txns.DropSync revision sync)) = Unit {0}
 IsPutBy _ _ = ⊥
 
 -- the question is put by what a message says: by the request in it
@@ -55,7 +58,7 @@ pub record SaysWaited (waited : PendingQuestion) (body : Body) : Type 0 where
 
 -- a message with the number of what is waited for says it
 abbrev pub AsksFor : PendingQuestion → Output → Type 0
-AsksFor waited (outputs.Send to sequence body) = sequence ≡ waited.sequence → SaysWaited waited body
+AsksFor waited (outputs.Message (outgoing.Send to sequence body)) = sequence ≡ waited.sequence → SaysWaited waited body
 AsksFor waited _ = Unit {0}
 
 -- what an agent that knew the first waits for when it knows the second, behind these

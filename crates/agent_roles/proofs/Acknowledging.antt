@@ -19,6 +19,8 @@ use Rattle.agent_model.specs.declared.knowledge.PendingQuestion.{PendingQuestion
 use Rattle.agent_model.specs.declared.machine.Machine.{Machine}
 use Rattle.agent_model.specs.declared.output.Output.{Output}
 use Rattle.agent_model.specs.declared.output.Output.TheVariants as outputs
+use Rattle.agent_model.specs.declared.output.Feeding.TheVariants as feedings
+use Rattle.agent_model.specs.declared.output.Noting.TheVariants as notings
 use Rattle.agent_model.specs.declared.who.Who.{Who}
 use Rattle.agent_model.specs.declared.why.Why.{Why}
 use Rattle.agent_model.specs.declared.why.Why.TheVariants.{HandOver, Lost}
@@ -107,12 +109,13 @@ given-up-led now o = given-up-by (LedOn o) now (reconciled now o) (record {
 stay-told : (outs : List Output) (until : Ticks) (members : MemberSet) (sequence : ℕ) (since : Ticks) (armable : Bool)
     → armable ≡ true
     → has_one is_feeding
-    (with_output outputs.StaysByFailsafe
+    (with_output (outputs.Note notings.StaysByFailsafe)
     (fed_by_failsafe (if armable then Some until else None) members sequence since outs))
     ≡ true
 stay-told outs until members sequence since true is =
-    one-before is_feeding (with_output (outputs.FedByFailsafe until members sequence since) outs)
-    outputs.StaysByFailsafe (one-last is_feeding outs (outputs.FedByFailsafe until members sequence since) refl)
+    one-before is_feeding (with_output (outputs.Watchdog (feedings.FedByFailsafe until members sequence since)) outs)
+    (outputs.Note notings.StaysByFailsafe)
+    (one-last is_feeding outs (outputs.Watchdog (feedings.FedByFailsafe until members sequence since)) refl)
 stay-told outs until members sequence since false is = absurd (no-way is)
 
 leader-is : (role : RoleFacts) (held : ℕ) → role ≡ Leader held → is_leader role ≡ true

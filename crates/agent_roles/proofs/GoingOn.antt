@@ -7,7 +7,7 @@ use Rattle.std.proofs.lemmas.Bool.Decides.{nat_tests}
 use Rattle.pat_base.specs.declared.member_set.MemberSet.{MemberSet}
 use Rattle.store_keys.specs.declared.key.Key.TheVariants as keys
 use Rattle.store_keys.specs.declared.value.KeyEntry.{KeyEntry}
-use Rattle.cluster_view.specs.Snapshots.{SnapshotFacts, entry_in, failsafe_by, failsafe_of_entry, failsafe_in, settings_by, settings_of_entry}
+use Rattle.cluster_view.specs.Snapshots.{SnapshotFacts, entry_in, failsafe_by, failsafe_in, settings_by, settings_of_entry, value_by}
 use Rattle.lease_model.specs.Leases.{LeaderSeen, FailsafeKey}
 use Rattle.event_book.specs.Functions.{set_members}
 use Rattle.lease_model.proofs.Tools.{some-is, none-some}
@@ -197,7 +197,7 @@ told-listed true revision members e = inl refl
 told-listed false revision (Some members) e = inr (record { revision = revision; members = set_members members }, refl)
 told-listed false revision None e = absurd (no-way e)
 
-told-entry : (was : Bool) (found : Option KeyEntry) → was || is_some (failsafe_of_entry found) ≡ true
+told-entry : (was : Bool) (found : Option KeyEntry) → was || is_some (value_by failsafe_by found) ≡ true
     → (was ≡ true) ⊎ ((key : FailsafeKey) × (failsafe_entry_seen found ≡ Some key))
 told-entry was (Some found) e = told-listed was found.revision (failsafe_by found.value) e
 told-entry true None e = inl refl

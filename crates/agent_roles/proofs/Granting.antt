@@ -10,6 +10,11 @@ use Rattle.pat_base.specs.ServerState.{live}
 use Rattle.agent_model.specs.declared.knowledge.PendingQuestion.{PendingQuestion}
 use Rattle.agent_model.specs.declared.output.Output.{Output}
 use Rattle.agent_model.specs.declared.output.Output.TheVariants as outputs
+use Rattle.agent_model.specs.declared.output.Feeding.TheVariants as feedings
+use Rattle.agent_model.specs.declared.output.Noting.TheVariants as notings
+use Rattle.agent_model.specs.declared.output.Outgoing.TheVariants as outgoing
+use Rattle.agent_model.specs.declared.output.ServerOrder.TheVariants as orders
+use Rattle.agent_model.specs.declared.output.Telling.TheVariants as tellings
 use Rattle.agent_model.specs.declared.why.Why.TheVariants.{HandOver}
 use Rattle.agent_model.specs.Acting.{armed, comes_late, fed_until, arming, ending_server, requiring, is_hold_active, is_refusing, waiting_no_more}
 use Rattle.agent_model.specs.Agents.{Ending, Outcome, is_leader, is_ready}
@@ -70,12 +75,12 @@ one-before test (one ∷ outs) output is =
 
 fed-told : (outs : List Output) (until : Ticks) (armable : Bool) → armable ≡ true
     → has_one is_feeding (fed_until (if armable then Some until else None) outs) ≡ true
-fed-told outs until true is = one-last is_feeding outs (outputs.Fed until) refl
+fed-told outs until true is = one-last is_feeding outs (outputs.Watchdog (feedings.Fed until)) refl
 fed-told outs until false is = absurd (no-way is)
 
 armed-told : (outs : List Output) (until : Ticks) (armable : Bool) → armable ≡ true
     → has_one is_feeding (armed (if armable then Some until else None) outs) ≡ true
-armed-told outs until true is = one-last is_feeding outs (outputs.Armed until) refl
+armed-told outs until true is = one-last is_feeding outs (outputs.Watchdog (feedings.Armed until)) refl
 armed-told outs until false is = absurd (no-way is)
 
 abbrev pub Told : SnapshotFacts → Outcome → Outcome
@@ -107,8 +112,10 @@ ask-told : (who : Who) (sequence : ℕ) (member : Option MemberId) (outs : List 
     → has_one is_feeding outs ≡ true → has_one is_feeding (asking_one who sequence member outs) ≡ true
 ask-told who sequence None outs told = told
 ask-told who sequence (Some member) outs told = if-cases (λ (l : List Output). has_one is_feeding l ≡ true)
-    (is_other who member) (with_output (outputs.Send (targets.Member member) sequence bodies.Ask) outs) outs
-    (λ _. one-before is_feeding outs (outputs.Send (targets.Member member) sequence bodies.Ask) told) (λ _. told)
+    (is_other who member)
+    (with_output (outputs.Message (outgoing.Send (targets.Member member) sequence bodies.Ask)) outs) outs
+    (λ _. one-before is_feeding outs (outputs.Message (outgoing.Send (targets.Member member) sequence bodies.Ask)) told)
+    (λ _. told)
 
 asks-told : (who : Who) (sequence count : ℕ) (outs : List Output) → has_one is_feeding outs ≡ true
     → has_one is_feeding (asking_first who sequence count outs) ≡ true
@@ -132,7 +139,7 @@ renewed-may now sequence grant snapshot o awaited in_time =
     let ended : Outcome = record (ending_server now StartTooLong led) { role = Ending grant.revision HandOver } in
     renewed-by (GrantMay now sequence grant snapshot o) now awaited.waited.ttl grant.revision (Told snapshot o)
     (leads-live now sequence grant snapshot o ended awaited in_time refl refl refl refl refl
-    (λ armable. one-before is_feeding led.outputs (outputs.Stop StartTooLong) (told armable))
+    (λ armable. one-before is_feeding led.outputs (outputs.Server (orders.Stop StartTooLong)) (told armable))
     (stop-live now o.machine.server))
     (record {
       plan = record {
@@ -161,8 +168,10 @@ renewed-may now sequence grant snapshot o awaited in_time =
             (hands_over now grant.revision candidate (waiting_no_more (unheard led))) awaited in_time refl
             refl refl refl refl
             (λ armable. one-before is_feeding
-            (with_output (outputs.Note (agent_notes.HandsOver candidate)) led.outputs) outputs.ShutDown
-            (one-before is_feeding led.outputs (outputs.Note (agent_notes.HandsOver candidate)) (told armable)))
+            (with_output (outputs.Note (notings.Agent (agent_notes.HandsOver candidate))) led.outputs)
+            (outputs.Server orders.ShutDown)
+            (one-before is_feeding led.outputs
+            (outputs.Note (notings.Agent (agent_notes.HandsOver candidate))) (told armable)))
             (stop-live now o.machine.server);
       };
     })
@@ -183,7 +192,7 @@ unleased-may now sequence grant snapshot o awaited in_time =
 -- a note of the sync key takes nothing from what was fed
 passing-told : (o : Outcome) → has_one is_feeding o.outputs ≡ true → has_one is_feeding (passing o).outputs ≡ true
 passing-told o told = passing-by (λ (outs : List Output). has_one is_feeding outs ≡ true) o told
-    (one-before is_feeding o.outputs outputs.ClaimsOutsideSync told)
+    (one-before is_feeding o.outputs (outputs.Tell tellings.ClaimsOutsideSync) told)
 
 arms-may : (now : Ticks) (sequence : ℕ) (grant : Granted) (snapshot : SnapshotFacts) (o : Outcome)
     (awaited : IsAwaitedLease sequence grant o.knows) → comes_late now awaited.waited o.machine ≡ false
@@ -191,7 +200,10 @@ arms-may : (now : Ticks) (sequence : ℕ) (grant : Granted) (snapshot : Snapshot
     → GrantMay now sequence grant snapshot o (arms now awaited.waited.ttl grant.revision (Told snapshot o))
 arms-may now sequence grant snapshot o awaited in_time ended free =
     let back : Outcome = gives_back grant.revision
-    (record (Told snapshot o) { outputs = with_output (outputs.Note agent_notes.CannotArm) o.outputs }) in
+    (record (Told snapshot o) {
+      outputs =
+          with_output (outputs.Note (notings.Agent agent_notes.CannotArm)) o.outputs;
+    }) in
     let arm : Outcome = arming now awaited.waited.ttl (Told snapshot o) in
     let told : is_armable o.machine.watchdog.mode o.machine.watchdog.works ≡ true
     → has_one is_feeding arm.outputs ≡ true =
@@ -202,7 +214,8 @@ arms-may now sequence grant snapshot o awaited in_time ended free =
     (λ ready. begins-or-claims-by (GrantMay now sequence grant snapshot o) now grant.revision arm
     (Leads awaited in_time refl refl refl (λ e. absurd (no-way e)) refl
     (λ armable.
-    one-before is_feeding (with_output (outputs.Require (unnamed arm.knows.turn_settings)) arm.outputs) outputs.Begin
+    one-before is_feeding (with_output (outputs.Require (unnamed arm.knows.turn_settings)) arm.outputs)
+    (outputs.Server orders.Begin)
     (one-before is_feeding arm.outputs (outputs.Require (unnamed arm.knows.turn_settings)) (told armable)))
     (λ _. inr free) (λ _. inr ready))
     (Leads awaited in_time refl refl refl (λ _. ended) refl

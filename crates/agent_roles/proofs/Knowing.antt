@@ -9,7 +9,7 @@ use Rattle.lease_store.specs.declared.granted.Granted.{Granted}
 use Rattle.store_keys.specs.declared.key.Key.TheVariants as keys
 use Rattle.store_keys.specs.declared.value.KeyEntry.{KeyEntry}
 use Rattle.wal_model.specs.declared.entry.HistoryPoint.{HistoryPoint}
-use Rattle.cluster_view.specs.Snapshots.{SnapshotFacts, entry_in, failsafe_by}
+use Rattle.cluster_view.specs.Snapshots.{SnapshotFacts, entry_in, failsafe_by, found_by}
 use Rattle.event_book.specs.declared.agent_note.AgentNote.TheVariants as agent_notes
 use Rattle.event_book.specs.declared.reason.Reason.TheVariants.{StartTooLong, WatchdogNotArmed}
 use Rattle.lease_model.proofs.Tools.{none-some}
@@ -18,6 +18,7 @@ use Rattle.agent_model.specs.declared.heard.Heard.TheVariants.{Wake, ReadAnswere
 use Rattle.agent_model.specs.declared.knowledge.PendingQuestion.{PendingQuestion}
 use Rattle.agent_model.specs.declared.output.Output.{Output}
 use Rattle.agent_model.specs.declared.output.Output.TheVariants as outputs
+use Rattle.agent_model.specs.declared.output.Noting.TheVariants as notings
 use Rattle.agent_model.specs.declared.why.Why.{Why}
 use Rattle.agent_model.specs.declared.why.Why.TheVariants.{HandOver, Lost}
 use Rattle.agent_model.specs.Acting.{disarming, arming, ending_server, requiring, shutting_down, touching, starting_replica, following_server, is_refusing, waiting_no_more}
@@ -34,7 +35,7 @@ use Rattle.agent_model.specs.Racing.{creating, barred, finds_free, judged, askin
 use Rattle.agent_model.specs.Peers.{asked, keeping, answered}
 use Rattle.agent_model.specs.HandingOver.{checking, hands_over}
 use Rattle.agent_model.specs.Operators.{answering, given_up, learned, looked, operated, operating, restarting, telling, wiping, unnumbered}
-use Rattle.agent_model.specs.FailsafeKeys.{failsafe_read_by, failsafe_read_in, failsafe_read_of_entry, set_carried}
+use Rattle.agent_model.specs.FailsafeKeys.{failsafe_read_by, failsafe_read_in, set_carried, failsafe_read_at}
 use Rattle.agent_model.specs.StayingPrimary.{answering_failsafe, asking_to_stay, counting, failsafe_answered, failsafe_asked, leader_unacknowledged, others_known, span_after, stays, stays_alone, holding_for}
 use Rattle.event_book.specs.Watchdogs.{prolonged_to}
 use Rattle.agent_model.specs.Table.{step, granted_any, refused_any}
@@ -219,7 +220,8 @@ read-told snapshot = by-entry (entry_in keys.Failsafe snapshot)
     by-members revision None = refl
     by-members revision (Some members) = refl
 
-    by-entry : (found : Option KeyEntry) → failsafe_read_seen (failsafe_read_of_entry found) ≡ failsafe_entry_seen found
+    by-entry : (found : Option KeyEntry)
+        → failsafe_read_seen (found_by failsafe_read_at found) ≡ failsafe_entry_seen found
     by-entry None = refl
     by-entry (Some found) = by-members found.revision (failsafe_by found.value)
 
@@ -462,7 +464,10 @@ arms-onward : (now ttl : Ticks) (revision : ℕ) (snapshot : SnapshotFacts) (o :
     → Onward (Some snapshot) o (arms now ttl revision (Told snapshot o))
 arms-onward now ttl revision snapshot o =
     let back : Outcome = gives_back revision
-    (record (Told snapshot o) { outputs = with_output (outputs.Note agent_notes.CannotArm) o.outputs }) in
+    (record (Told snapshot o) {
+      outputs =
+          with_output (outputs.Note (notings.Agent agent_notes.CannotArm)) o.outputs;
+    }) in
     let arm : Outcome = arming now ttl (Told snapshot o) in
     if-cases (Onward (Some snapshot) o) (is_refusing o.machine.watchdog.mode o.machine.watchdog.works) back
     (begins_or_claims now revision arm)

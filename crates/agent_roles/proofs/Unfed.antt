@@ -21,6 +21,9 @@ use Rattle.agent_model.specs.declared.knowledge.PendingQuestion.{PendingQuestion
 use Rattle.agent_model.specs.declared.machine.Machine.{Machine}
 use Rattle.agent_model.specs.declared.output.Output.{Output}
 use Rattle.agent_model.specs.declared.output.Output.TheVariants as outputs
+use Rattle.agent_model.specs.declared.output.Feeding.TheVariants as feedings
+use Rattle.agent_model.specs.declared.output.Noting.TheVariants as notings
+use Rattle.agent_model.specs.declared.output.Outgoing.TheVariants as outgoing
 use Rattle.agent_model.specs.declared.output.Target.TheVariants as targets
 use Rattle.agent_model.specs.declared.why.Why.{Why}
 use Rattle.agent_model.specs.declared.why.Why.TheVariants.{HandOver, Lost}
@@ -41,9 +44,10 @@ use Rattle.agent_model.specs.Pausing.{is_paused}
 
 -- an output of this moment that feeds no watchdog, or one by the word of nobody, measured from now
 abbrev pub FeedsAlone : Ticks → Output → Type 0
-FeedsAlone now (outputs.Armed until) = ⊥
-FeedsAlone now (outputs.Fed until) = ⊥
-FeedsAlone now (outputs.FedByFailsafe until members sequence since) = (members.bits ≡ 0) × (since ≡ now)
+FeedsAlone now (outputs.Watchdog (feedings.Armed until)) = ⊥
+FeedsAlone now (outputs.Watchdog (feedings.Fed until)) = ⊥
+FeedsAlone now (outputs.Watchdog (feedings.FedByFailsafe until members sequence since)) =
+    (members.bits ≡ 0) × (since ≡ now)
 FeedsAlone now _ = Unit {0}
 
 abbrev NoneFed : Ticks → Outcome → Type 0
@@ -52,7 +56,7 @@ NoneFed now o = All (FeedsAlone now) o.outputs
 none-disarmed : (now : Ticks) (deadline : Option Ticks) (outs : List Output) → All (FeedsAlone now) outs
     → All (FeedsAlone now) (disarmed deadline outs)
 none-disarmed now None outs all = all
-none-disarmed now (Some deadline) outs all = All-push (FeedsAlone now) outs outputs.Disarmed all tt
+none-disarmed now (Some deadline) outs all = All-push (FeedsAlone now) outs (outputs.Watchdog feedings.Disarmed) all tt
 
 none-if : (now : Ticks) (test : Bool) (x y : Outcome) → NoneFed now x → NoneFed now y → NoneFed now (cond test x y)
 none-if now true x y first second = first
@@ -83,7 +87,10 @@ none-requested now ttl members sequence (Some member) outs all = none-list (has 
   where
     none-list : (test : Bool)
         → All (FeedsAlone now)
-        (cond test (with_output (outputs.Send (targets.Member member) sequence (bodies.FailsafeRequest ttl)) outs) outs)
+        (cond test
+        (with_output (outputs.Message (outgoing.Send (targets.Member member) sequence (bodies.FailsafeRequest ttl)))
+        outs)
+        outs)
     none-list true = All-push (FeedsAlone now) outs _ all tt
     none-list false = all
 
@@ -96,11 +103,16 @@ none-requests now ttl members sequence (suc count) outs all = none-requested now
 -- a leader that has nobody to ask feeds by the word of nobody
 none-alone : (now : Ticks) (deadline : Option Ticks) (members : MemberSet) (sequence : ℕ) (outs : List Output)
     → members.bits ≡ 0 → All (FeedsAlone now) outs
-    → All (FeedsAlone now) (with_output outputs.StaysByFailsafe (fed_by_failsafe deadline members sequence now outs))
-none-alone now None members sequence outs nobody all = All-push (FeedsAlone now) outs outputs.StaysByFailsafe all tt
+    → All (FeedsAlone now)
+    (with_output (outputs.Note notings.StaysByFailsafe) (fed_by_failsafe deadline members sequence now outs))
+none-alone now None members sequence outs nobody all =
+    All-push (FeedsAlone now) outs (outputs.Note notings.StaysByFailsafe) all tt
 none-alone now (Some until) members sequence outs nobody all = All-push (FeedsAlone now)
-    (with_output (outputs.FedByFailsafe until members sequence now) outs) outputs.StaysByFailsafe
-    (All-push (FeedsAlone now) outs (outputs.FedByFailsafe until members sequence now) all (nobody, refl)) tt
+    (with_output (outputs.Watchdog (feedings.FedByFailsafe until members sequence now)) outs)
+    (outputs.Note notings.StaysByFailsafe)
+    (All-push (FeedsAlone now) outs (outputs.Watchdog (feedings.FedByFailsafe until members sequence now)) all
+    (nobody, refl))
+    tt
 
 none-seeks : (now : Ticks) (o : Outcome) → NoneFed now o → NoneFed now (seeks_to_stay now (others_known o.knows) o)
 none-seeks now o all = by ((others_known o.knows).bits == 0) refl

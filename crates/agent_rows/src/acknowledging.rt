@@ -4,7 +4,7 @@ ghost use Rattle.agent_turn.specs.Turns.{HasLeft, Spent, reached};
 ghost use Rattle.agent_turn.specs.Roles.{role_of};
 ghost use Rattle.agent_model.specs.StayingPrimary.{failsafe_asked};
 
-use agent_model::Output;
+use agent_model::{Outgoing, Output};
 use agent_turn::{Role, Turn};
 use agent_upkeep::{hold, may_acknowledge};
 use pat_base::{MemberId, Ticks};
@@ -27,10 +27,10 @@ pub(crate) fn failsafe_asked(
     if accepted {
         hold(turn, from, sequence, ttl);
     }
-    turn.out.put(Output::FailsafeAnswer {
+    turn.out.put(Output::Message(Outgoing::FailsafeAnswer {
         to: from,
         incarnation,
         sequence,
         accepted,
-    });
+    }));
 }

@@ -8,7 +8,7 @@ ghost use Rattle.agent_turn.specs.Roles.{role_of};
 
 use agent_following::judge;
 use agent_leadership::hear_successor;
-use agent_model::{Output, PendingQuestion, Question, Who};
+use agent_model::{Outgoing, Output, PendingQuestion, Question, Who};
 use agent_turn::{Role, Turn, all_answered, may_create, runs, word_of};
 use pat_base::{MemberId, PeerAnswer};
 use pg_model::ServerStatus;
@@ -20,12 +20,12 @@ pub(crate) fn asked(turn: &mut Turn, from: MemberId, incarnation: u64, sequence:
     ensures left { Spent 1 0 turn.old turn.new }
 {
     let answer = peer_answer_of(&turn.knows.who, &turn.machine.server);
-    turn.out.put(Output::Answer {
+    turn.out.put(Output::Message(Outgoing::Answer {
         to: from,
         incarnation,
         sequence,
         answer,
-    });
+    }));
 }
 
 /// How far a member's server is.

@@ -8,6 +8,7 @@ use Rattle.store_keys.specs.declared.config.Config.{Config}
 use Rattle.lease_store.specs.declared.granted.Granted.{Granted}
 use Rattle.store_keys.specs.declared.txn.Txn.{Txn}
 use Rattle.store_keys.specs.declared.txn.Txn.TheVariants as txns
+use Rattle.store_keys.specs.declared.txn.SyncTxn.TheVariants as sync_txns
 use Rattle.cluster_view.specs.Snapshots.{SnapshotFacts, settings_in}
 use Rattle.event_book.specs.declared.agent_note.AgentNote.TheVariants as agent_notes
 use Rattle.event_book.specs.declared.message.Body.TheVariants as bodies
@@ -19,6 +20,10 @@ use Rattle.agent_model.specs.declared.knowledge.PendingQuestion.{PendingQuestion
 use Rattle.agent_model.specs.declared.machine.Machine.{Machine}
 use Rattle.agent_model.specs.declared.output.Output.{Output}
 use Rattle.agent_model.specs.declared.output.Output.TheVariants as outputs
+use Rattle.agent_model.specs.declared.output.Feeding.TheVariants as feedings
+use Rattle.agent_model.specs.declared.output.Noting.TheVariants as notings
+use Rattle.agent_model.specs.declared.output.Outgoing.TheVariants as outgoing
+use Rattle.agent_model.specs.declared.output.Telling.TheVariants as tellings
 use Rattle.agent_model.specs.declared.output.Target.TheVariants as targets
 use Rattle.agent_model.specs.declared.why.Why.TheVariants.{HandOver}
 use Rattle.agent_model.specs.Acting.{comes_late, arming, armed, deadline_after, ending_server, is_refusing}
@@ -59,14 +64,16 @@ module _ (now : Ticks) (heard : Heard) (b : Outcome) where
   armed-keeps : (outs : List Output) (deadline : Option Ticks) → All KeepsLeases outs
       → All KeepsLeases (armed deadline outs)
   armed-keeps outs None all = all
-  armed-keeps outs (Some until) all = All-push KeepsLeases outs (outputs.Armed until) all tt
+  armed-keeps outs (Some until) all = All-push KeepsLeases outs (outputs.Watchdog (feedings.Armed until)) all tt
 
   disabled-keeps : (outs : List Output) (renews : Bool) (deadline : Option Ticks) → All KeepsLeases outs
       → All KeepsLeases (disabling_told renews deadline outs)
   disabled-keeps outs renews None all = all
-  disabled-keeps outs true (Some deadline) all = All-push KeepsLeases (with_output outputs.Disarmed outs)
-      (outputs.Note agent_notes.DisablesWatchdog) (All-push KeepsLeases outs outputs.Disarmed all tt) tt
-  disabled-keeps outs false (Some deadline) all = All-push KeepsLeases outs outputs.Disarmed all tt
+  disabled-keeps outs true (Some deadline) all =
+      All-push KeepsLeases (with_output (outputs.Watchdog feedings.Disarmed) outs)
+      (outputs.Note (notings.Agent agent_notes.DisablesWatchdog))
+      (All-push KeepsLeases outs (outputs.Watchdog feedings.Disarmed) all tt) tt
+  disabled-keeps outs false (Some deadline) all = All-push KeepsLeases outs (outputs.Watchdog feedings.Disarmed) all tt
 
   gives-so : (revision : ℕ) (x : Outcome) → So now heard b x → So now heard b (gives_back revision x)
   gives-so revision x s =
@@ -83,8 +90,8 @@ module _ (now : Ticks) (heard : Heard) (b : Outcome) where
       let both : Sofar now heard b y.outputs x.role x.knows.waited × All KeepsLeases y.outputs =
       passing-by (λ (outs : List Output). Sofar now heard b outs x.role x.knows.waited × All KeepsLeases outs) x
       (s, all) (
-        more now heard b x.outputs x.role x.knows.waited outputs.ClaimsOutsideSync tt tt s,
-        All-push KeepsLeases x.outputs outputs.ClaimsOutsideSync all tt,
+        more now heard b x.outputs x.role x.knows.waited (outputs.Tell tellings.ClaimsOutsideSync) tt tt s,
+        All-push KeepsLeases x.outputs (outputs.Tell tellings.ClaimsOutsideSync) all tt,
       ) in
       with-role now heard b (claims now revision y).outputs x.role (Ready revision) _
       (All-push KeepsLeases y.outputs _ both.1 tt)
@@ -139,7 +146,8 @@ module _ (now : Ticks) (heard : Heard) (b : Outcome) where
       }
 
       write-so : (settling : Settling) (txn : Txn) → RequestGround now heard b txn
-          → KeepsLeases (outputs.Send targets.Store (Led.knows.sequence + 1) (bodies.Request txn)) → So now heard b Led
+          → KeepsLeases (outputs.Message (outgoing.Send targets.Store (Led.knows.sequence + 1) (bodies.Request txn)))
+          → So now heard b Led
           → So now heard b (writing_sync now settling txn Led)
       write-so settling txn ground keeps s =
           waits now heard b _ Led.role None _ refl (more now heard b outs Led.role None _ ground keeps s)
@@ -148,19 +156,21 @@ module _ (now : Ticks) (heard : Heard) (b : Outcome) where
           → PlanGround now heard b grant.revision snapshot plans.SwitchOff → So now heard b Led
           → So now heard b (switching_off now grant.revision read Led)
       drop-so None found ground s = s
-      drop-so (Some read) found ground s = write-so ClearsList (txns.DropSync grant.revision read.revision) (record {
-        snapshot = snapshot;
-        plan = plans.SwitchOff;
-        ground = ground;
-        names = tt;
-        compared = ap expected_of (sym found);
-      }) tt s
+      drop-so (Some read) found ground s =
+          write-so ClearsList (txns.Sync (sync_txns.DropSync grant.revision read.revision)) (record {
+            snapshot = snapshot;
+            plan = plans.SwitchOff;
+            ground = ground;
+            names = tt;
+            compared = ap expected_of (sym found);
+          }) tt s
 
       name-so : (plan : Plan) (settling : Settling) (standbys : MemberSet)
           → PlanGround now heard b grant.revision snapshot plan → NamesByPlan plan standbys → So now heard b Led
           → So now heard b (naming now grant.revision settling standbys Led)
       name-so plan settling standbys ground names s =
-          write-so settling (txns.SetSync grant.revision (expected_of (sync_read_in snapshot)) standbys)
+          write-so settling
+          (txns.Sync (sync_txns.SetSync grant.revision (expected_of (sync_read_in snapshot)) standbys None))
           (record { snapshot = snapshot; plan = plan; ground = ground; names = names; compared = refl }) tt s
 
       plan-so : (plan : Plan) → PlanGround now heard b grant.revision snapshot plan → So now heard b Led
@@ -223,8 +233,8 @@ module _ (now : Ticks) (heard : Heard) (b : Outcome) where
 
     cannot-so : So now heard b Heard_so → So now heard b (cannot_arm grant.revision Heard_so)
     cannot-so r = gives-so grant.revision (record Heard_so {
-      outputs = with_output (outputs.Note agent_notes.CannotArm) b.outputs;
-    }) (more now heard b b.outputs b.role None (outputs.Note agent_notes.CannotArm) tt tt r)
+      outputs = with_output (outputs.Note (notings.Agent agent_notes.CannotArm)) b.outputs;
+    }) (more now heard b b.outputs b.role None (outputs.Note (notings.Agent agent_notes.CannotArm)) tt tt r)
 
     -- the lease that is decided on is the one that is waited for
     abbrev awaits : Decides sequence grant b → IsAwaitedLease sequence grant b.knows

@@ -13,6 +13,7 @@ use Rattle.store_keys.specs.declared.action.OperatorRequest.{OperatorRequest}
 use Rattle.store_keys.specs.declared.action.OperatorRequest.TheVariants as requests
 use Rattle.store_keys.specs.declared.config.Config.{Config}
 use Rattle.store_keys.specs.declared.txn.Txn.TheVariants as txns
+use Rattle.store_keys.specs.declared.txn.LeaseTxn.TheVariants as lease_txns
 use Rattle.wal_model.specs.declared.entry.HistoryPoint.{HistoryPoint}
 use Rattle.pg_model.specs.Running.{is_primary}
 use Rattle.cluster_view.specs.Snapshots.{SnapshotFacts, leader_in, settings_in}
@@ -29,6 +30,11 @@ use Rattle.agent_model.specs.declared.knowledge.PendingQuestion.{PendingQuestion
 use Rattle.agent_model.specs.declared.machine.Machine.{Machine}
 use Rattle.agent_model.specs.declared.output.Output.{Output}
 use Rattle.agent_model.specs.declared.output.Output.TheVariants as outputs
+use Rattle.agent_model.specs.declared.output.Feeding.TheVariants as feedings
+use Rattle.agent_model.specs.declared.output.Noting.TheVariants as notings
+use Rattle.agent_model.specs.declared.output.Outgoing.TheVariants as outgoing
+use Rattle.agent_model.specs.declared.output.ServerOrder.TheVariants as orders
+use Rattle.agent_model.specs.declared.output.Telling.TheVariants as tellings
 use Rattle.agent_model.specs.declared.output.Target.TheVariants as targets
 use Rattle.agent_model.specs.declared.who.Who.{Who}
 use Rattle.agent_model.specs.declared.why.Why.TheVariants.{HandOver, Lost}
@@ -67,7 +73,10 @@ use Rattle.agent_rules.proofs.Reaching.{asked-to-lead, carries-leading, heard-ye
 
 -- an output that gives no lease back
 abbrev pub KeepsLeases : Output → Type 0
-KeepsLeases (outputs.Send targets.Store sequence (bodies.Request (txns.Release revision))) = ⊥
+KeepsLeases
+    (outputs.Message (outgoing.Send targets.Store sequence
+    (bodies.Request (txns.Lease (lease_txns.Release revision))))) =
+    ⊥
 KeepsLeases _ = Unit {0}
 
 -- over what precedes the input, `b`, which hears this
@@ -128,35 +137,40 @@ module _ (now : Ticks) (heard : Heard) (b : Outcome) where
   disarm-so : (outs : List Output) (role : RoleFacts) (waited : Option PendingQuestion) (deadline : Option Ticks)
       → Sofar outs role waited → Sofar (disarmed deadline outs) role waited
   disarm-so outs role waited None s = s
-  disarm-so outs role waited (Some deadline) s = more outs role waited outputs.Disarmed tt tt s
+  disarm-so outs role waited (Some deadline) s = more outs role waited (outputs.Watchdog feedings.Disarmed) tt tt s
 
   pub arm-so : (outs : List Output) (role : RoleFacts) (waited : Option PendingQuestion) (until : Ticks)
       (armable : Bool)
-      → (armable ≡ true → Ground (outputs.Armed until))
+      → (armable ≡ true → Ground (outputs.Watchdog (feedings.Armed until)))
       → Sofar outs role waited → Sofar (armed (if armable then Some until else None) outs) role waited
-  arm-so outs role waited until true is s = more outs role waited (outputs.Armed until) (is refl) tt s
+  arm-so outs role waited until true is s =
+      more outs role waited (outputs.Watchdog (feedings.Armed until)) (is refl) tt s
   arm-so outs role waited until false is s = s
 
   pub feed-so : (outs : List Output) (role : RoleFacts) (waited : Option PendingQuestion) (until : Ticks)
       (armable : Bool)
-      → (armable ≡ true → Ground (outputs.Fed until))
+      → (armable ≡ true → Ground (outputs.Watchdog (feedings.Fed until)))
       → Sofar outs role waited → Sofar (fed_until (if armable then Some until else None) outs) role waited
-  feed-so outs role waited until true is s = more outs role waited (outputs.Fed until) (is refl) tt s
+  feed-so outs role waited until true is s =
+      more outs role waited (outputs.Watchdog (feedings.Fed until)) (is refl) tt s
   feed-so outs role waited until false is s = s
 
   pub disabled-so : (outs : List Output) (role : RoleFacts) (waited : Option PendingQuestion) (renews : Bool)
       (deadline : Option Ticks) → Sofar outs role waited → Sofar (disabling_told renews deadline outs) role waited
   disabled-so outs role waited renews None s = s
-  disabled-so outs role waited true (Some deadline) s = more (with_output outputs.Disarmed outs) role waited
-      (outputs.Note agent_notes.DisablesWatchdog) tt tt (more outs role waited outputs.Disarmed tt tt s)
-  disabled-so outs role waited false (Some deadline) s = more outs role waited outputs.Disarmed tt tt s
+  disabled-so outs role waited true (Some deadline) s =
+      more (with_output (outputs.Watchdog feedings.Disarmed) outs) role waited
+      (outputs.Note (notings.Agent agent_notes.DisablesWatchdog)) tt tt
+      (more outs role waited (outputs.Watchdog feedings.Disarmed) tt tt s)
+  disabled-so outs role waited false (Some deadline) s =
+      more outs role waited (outputs.Watchdog feedings.Disarmed) tt tt s
 
   touch-so : (x : Outcome) → So x → So (touching x)
   touch-so x s = more x.outputs x.role x.knows.waited _ tt tt s
 
   pub end-so : (reason : Reason) (x : Outcome) → So x
-      → Sofar (with_output (outputs.Stop reason) x.outputs) x.role x.knows.waited
-  end-so reason x s = more x.outputs x.role x.knows.waited (outputs.Stop reason) tt tt s
+      → Sofar (with_output (outputs.Server (orders.Stop reason)) x.outputs) x.role x.knows.waited
+  end-so reason x s = more x.outputs x.role x.knows.waited (outputs.Server (orders.Stop reason)) tt tt s
 
   -- asks of other members
   ask-so : (who : Who) (sequence : ℕ) (member : Option MemberId) (outs : List Output) (role : RoleFacts)
@@ -165,8 +179,9 @@ module _ (now : Ticks) (heard : Heard) (b : Outcome) where
   ask-so who sequence None outs role waited s = s
   ask-so who sequence (Some member) outs role waited s =
       if-cases (λ (l : List Output). Sofar l role waited) (is_other who member)
-      (with_output (outputs.Send (targets.Member member) sequence bodies.Ask) outs) outs
-      (λ _. more outs role waited (outputs.Send (targets.Member member) sequence bodies.Ask) tt tt s) (λ _. s)
+      (with_output (outputs.Message (outgoing.Send (targets.Member member) sequence bodies.Ask)) outs) outs
+      (λ _. more outs role waited (outputs.Message (outgoing.Send (targets.Member member) sequence bodies.Ask)) tt tt s)
+      (λ _. s)
 
   asks-so : (who : Who) (sequence count : ℕ) (outs : List Output) (role : RoleFacts) (waited : Option PendingQuestion)
       → Sofar outs role waited → Sofar (asking_first who sequence count outs) role waited
@@ -188,9 +203,11 @@ module _ (now : Ticks) (heard : Heard) (b : Outcome) where
   request-so members sequence ttl None outs role waited may s = s
   request-so members sequence ttl (Some member) outs role waited may s =
       if-cases (λ (l : List Output). Sofar l role waited) (has members member.number)
-      (with_output (outputs.Send (targets.Member member) sequence (bodies.FailsafeRequest ttl)) outs) outs
+      (with_output (outputs.Message (outgoing.Send (targets.Member member) sequence (bodies.FailsafeRequest ttl))) outs)
+      outs
       (λ known. more outs role waited
-      (outputs.Send (targets.Member member) sequence (bodies.FailsafeRequest ttl)) (may member known) tt s)
+      (outputs.Message (outgoing.Send (targets.Member member) sequence (bodies.FailsafeRequest ttl)))
+      (may member known) tt s)
       (λ _. s)
 
   requests-so : (members : MemberSet) (sequence : ℕ) (ttl : Ticks) (count : ℕ) (outs : List Output)
@@ -204,10 +221,11 @@ module _ (now : Ticks) (heard : Heard) (b : Outcome) where
 
   by-failsafe-so : (outs : List Output) (role : RoleFacts) (waited : Option PendingQuestion) (until : Ticks)
       (members : MemberSet) (sequence : ℕ) (since : Ticks) (armable : Bool)
-      → (armable ≡ true → Ground (outputs.FedByFailsafe until members sequence since)) → Sofar outs role waited
+      → (armable ≡ true → Ground (outputs.Watchdog (feedings.FedByFailsafe until members sequence since)))
+      → Sofar outs role waited
       → Sofar (fed_by_failsafe (if armable then Some until else None) members sequence since outs) role waited
   by-failsafe-so outs role waited until members sequence since true is s =
-      more outs role waited (outputs.FedByFailsafe until members sequence since) (is refl) tt s
+      more outs role waited (outputs.Watchdog (feedings.FedByFailsafe until members sequence since)) (is refl) tt s
   by-failsafe-so outs role waited until members sequence since false is s = s
 
   -- a leader stays primary by the word of the others, or where there are none
@@ -228,15 +246,18 @@ module _ (now : Ticks) (heard : Heard) (b : Outcome) where
         word (record { 0 = now.0 + timeout_of watchdog.margin ttl.0 })
             (ap (λ (m : Machine). span_after now (record { 0 = timeout_of m.watchdog.margin ttl.0 })) same),
       )) (quiet x s) in
-      more _ x.role None outputs.StaysByFailsafe tt tt fed
+      more _ x.role None (outputs.Note notings.StaysByFailsafe) tt tt fed
 
   -- a race is judged by who may create
   judged-so : (x : Outcome) → CreateGround heard b → So x → So (judged now x)
   judged-so x may s = judged-by So now x
       (waits _ x.role None _ refl (more x.outputs x.role None _ may tt (quiet x s)))
       (λ bar. touch-so
-      (record (waiting_no_more x) { outputs = with_output (outputs.Note (agent_notes.DoesNotRace bar)) x.outputs })
-      (more x.outputs x.role None (outputs.Note (agent_notes.DoesNotRace bar)) tt tt (quiet x s)))
+      (record (waiting_no_more x) {
+        outputs =
+            with_output (outputs.Note (notings.Agent (agent_notes.DoesNotRace bar))) x.outputs;
+      })
+      (more x.outputs x.role None (outputs.Note (notings.Agent (agent_notes.DoesNotRace bar))) tt tt (quiet x s)))
 
   -- a leader hands over
   handover-so : (revision : ℕ) (x : Outcome) → All KeepsLeases x.outputs → So x → HandoverRows So now revision x
@@ -244,37 +265,40 @@ module _ (now : Ticks) (heard : Heard) (b : Outcome) where
     kept = quiet x s;
     clears = λ compared. more x.outputs x.role None _ tt tt (quiet x s);
     hands = λ candidate.
-        let told : List Output = with_output (outputs.Note (agent_notes.HandsOver candidate)) x.outputs in
+        let told : List Output =
+        with_output (outputs.Note (notings.Agent (agent_notes.HandsOver candidate))) x.outputs in
         let again : All KeepsLeases told =
-        All-push KeepsLeases x.outputs (outputs.Note (agent_notes.HandsOver candidate)) all tt in
-        with-role (with_output outputs.ShutDown told) x.role (Ending revision HandOver) None
-        (All-push KeepsLeases told outputs.ShutDown again tt)
-        (more told x.role None outputs.ShutDown tt tt
-        (more x.outputs x.role None (outputs.Note (agent_notes.HandsOver candidate)) tt tt (quiet x s)));
+        All-push KeepsLeases x.outputs (outputs.Note (notings.Agent (agent_notes.HandsOver candidate))) all tt in
+        with-role (with_output (outputs.Server orders.ShutDown) told) x.role (Ending revision HandOver) None
+        (All-push KeepsLeases told (outputs.Server orders.ShutDown) again tt)
+        (more told x.role None (outputs.Server orders.ShutDown) tt tt
+        (more x.outputs x.role None (outputs.Note (notings.Agent (agent_notes.HandsOver candidate))) tt tt
+        (quiet x s)));
   }
 
   pub reply-so : (x : Outcome) → So x → ReplyRows So x
   reply-so x s = record {
     kept = s;
-    answers = λ request told. more x.outputs x.role x.knows.waited (outputs.Told request told) tt tt s;
+    answers = λ request told. more x.outputs x.role x.knows.waited (outputs.Tell (tellings.Told request told)) tt tt s;
   }
 
   pub postpone-so : (held : ℕ) (x : Outcome) → lease_of x.role ≡ Some held → So x → So (postpones held x)
   postpone-so held x has s =
       let outs : List Output = disarmed x.machine.watchdog.deadline x.outputs in
-      from-lease (with_output (outputs.Note agent_notes.PostponesPromotion) outs) x.role
+      from-lease (with_output (outputs.Note (notings.Agent agent_notes.PostponesPromotion)) outs) x.role
       (Holder held) x.knows.waited held has
-      (more outs x.role x.knows.waited (outputs.Note agent_notes.PostponesPromotion) tt tt
+      (more outs x.role x.knows.waited (outputs.Note (notings.Agent agent_notes.PostponesPromotion)) tt tt
       (disarm-so x.outputs x.role x.knows.waited x.machine.watchdog.deadline s))
 
-  pub begin-so : (revision : ℕ) (x : Outcome) → Ground outputs.Begin → x.knows.turn_settings ≡ b.knows.turn_settings
+  pub begin-so : (revision : ℕ) (x : Outcome) → Ground (outputs.Server orders.Begin)
+      → x.knows.turn_settings ≡ b.knows.turn_settings
       → All KeepsLeases x.outputs → So x → So (begins now revision x)
   begin-so revision x may settings all s =
       let required : Output = outputs.Require (unnamed x.knows.turn_settings) in
       let outs : List Output = with_output required x.outputs in
-      with-role (with_output outputs.Begin outs) x.role (Leader revision) x.knows.waited
-      (All-push KeepsLeases outs outputs.Begin (All-push KeepsLeases x.outputs required all tt) tt)
-      (more outs x.role x.knows.waited outputs.Begin may tt
+      with-role (with_output (outputs.Server orders.Begin) outs) x.role (Leader revision) x.knows.waited
+      (All-push KeepsLeases outs (outputs.Server orders.Begin) (All-push KeepsLeases x.outputs required all tt) tt)
+      (more outs x.role x.knows.waited (outputs.Server orders.Begin) may tt
       (more x.outputs x.role x.knows.waited required (Begins may (ap unnamed settings)) tt s))
 
   follow-so : (x : Outcome) (leader : MemberId) → x.machine ≡ b.machine → So x → So (follows now leader x)
@@ -284,12 +308,13 @@ module _ (now : Ticks) (heard : Heard) (b : Outcome) where
       let z : So y = without x.outputs x.role Follower x.knows.waited refl s in
       let row : Outcome = follow_row may now leader x.machine.server.state y in
       let told : So (touching row) = touch-so row (follow-by So may now leader x.machine.server.state y z
-      (more x.outputs Follower x.knows.waited (outputs.StartReplica (Some leader)) tt tt z)
-      (more x.outputs Follower x.knows.waited (outputs.Follow leader) tt tt z)
-      (more x.outputs Follower x.knows.waited outputs.ShutDown tt tt z)) in
+      (more x.outputs Follower x.knows.waited (outputs.Server (orders.StartReplica (Some leader))) tt tt z)
+      (more x.outputs Follower x.knows.waited (outputs.Server (orders.Follow leader)) tt tt z)
+      (more x.outputs Follower x.knows.waited (outputs.Server orders.ShutDown) tt tt z)) in
       repaired-fitting So x.knows.settings leader x.machine.server (touching row) told
       (λ repair fits. more (touching row).outputs (touching row).role (touching row).knows.waited
-      (outputs.Repair leader repair) (subst (λ (m : Machine). IsFitting repair m.server) same fits) tt told)
+      (outputs.Server (orders.Repair leader repair))
+      (subst (λ (m : Machine). IsFitting repair m.server) same fits) tt told)
 
   free-so : (x : Outcome) → HearsNoLeader heard → may_create b.role ≡ true → So x → So (finds_free now x)
   free-so x free may s =
@@ -297,11 +322,13 @@ module _ (now : Ticks) (heard : Heard) (b : Outcome) where
       let z : So y = without x.outputs x.role Follower x.knows.waited refl s in
       free-by So now y (record {
         starts = touch-so (starting_replica now None y)
-            (more x.outputs Follower x.knows.waited (outputs.StartReplica None) tt tt z);
+            (more x.outputs Follower x.knows.waited (outputs.Server (orders.StartReplica None)) tt tt z);
         touches = touch-so y z;
         bars = λ bar. touch-so (record y {
-          outputs = with_output (outputs.Note (agent_notes.DoesNotRace bar)) y.outputs;
-        }) (more x.outputs Follower x.knows.waited (outputs.Note (agent_notes.DoesNotRace bar)) tt tt z);
+          outputs = with_output (outputs.Note (notings.Agent (agent_notes.DoesNotRace bar))) y.outputs;
+        })
+            (more x.outputs Follower x.knows.waited
+            (outputs.Note (notings.Agent (agent_notes.DoesNotRace bar))) tt tt z);
         judges = judged-so (unheard y) (Finds free may) z;
         asks = record {
           grounds =
@@ -477,10 +504,12 @@ module _ (now : Ticks) (heard : Heard) (b : Outcome) where
       → AsksHold now heard (span_after now ttl) → Fits b.role (live b.machine.server.state) → So b
       → So (failsafe_asked now from incarnation sequence ttl b)
   stay-asked-so from incarnation sequence ttl asked fits s = failsafe-asked-by So now from incarnation sequence ttl b
-      (λ may. more _ b.role b.knows.waited (outputs.FailsafeAnswer from incarnation sequence true) tt tt
-      (more b.outputs b.role b.knows.waited (outputs.HoldTaken (span_after now ttl) from sequence)
+      (λ may.
+      more _ b.role b.knows.waited (outputs.Message (outgoing.FailsafeAnswer from incarnation sequence true)) tt tt
+      (more b.outputs b.role b.knows.waited (outputs.Tell (tellings.HoldTaken (span_after now ttl) from sequence))
       (hold-ground (span_after now ttl) asked fits may) tt s))
-      (more b.outputs b.role b.knows.waited (outputs.FailsafeAnswer from incarnation sequence false) tt tt s)
+      (more b.outputs b.role b.knows.waited
+      (outputs.Message (outgoing.FailsafeAnswer from incarnation sequence false)) tt tt s)
 
   pub refused-so : (sequence : ℕ) (x : Outcome) → So x → So (refused now sequence x)
   refused-so sequence x s = refused-when So now sequence x (record {
@@ -492,7 +521,7 @@ module _ (now : Ticks) (heard : Heard) (b : Outcome) where
     follower = λ held _. without x.outputs x.role Follower None refl (quiet x s);
     ready = λ held is. postpone-so held (waiting_no_more x) (rw is refl) (quiet x s);
     runs_on = λ _. without _ x.role Unleased None refl
-        (more x.outputs x.role None (outputs.Note agent_notes.RunsWithoutKey) tt tt (quiet x s));
+        (more x.outputs x.role None (outputs.Note (notings.Agent agent_notes.RunsWithoutKey)) tt tt (quiet x s));
   })
 
   -- ---- the answer to a read
@@ -533,12 +562,12 @@ module _ (now : Ticks) (heard : Heard) (b : Outcome) where
         follows = λ leader _ _. follow-so read leader.holder like.machine r;
         free = λ none may. free-so read (free none) (ap may_create (sym like.role) ∙ may) r;
         runs_on = λ _. without _ x.role Unleased None refl
-            (more x.outputs x.role None (outputs.Note agent_notes.RunsWithoutKey) tt tt r);
+            (more x.outputs x.role None (outputs.Note (notings.Agent agent_notes.RunsWithoutKey)) tt tt r);
         asks_on = λ none primary paused.
             let runs : So (running_without_key read) = without _ x.role Unleased None refl
-            (more x.outputs x.role None (outputs.Note agent_notes.RunsWithoutKey) tt tt r) in
+            (more x.outputs x.role None (outputs.Note (notings.Agent agent_notes.RunsWithoutKey)) tt tt r) in
             waits _ Unleased None _ refl
-            (more (with_output (outputs.Note agent_notes.RunsWithoutKey) x.outputs) Unleased None _
+            (more (with_output (outputs.Note (notings.Agent agent_notes.RunsWithoutKey)) x.outputs) Unleased None _
             (RunsOn (free none) (ap has_primary (sym like.role) ∙ primary) (paused-by x snapshot like paused)) tt runs);
       })
 
@@ -550,18 +579,21 @@ module _ (now : Ticks) (heard : Heard) (b : Outcome) where
       more b.outputs b.role b.knows.waited _ tt tt s
   operated-so request (requests.Configuration config) reinit holds fits s =
       more b.outputs b.role b.knows.waited _ tt tt s
-  operated-so request requests.Restart reinit holds fits s = more _ b.role b.knows.waited (outputs.Told request _) tt tt
-      (more b.outputs b.role b.knows.waited (outputs.Restart (is_primary b.machine.server.state)) tt tt s)
-  operated-so request requests.Reinit reinit holds fits s = more _ b.role b.knows.waited (outputs.Told request _) tt tt
-      (more b.outputs b.role b.knows.waited outputs.Wipe (reinit refl) tt s)
+  operated-so request requests.Restart reinit holds fits s =
+      more _ b.role b.knows.waited (outputs.Tell (tellings.Told request _)) tt tt
+      (more b.outputs b.role b.knows.waited
+      (outputs.Server (orders.Restart (is_primary b.machine.server.state))) tt tt s)
+  operated-so request requests.Reinit reinit holds fits s =
+      more _ b.role b.knows.waited (outputs.Tell (tellings.Told request _)) tt tt
+      (more b.outputs b.role b.knows.waited (outputs.Server orders.Wipe) (reinit refl) tt s)
   operated-so request (requests.Hold from ttl) reinit holds fits s =
       asked-to-hold-by So now request (record { 0 = ttl }) b
-      (λ text may. more _ b.role b.knows.waited (outputs.Told request _) tt tt
+      (λ text may. more _ b.role b.knows.waited (outputs.Tell (tellings.Told request _)) tt tt
       (more b.outputs b.role b.knows.waited
-      (outputs.HoldTaken (span_after now (record { 0 = ttl })) b.knows.who.me unnumbered)
+      (outputs.Tell (tellings.HoldTaken (span_after now (record { 0 = ttl })) b.knows.who.me unnumbered))
       (hold-ground (span_after now (record { 0 = ttl })) (holds (span_after now (record { 0 = ttl })) refl) fits may)
       tt s))
-      (λ text. more b.outputs b.role b.knows.waited (outputs.Told request _) tt tt s)
+      (λ text. more b.outputs b.role b.knows.waited (outputs.Tell (tellings.Told request _)) tt tt s)
 
   -- ---- what precedes the input's own rows
   pub like-self : Like b
@@ -576,7 +608,7 @@ module _ (now : Ticks) (heard : Heard) (b : Outcome) where
   -- ---- a whole input
   -- what is told of an input but of a wipe
   pub grounds-of : (after : Outcome) → So after
-      → (Contains after.outputs outputs.Wipe → live b.machine.server.state ≡ true →
+      → (Contains after.outputs (outputs.Server orders.Wipe) → live b.machine.server.state ≡ true →
       after.machine.server ≡ b.machine.server)
       → (StayGround now heard b → ((others_known b.knows).bits ≡ 0 → ⊥) → AsksEachKnown b after)
       → HasGrounds now heard b after
@@ -596,4 +628,5 @@ module _ (now : Ticks) (heard : Heard) (b : Outcome) where
       → (StayGround now heard b → ((others_known b.knows).bits ≡ 0 → ⊥) → AsksEachKnown b after) → So after
       → HasGrounds now heard b after
   unwiped after none stays s = grounds-of after s
-      (λ wipes lives. absurd (none (All-contains Ground after.outputs outputs.Wipe s.grounds wipes))) stays
+      (λ wipes lives. absurd (none (All-contains Ground after.outputs (outputs.Server orders.Wipe) s.grounds wipes)))
+      stays

@@ -10,13 +10,14 @@ use Rattle.wal_model.specs.declared.entry.HistoryPoint.{HistoryPoint}
 use Rattle.pg_model.specs.declared.status.ServerStatus.{ServerStatus}
 use Rattle.pg_model.specs.Status.{status_wiped}
 use Rattle.cluster_view.specs.Snapshots.{SnapshotFacts}
-use Rattle.failsafe.specs.Asks.{has}
 use Rattle.agent_model.specs.declared.heard.Heard.{Heard}
 use Rattle.agent_model.specs.declared.heard.Heard.TheVariants as heards
 use Rattle.agent_model.specs.declared.knowledge.Knowledge.{Knowledge}
 use Rattle.agent_model.specs.declared.machine.Machine.{Machine}
 use Rattle.agent_model.specs.declared.output.Output.{Output}
 use Rattle.agent_model.specs.declared.output.Output.TheVariants as outputs
+use Rattle.agent_model.specs.declared.output.Feeding.TheVariants as feedings
+use Rattle.agent_model.specs.declared.output.ServerOrder.TheVariants as orders
 use Rattle.agent_model.specs.declared.why.Why.{Why}
 use Rattle.agent_model.specs.declared.why.Why.TheVariants.{HandOver, Lost}
 use Rattle.agent_model.specs.Acting.{disarmed}
@@ -41,10 +42,11 @@ use Rattle.agent_rules.proofs.Reaching.{none-out, wake-asks-each}
 abbrev Fresh : Outcome → Type 0
 Fresh x = All KeepsLeases x.outputs ⊎ ((lease_of x.role ≡ None) × (x.knows.waited ≡ None))
 
-disarmed-all : (P : Output → Type 0) → P outputs.Disarmed → (deadline : Option Ticks) (outs : List Output)
+disarmed-all : (P : Output → Type 0) → P (outputs.Watchdog feedings.Disarmed)
+    → (deadline : Option Ticks) (outs : List Output)
     → All P outs → All P (disarmed deadline outs)
 disarmed-all P is None outs all = all
-disarmed-all P is (Some deadline) outs all = All-push P outs outputs.Disarmed all is
+disarmed-all P is (Some deadline) outs all = All-push P outs (outputs.Watchdog feedings.Disarmed) all is
 
 ended-grounds : (now : Ticks) (heard : Heard) (b : Outcome) (why : Why) (held : ℕ) (o : Outcome)
     → All (HasGround now heard b) o.outputs → All (HasGround now heard b) (has_ended why held o).outputs
@@ -186,7 +188,7 @@ module _ (now : Ticks) (points : List HistoryPoint) (role : RoleFacts) (knows : 
       let after : Outcome = operated now action.request action.asked First in
       grounds-of now heard First after s
       (λ wipes lives. operated-wipes now action.request action.asked First
-      (All-contains (HasGround now heard First) after.outputs outputs.Wipe s.grounds wipes) lives)
+      (All-contains (HasGround now heard First) after.outputs (outputs.Server orders.Wipe) s.grounds wipes) lives)
       (none-out now heard First after refl)
 
 pub input-has-grounds : (now : Ticks) (points : List HistoryPoint) (heard : Heard) (role : RoleFacts)

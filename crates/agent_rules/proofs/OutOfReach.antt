@@ -21,6 +21,7 @@ use Rattle.agent_model.specs.declared.knowledge.Question.TheVariants.{Reading, C
 use Rattle.agent_model.specs.declared.knowledge.PendingQuestion.{PendingQuestion}
 use Rattle.agent_model.specs.declared.operating.Told.{Told}
 use Rattle.agent_model.specs.declared.output.Output.TheVariants as outputs
+use Rattle.agent_model.specs.declared.output.ServerOrder.TheVariants as orders
 use Rattle.agent_model.specs.declared.why.Why.{Why}
 use Rattle.agent_model.specs.declared.why.Why.TheVariants.{HandOver, Lost}
 use Rattle.agent_model.specs.Acting.{arming, ending_server, is_refusing, seconds_after, waiting_no_more}
@@ -91,8 +92,10 @@ module _ (reason : Reason) (asks : Question → Bool) (Known : Knowledge → Typ
   ended-turn o =
       let left : Outcome = leaves reason now revision (waiting_no_more o) in
       turn-by (Ends o) now left (record {
-        kept = record { ends = Contains-push o.outputs (outputs.Stop reason); server = refl; role = refl };
-        quiet = record { ends = Contains-push o.outputs (outputs.Stop reason); server = refl; role = refl };
+        kept =
+            record { ends = Contains-push o.outputs (outputs.Server (orders.Stop reason)); server = refl; role = refl };
+        quiet =
+            record { ends = Contains-push o.outputs (outputs.Server (orders.Stop reason)); server = refl; role = refl };
         reads = λ active. absurd (no-way active);
       })
 
@@ -204,7 +207,11 @@ refused-leader-ends now revision sequence points from sent o is =
     ∙ ap (λ (r : RoleFacts). accepted_failsafe now is.waited from false sent r o) is.role
     ∙ unacknowledged-ends now revision o is.unpaused is.role in
     subst (EndsServer FailsafeNotAcknowledged now revision o) (sym same)
-    (record { ends = Contains-push o.outputs (outputs.Stop FailsafeNotAcknowledged); server = refl; role = refl })
+    (record {
+      ends = Contains-push o.outputs (outputs.Server (orders.Stop FailsafeNotAcknowledged));
+      server = refl;
+      role = refl;
+    })
 
 -- ---- how long it waits
 -- over what precedes the input, `b`

@@ -16,6 +16,7 @@ use Rattle.store_keys.specs.declared.config.Config.{Config}
 use Rattle.lease_store.specs.declared.granted.Granted.{Granted}
 use Rattle.wal_model.specs.declared.entry.HistoryPoint.{HistoryPoint}
 use Rattle.pg_model.specs.Running.{is_primary}
+use Rattle.pg_model.specs.Facts.{is_replica}
 use Rattle.cluster_view.specs.KeyValues.{failover_in}
 use Rattle.cluster_view.specs.Naming.{is_candidate}
 use Rattle.cluster_view.specs.Snapshots.{SnapshotFacts}
@@ -28,6 +29,11 @@ use Rattle.agent_model.specs.declared.knowledge.Knowledge.{Knowledge}
 use Rattle.agent_model.specs.declared.machine.Machine.{Machine}
 use Rattle.agent_model.specs.declared.output.Output.{Output}
 use Rattle.agent_model.specs.declared.output.Output.TheVariants as outputs
+use Rattle.agent_model.specs.declared.output.Feeding.TheVariants as feedings
+use Rattle.agent_model.specs.declared.output.Noting.TheVariants as notings
+use Rattle.agent_model.specs.declared.output.Outgoing.TheVariants as outgoing
+use Rattle.agent_model.specs.declared.output.ServerOrder.TheVariants as orders
+use Rattle.agent_model.specs.declared.output.Telling.TheVariants as tellings
 use Rattle.agent_model.specs.declared.output.Repair.{Repair}
 use Rattle.agent_model.specs.declared.output.Repair.TheVariants.{Rewind, Clone}
 use Rattle.agent_model.specs.declared.output.Target.TheVariants as targets
@@ -43,7 +49,7 @@ use Rattle.agent_model.specs.Decisions.{arms, gives_back, granted, may_take, ref
 use Rattle.agent_model.specs.HandingOver.{asking_whom}
 use Rattle.agent_model.specs.Operators.{given_up, learned, looked, operated, unnumbered}
 use Rattle.agent_model.specs.Outputs.{with_output}
-use Rattle.agent_model.specs.Pausing.{ends_forks, is_paused, is_replica, is_wanted, lets_rewind, may_start_behind, disabling_told, disabling_watchdog}
+use Rattle.agent_model.specs.Pausing.{ends_forks, is_paused, is_wanted, lets_rewind, may_start_behind, disabling_told, disabling_watchdog}
 use Rattle.agent_model.specs.Peers.{answered, keeping}
 use Rattle.agent_model.specs.Racing.{asking_others, bar_of, can_start, finds_free, judged, races_unless, starts_alone, unheard}
 use Rattle.agent_model.specs.Repairs.{is_upstream, repair_in, repair_of, repaired_if, repairing, rewind_if}
@@ -62,13 +68,13 @@ use Rattle.agent_rules.proofs.Taking.{first-true, not-true, one-true, replica, s
 
 -- an output that orders nothing of the server, but to follow another one, to be copied, or whom its commits wait for
 abbrev IsCalm : Output → Type 0
-IsCalm (outputs.Stop reason) = ⊥
-IsCalm outputs.ShutDown = ⊥
-IsCalm (outputs.StartReplica leader) = ⊥
-IsCalm outputs.Begin = ⊥
-IsCalm (outputs.Repair leader repair) = ⊥
-IsCalm (outputs.Restart as_primary) = ⊥
-IsCalm outputs.Wipe = ⊥
+IsCalm (outputs.Server (orders.Stop reason)) = ⊥
+IsCalm (outputs.Server orders.ShutDown) = ⊥
+IsCalm (outputs.Server (orders.StartReplica leader)) = ⊥
+IsCalm (outputs.Server orders.Begin) = ⊥
+IsCalm (outputs.Server (orders.Repair leader repair)) = ⊥
+IsCalm (outputs.Server (orders.Restart as_primary)) = ⊥
+IsCalm (outputs.Server orders.Wipe) = ⊥
 IsCalm _ = Unit {0}
 
 abbrev Calm : List Output → Type 0
@@ -79,46 +85,49 @@ calmly outs output is all = All-push IsCalm outs output all is
 
 calm-restrained : (heard : Heard) (b : Outcome) (role : RoleFacts) (output : Output) → IsCalm output
     → IsRestrained heard b role output
-calm-restrained heard b role (outputs.Stop reason) is = absurd is
-calm-restrained heard b role outputs.ShutDown is = absurd is
-calm-restrained heard b role (outputs.StartReplica leader) is = absurd is
-calm-restrained heard b role outputs.Begin is = absurd is
-calm-restrained heard b role (outputs.Repair leader repair) is = absurd is
-calm-restrained heard b role (outputs.Restart as_primary) is = absurd is
-calm-restrained heard b role outputs.Wipe is = absurd is
+calm-restrained heard b role (outputs.Server (orders.Stop reason)) is = absurd is
+calm-restrained heard b role (outputs.Server orders.ShutDown) is = absurd is
+calm-restrained heard b role (outputs.Server (orders.StartReplica leader)) is = absurd is
+calm-restrained heard b role (outputs.Server orders.Begin) is = absurd is
+calm-restrained heard b role (outputs.Server (orders.Repair leader repair)) is = absurd is
+calm-restrained heard b role (outputs.Server (orders.Restart as_primary)) is = absurd is
+calm-restrained heard b role (outputs.Server orders.Wipe) is = absurd is
 calm-restrained heard b role _ is = tt
 
 calm-disarmed : (deadline : Option Ticks) (outs : List Output) → Calm outs → Calm (disarmed deadline outs)
 calm-disarmed None outs all = all
-calm-disarmed (Some deadline) outs all = calmly outs outputs.Disarmed tt all
+calm-disarmed (Some deadline) outs all = calmly outs (outputs.Watchdog feedings.Disarmed) tt all
 
 calm-armed : (deadline : Option Ticks) (outs : List Output) → Calm outs → Calm (armed deadline outs)
 calm-armed None outs all = all
-calm-armed (Some until) outs all = calmly outs (outputs.Armed until) tt all
+calm-armed (Some until) outs all = calmly outs (outputs.Watchdog (feedings.Armed until)) tt all
 
 calm-fed : (deadline : Option Ticks) (outs : List Output) → Calm outs → Calm (fed_until deadline outs)
 calm-fed None outs all = all
-calm-fed (Some until) outs all = calmly outs (outputs.Fed until) tt all
+calm-fed (Some until) outs all = calmly outs (outputs.Watchdog (feedings.Fed until)) tt all
 
 calm-by-failsafe : (deadline : Option Ticks) (members : MemberSet) (sequence : ℕ) (since : Ticks) (outs : List Output)
     → Calm outs → Calm (fed_by_failsafe deadline members sequence since outs)
 calm-by-failsafe None members sequence since outs all = all
 calm-by-failsafe (Some until) members sequence since outs all =
-    calmly outs (outputs.FedByFailsafe until members sequence since) tt all
+    calmly outs (outputs.Watchdog (feedings.FedByFailsafe until members sequence since)) tt all
 
 calm-disabled : (renews : Bool) (deadline : Option Ticks) (outs : List Output) → Calm outs
     → Calm (disabling_told renews deadline outs)
 calm-disabled renews None outs all = all
-calm-disabled true (Some deadline) outs all = calmly (with_output outputs.Disarmed outs)
-    (outputs.Note agent_notes.DisablesWatchdog) tt (calmly outs outputs.Disarmed tt all)
-calm-disabled false (Some deadline) outs all = calmly outs outputs.Disarmed tt all
+calm-disabled true (Some deadline) outs all = calmly (with_output (outputs.Watchdog feedings.Disarmed) outs)
+    (outputs.Note (notings.Agent agent_notes.DisablesWatchdog)) tt
+    (calmly outs (outputs.Watchdog feedings.Disarmed) tt all)
+calm-disabled false (Some deadline) outs all = calmly outs (outputs.Watchdog feedings.Disarmed) tt all
 
 calm-ask : (who : Who) (sequence : ℕ) (member : Option MemberId) (outs : List Output) → Calm outs
     → Calm (asking_one who sequence member outs)
 calm-ask who sequence None outs all = all
 calm-ask who sequence (Some member) outs all =
-    if-cases Calm (is_other who member) (with_output (outputs.Send (targets.Member member) sequence bodies.Ask) outs)
-    outs (λ _. calmly outs (outputs.Send (targets.Member member) sequence bodies.Ask) tt all) (λ _. all)
+    if-cases Calm (is_other who member)
+    (with_output (outputs.Message (outgoing.Send (targets.Member member) sequence bodies.Ask)) outs)
+    outs (λ _. calmly outs (outputs.Message (outgoing.Send (targets.Member member) sequence bodies.Ask)) tt all)
+    (λ _. all)
 
 calm-asks : (who : Who) (sequence count : ℕ) (outs : List Output) → Calm outs
     → Calm (asking_first who sequence count outs)
@@ -198,21 +207,22 @@ module _ (now : Ticks) (heard : Heard) (b : Outcome) where
 
   judged-calm : (x : Outcome) → Calm x.outputs → R (judged now x)
   judged-calm x all = judged-by R now x (calm _ _ _ (calmly x.outputs _ tt all))
-      (λ bar. calm _ _ _ (calmly _ _ tt (calmly x.outputs (outputs.Note (agent_notes.DoesNotRace bar)) tt all)))
+      (λ bar.
+      calm _ _ _ (calmly _ _ tt (calmly x.outputs (outputs.Note (notings.Agent (agent_notes.DoesNotRace bar))) tt all)))
 
   handover-calm : (revision : ℕ) (x : Outcome) → Calm x.outputs → HandoverRows R now revision x
   handover-calm revision x all = record {
     kept = calm x.outputs x.role x.knows.settings all;
     clears = λ compared. calm _ _ _ (calmly x.outputs _ tt all);
-    hands = λ candidate. order (with_output (outputs.Note (agent_notes.HandsOver candidate)) x.outputs)
-        (Ending revision HandOver) x.knows.settings outputs.ShutDown
-        (calmly x.outputs (outputs.Note (agent_notes.HandsOver candidate)) tt all) (λ _. tt);
+    hands = λ candidate. order (with_output (outputs.Note (notings.Agent (agent_notes.HandsOver candidate))) x.outputs)
+        (Ending revision HandOver) x.knows.settings (outputs.Server orders.ShutDown)
+        (calmly x.outputs (outputs.Note (notings.Agent (agent_notes.HandsOver candidate))) tt all) (λ _. tt);
   }
 
   reply-calm : (x : Outcome) → Calm x.outputs → ReplyRows R x
   reply-calm x all = record {
     kept = calm x.outputs x.role x.knows.settings all;
-    answers = λ request told. calm _ _ _ (calmly x.outputs (outputs.Told request told) tt all);
+    answers = λ request told. calm _ _ _ (calmly x.outputs (outputs.Tell (tellings.Told request told)) tt all);
   }
 
   overdue-calm : (x : Outcome) → Calm x.outputs → R (overdue now x)
@@ -226,7 +236,7 @@ module _ (now : Ticks) (heard : Heard) (b : Outcome) where
     unleased = λ _ unpaused. free-of _ _ _ unpaused;
     judges = λ _ _. judged-calm x all;
     ready = λ held _. calm _ _ _
-        (calmly _ (outputs.Note agent_notes.PostponesPromotion) tt
+        (calmly _ (outputs.Note (notings.Agent agent_notes.PostponesPromotion)) tt
         (calm-disarmed x.machine.watchdog.deadline x.outputs all));
     checks = λ held _. handover-calm held x all;
   })
@@ -240,7 +250,7 @@ module _ (now : Ticks) (heard : Heard) (b : Outcome) where
     counts_late = λ _ _ _. calm x.outputs x.role x.knows.settings all;
     stays = λ _ _ waited _ _ since _ _. let c : Outcome = counting from sent x in
         calm _ _ _
-        (calmly _ outputs.StaysByFailsafe tt
+        (calmly _ (outputs.Note notings.StaysByFailsafe) tt
         (calm-by-failsafe (deadline_after now waited.ttl x.machine.watchdog) c.knows.failsafe.members
         waited.sequence since x.outputs all));
     fails = λ _ _ unpaused. free-of _ _ _ unpaused;
@@ -250,9 +260,9 @@ module _ (now : Ticks) (heard : Heard) (b : Outcome) where
       → R (failsafe_asked now from incarnation sequence ttl x)
   stay-asked-calm from incarnation sequence ttl x all = failsafe-asked-by R now from incarnation sequence ttl x
       (λ _. calm _ _ _
-      (calmly _ (outputs.FailsafeAnswer from incarnation sequence true) tt
-      (calmly x.outputs (outputs.HoldTaken (span_after now ttl) from sequence) tt all)))
-      (calm _ _ _ (calmly x.outputs (outputs.FailsafeAnswer from incarnation sequence false) tt all))
+      (calmly _ (outputs.Message (outgoing.FailsafeAnswer from incarnation sequence true)) tt
+      (calmly x.outputs (outputs.Tell (tellings.HoldTaken (span_after now ttl) from sequence)) tt all)))
+      (calm _ _ _ (calmly x.outputs (outputs.Message (outgoing.FailsafeAnswer from incarnation sequence false)) tt all))
 
   turn-calm : (x : Outcome) → R x → R (turned now x)
   turn-calm x r =
@@ -266,7 +276,8 @@ module _ (now : Ticks) (heard : Heard) (b : Outcome) where
   starts-calm true leader x over all =
       if-cases R x.machine.server.diverged x (starting_replica now (Some leader) x)
       (λ _. calm x.outputs x.role x.knows.settings all)
-      (λ _. order x.outputs x.role x.knows.settings (outputs.StartReplica (Some leader)) all (over refl))
+      (λ _.
+      order x.outputs x.role x.knows.settings (outputs.Server (orders.StartReplica (Some leader))) all (over refl))
 
   anew-calm : (leader : MemberId) (x : Outcome) → Calm x.outputs → R (follows_anew now leader x)
   anew-calm leader x all =
@@ -277,7 +288,7 @@ module _ (now : Ticks) (heard : Heard) (b : Outcome) where
             absurd (no-fork x.knows.settings paused
             (second-true x.machine.server.diverged (ends_forks x.knows.settings) ends));
       }) (λ _. calm x.outputs x.role x.knows.settings all))
-      (λ _. calm _ _ _ (calmly x.outputs (outputs.Follow leader) tt all))
+      (λ _. calm _ _ _ (calmly x.outputs (outputs.Server (orders.Follow leader)) tt all))
 
   row-calm : (may : Bool) (leader : MemberId) (state : State) (x : Outcome)
       → (may ≡ true → is_paused x.knows ≡ true → b.knows.handed_over ≡ true) → Calm x.outputs
@@ -293,7 +304,8 @@ module _ (now : Ticks) (heard : Heard) (b : Outcome) where
   -- the order of a repair behind that
   repair-calm : (leader : MemberId) (repair : Repair) (x : Outcome)
       → (repair ≡ Rewind → is_paused x.knows ≡ true → ⊥) → R x → R (repairing leader repair x)
-  repair-calm leader Clone x lets r = behind x.outputs x.role x.knows.settings (outputs.Repair leader Clone) tt r
+  repair-calm leader Clone x lets r =
+      behind x.outputs x.role x.knows.settings (outputs.Server (orders.Repair leader Clone)) tt r
   repair-calm leader Rewind x lets r = record { all = λ paused. absurd (lets refl paused) }
 
   repaired-calm : (leader : MemberId) (found : Option Repair) (x : Outcome)
@@ -333,7 +345,7 @@ module _ (now : Ticks) (heard : Heard) (b : Outcome) where
       (λ _. judged-calm (unheard x) all)
       (λ _. calm _ _ _ (calm-asks x.knows.who (x.knows.sequence + 1) MOST_MEMBERS x.outputs all))
   raced-calm (Some bar) x all =
-      calm _ _ _ (calmly _ _ tt (calmly x.outputs (outputs.Note (agent_notes.DoesNotRace bar)) tt all))
+      calm _ _ _ (calmly _ _ tt (calmly x.outputs (outputs.Note (notings.Agent (agent_notes.DoesNotRace bar))) tt all))
 
   free-calm : (x : Outcome) → Calm x.outputs → R (finds_free now x)
   free-calm x all =
@@ -358,9 +370,10 @@ module _ (now : Ticks) (heard : Heard) (b : Outcome) where
         touches = touched read (calm read.outputs read.role read.knows.settings all);
         follows = λ leader _ _. follow-calm read leader.holder same all;
         free = λ _ _. free-calm read all;
-        runs_on = λ _. calm _ _ _ (calmly x.outputs (outputs.Note agent_notes.RunsWithoutKey) tt all);
+        runs_on = λ _. calm _ _ _ (calmly x.outputs (outputs.Note (notings.Agent agent_notes.RunsWithoutKey)) tt all);
         asks_on =
-            λ _ _ _. calm _ _ _ (calmly _ _ tt (calmly x.outputs (outputs.Note agent_notes.RunsWithoutKey) tt all));
+            λ _ _ _. calm _ _ _
+            (calmly _ _ tt (calmly x.outputs (outputs.Note (notings.Agent agent_notes.RunsWithoutKey)) tt all));
       })
 
   refused-calm : (sequence : ℕ) (x : Outcome) → Calm x.outputs → R (refused now sequence x)
@@ -371,9 +384,9 @@ module _ (now : Ticks) (heard : Heard) (b : Outcome) where
     unleased = λ _ unpaused. free-of _ _ _ unpaused;
     follower = λ held _. calm _ _ _ all;
     ready = λ held _. calm _ _ _
-        (calmly _ (outputs.Note agent_notes.PostponesPromotion) tt
+        (calmly _ (outputs.Note (notings.Agent agent_notes.PostponesPromotion)) tt
         (calm-disarmed x.machine.watchdog.deadline x.outputs all));
-    runs_on = λ _. calm _ _ _ (calmly x.outputs (outputs.Note agent_notes.RunsWithoutKey) tt all);
+    runs_on = λ _. calm _ _ _ (calmly x.outputs (outputs.Note (notings.Agent agent_notes.RunsWithoutKey)) tt all);
   })
 
   answered-calm : (sequence : ℕ) (answer : PeerAnswer) (x : Outcome) → Calm x.outputs
@@ -401,19 +414,22 @@ module _ (now : Ticks) (heard : Heard) (b : Outcome) where
   }
 
   begin-calm : (revision : ℕ) (x : Outcome)
-      → (is_paused x.knows ≡ true → IsRestrained heard b (Leader revision) outputs.Begin) → Calm x.outputs
+      → (is_paused x.knows ≡ true → IsRestrained heard b (Leader revision) (outputs.Server orders.Begin))
+      → Calm x.outputs
       → R (begins now revision x)
   begin-calm revision x may all = order (with_output (outputs.Require (unnamed x.knows.turn_settings)) x.outputs)
-      (Leader revision) x.knows.settings outputs.Begin
+      (Leader revision) x.knows.settings (outputs.Server orders.Begin)
       (calmly x.outputs (outputs.Require (unnamed x.knows.turn_settings)) tt all) may
 
   claim-calm : (revision : ℕ) (x : Outcome)
-      → (is_paused x.knows ≡ true → IsRestrained heard b (Leader revision) outputs.Begin) → Calm x.outputs
+      → (is_paused x.knows ≡ true → IsRestrained heard b (Leader revision) (outputs.Server orders.Begin))
+      → Calm x.outputs
       → R (begins_or_claims now revision x)
   claim-calm revision x may all =
       begins-or-claims-by R now revision x (begin-calm revision x may all)
       (calm _ _ _
-      (calmly (passing x).outputs _ tt (passing-by Calm x all (calmly x.outputs outputs.ClaimsOutsideSync tt all))))
+      (calmly (passing x).outputs _ tt
+      (passing-by Calm x all (calmly x.outputs (outputs.Tell tellings.ClaimsOutsideSync) tt all))))
 
   takes-calm : (ttl : Ticks) (revision : ℕ) (x : Outcome) → is_paused x.knows ≡ false → Calm x.outputs
       → R (takes_key now ttl revision x)
@@ -427,7 +443,7 @@ module _ (now : Ticks) (heard : Heard) (b : Outcome) where
 
   disabling-calm : (renews : Bool) (revision : ℕ) (x : Outcome)
       → (is_wanted x.knows.who.me x.knows.turn_failover x.machine.server.state ≡ true →
-      IsRestrained heard b (Leader revision) outputs.Begin)
+      IsRestrained heard b (Leader revision) (outputs.Server orders.Begin))
       → Calm x.outputs → R (takes_key_in_pause now renews revision x)
   disabling-calm renews revision x may all =
       if-cases R
@@ -446,12 +462,14 @@ module _ (now : Ticks) (heard : Heard) (b : Outcome) where
     may-begin : (revision : ℕ)
         → (is_candidate b.knows.who.me b.knows.turn_failover ≡ true)
         ⊎ (is_candidate b.knows.who.me (failover_in snapshot) ≡ true)
-        → is_replica b.machine.server.state ≡ true → IsRestrained heard b (Leader revision) outputs.Begin
-    may-begin revision named runs = subst (λ (h : Heard). IsRestrained h b (Leader revision) outputs.Begin)
+        → is_replica b.machine.server.state ≡ true
+        → IsRestrained heard b (Leader revision) (outputs.Server orders.Begin)
+    may-begin revision named runs =
+        subst (λ (h : Heard). IsRestrained h b (Leader revision) (outputs.Server orders.Begin))
         (sym is) (named, replica b.machine.server.state runs)
 
     by-turn : (revision : ℕ) → is_wanted b.knows.who.me b.knows.turn_failover b.machine.server.state ≡ true
-        → IsRestrained heard b (Leader revision) outputs.Begin
+        → IsRestrained heard b (Leader revision) (outputs.Server orders.Begin)
     by-turn revision wanted =
         may-begin revision
         (inl (first-true (is_candidate b.knows.who.me b.knows.turn_failover)
@@ -459,7 +477,7 @@ module _ (now : Ticks) (heard : Heard) (b : Outcome) where
         (second-true (is_candidate b.knows.who.me b.knows.turn_failover) (is_replica b.machine.server.state) wanted)
 
     by-snapshot : (revision : ℕ) → may_begin_on_claim Told.knows b.machine.server ≡ true
-        → is_paused Told.knows ≡ true → IsRestrained heard b (Leader revision) outputs.Begin
+        → is_paused Told.knows ≡ true → IsRestrained heard b (Leader revision) (outputs.Server orders.Begin)
     by-snapshot revision may paused =
         let wanted : is_wanted b.knows.who.me (failover_in snapshot) b.machine.server.state ≡ true =
         sym (ap (λ (p : Bool). if p then is_wanted b.knows.who.me (failover_in snapshot) b.machine.server.state
@@ -501,7 +519,7 @@ module _ (now : Ticks) (heard : Heard) (b : Outcome) where
           other = calm Told.outputs Told.role Told.knows.settings all;
           begins = λ revision _ may. begin-calm revision Told (by-snapshot revision may) all;
           postpones = λ revision _. calm _ _ _
-              (calmly _ (outputs.Note agent_notes.PostponesPromotion) tt
+              (calmly _ (outputs.Note (notings.Agent agent_notes.PostponesPromotion)) tt
               (calm-disarmed b.machine.watchdog.deadline b.outputs all));
           settles = λ required _. calm _ _ _ (calmly b.outputs (outputs.Require required) tt all);
         })
@@ -513,16 +531,18 @@ module _ (now : Ticks) (heard : Heard) (b : Outcome) where
   operated-calm request (requests.Configuration config) restart reinit all = calm _ _ _ (calmly b.outputs _ tt all)
   operated-calm request requests.Restart restart reinit all =
       behind _ b.role b.knows.settings _ tt
-      (behind b.outputs b.role b.knows.settings (outputs.Restart (is_primary b.machine.server.state))
+      (behind b.outputs b.role b.knows.settings (outputs.Server (orders.Restart (is_primary b.machine.server.state)))
       (restart refl) (calm b.outputs b.role b.knows.settings all))
   operated-calm request requests.Reinit restart reinit all = behind _ b.role b.knows.settings _ tt
-      (behind b.outputs b.role b.knows.settings outputs.Wipe (reinit refl) (calm b.outputs b.role b.knows.settings all))
+      (behind b.outputs b.role b.knows.settings (outputs.Server orders.Wipe) (reinit refl)
+      (calm b.outputs b.role b.knows.settings all))
   operated-calm request (requests.Hold from ttl) restart reinit all =
       asked-to-hold-by R now request (record { 0 = ttl }) b
       (λ text _. calm _ _ _
-      (calmly _ (outputs.Told request _) tt
-      (calmly b.outputs (outputs.HoldTaken (span_after now (record { 0 = ttl })) b.knows.who.me unnumbered) tt all)))
-      (λ text. calm _ _ _ (calmly b.outputs (outputs.Told request _) tt all))
+      (calmly _ (outputs.Tell (tellings.Told request _)) tt
+      (calmly b.outputs
+      (outputs.Tell (tellings.HoldTaken (span_after now (record { 0 = ttl })) b.knows.who.me unnumbered)) tt all)))
+      (λ text. calm _ _ _ (calmly b.outputs (outputs.Tell (tellings.Told request _)) tt all))
 
 -- ---- what precedes the input's own rows orders nothing
 abbrev Before : Outcome → Outcome → Type 0
@@ -548,7 +568,10 @@ before-calm now o all =
 
 told-calm : (b : Outcome) → Calm b.outputs → ReplyRows (Before b) b
 told-calm b all =
-    record { kept = (all, refl); answers = λ request told. (calmly b.outputs (outputs.Told request told) tt all, refl) }
+    record {
+      kept = (all, refl);
+      answers = λ request told. (calmly b.outputs (outputs.Tell (tellings.Told request told)) tt all, refl);
+    }
 
 step-calm : (now : Ticks) (points : List HistoryPoint) (heard : Heard) (o : Outcome) → Calm o.outputs
     → R now heard (reconciled now o) (step now points heard o)

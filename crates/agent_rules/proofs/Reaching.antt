@@ -19,6 +19,8 @@ use Rattle.agent_model.specs.declared.knowledge.Question.TheVariants.{Reading, C
 use Rattle.agent_model.specs.declared.knowledge.PendingQuestion.{PendingQuestion}
 use Rattle.agent_model.specs.declared.output.Output.{Output}
 use Rattle.agent_model.specs.declared.output.Output.TheVariants as outputs
+use Rattle.agent_model.specs.declared.output.Outgoing.TheVariants as outgoing
+use Rattle.agent_model.specs.declared.output.Telling.TheVariants as tellings
 use Rattle.agent_model.specs.declared.output.Target.TheVariants as targets
 use Rattle.agent_model.specs.Acting.{lease_span, waiting_no_more}
 use Rattle.agent_model.specs.Agents.{RoleFacts, Leader, Outcome}
@@ -71,21 +73,24 @@ ask-keeps : (members : MemberSet) (sequence : ℕ) (ttl : Ticks) (member : Optio
 ask-keeps members sequence ttl None outs output among = among
 ask-keeps members sequence ttl (Some member) outs output among =
     if-cases (λ (l : List Output). Contains l output) (has members member.number)
-    (with_output (outputs.Send (targets.Member member) sequence (bodies.FailsafeRequest ttl)) outs) outs
+    (with_output (outputs.Message (outgoing.Send (targets.Member member) sequence (bodies.FailsafeRequest ttl))) outs)
+    outs
     (λ _. Contains-append_left outs
-    (outputs.Send (targets.Member member) sequence (bodies.FailsafeRequest ttl) ∷ []) output among)
+    (outputs.Message (outgoing.Send (targets.Member member) sequence (bodies.FailsafeRequest ttl)) ∷ []) output among)
     (λ _. among)
 
 ask-sent : (members : MemberSet) (sequence : ℕ) (ttl : Ticks) (member : MemberId) (outs : List Output)
     → has members member.number ≡ true
     → Contains (requesting_one members sequence ttl (Some member) outs)
-    (outputs.Send (targets.Member member) sequence (bodies.FailsafeRequest ttl))
+    (outputs.Message (outgoing.Send (targets.Member member) sequence (bodies.FailsafeRequest ttl)))
 ask-sent members sequence ttl member outs known =
     subst (λ (l : List Output).
-    Contains l (outputs.Send (targets.Member member) sequence (bodies.FailsafeRequest ttl)))
+    Contains l (outputs.Message (outgoing.Send (targets.Member member) sequence (bodies.FailsafeRequest ttl))))
     (sym (ap (λ (b : Bool). cond b
-    (with_output (outputs.Send (targets.Member member) sequence (bodies.FailsafeRequest ttl)) outs) outs) known))
-    (Contains-push outs (outputs.Send (targets.Member member) sequence (bodies.FailsafeRequest ttl)))
+    (with_output (outputs.Message (outgoing.Send (targets.Member member) sequence (bodies.FailsafeRequest ttl))) outs)
+    outs)
+    known))
+    (Contains-push outs (outputs.Message (outgoing.Send (targets.Member member) sequence (bodies.FailsafeRequest ttl))))
 
 below-or : (a n : ℕ) → a < suc n → (a < n) ⊎ (a ≡ n)
 below-or a n less = grind (arith, less)
@@ -93,16 +98,16 @@ below-or a n less = grind (arith, less)
 each-asked : (members : MemberSet) (sequence : ℕ) (ttl : Ticks) (count : ℕ) (member : MemberId) (outs : List Output)
     → has members member.number ≡ true → member.number < count
     → Contains (requesting_first members sequence ttl count outs)
-    (outputs.Send (targets.Member member) sequence (bodies.FailsafeRequest ttl))
+    (outputs.Message (outgoing.Send (targets.Member member) sequence (bodies.FailsafeRequest ttl)))
 each-asked members sequence ttl zero member outs known less = absurd (omega (arith, less))
 each-asked members sequence ttl (suc count) member outs known less = elim (below-or member.number count less) [
   | inl before-it ↦
       ask-keeps members sequence ttl (member_of count) (requesting_first members sequence ttl count outs)
-      (outputs.Send (targets.Member member) sequence (bodies.FailsafeRequest ttl))
+      (outputs.Message (outgoing.Send (targets.Member member) sequence (bodies.FailsafeRequest ttl)))
       (each-asked members sequence ttl count member outs known before-it)
   | inr here ↦ subst (λ (m : Option MemberId).
       Contains (requesting_one members sequence ttl m (requesting_first members sequence ttl count outs))
-      (outputs.Send (targets.Member member) sequence (bodies.FailsafeRequest ttl)))
+      (outputs.Message (outgoing.Send (targets.Member member) sequence (bodies.FailsafeRequest ttl))))
       (sym (member_of-number member) ∙ ap (λ (n : ℕ). member_of n) here)
       (ask-sent members sequence ttl member (requesting_first members sequence ttl count outs) known)
 ]
@@ -163,7 +168,7 @@ wake-asks-each now points o g some =
       answers = λ request told.
           let t = asks-each now g.revision (record b {
             knows = record b.knows { operating = None };
-            outputs = with_output (outputs.Told request told) b.outputs;
+            outputs = with_output (outputs.Tell (tellings.Told request told)) b.outputs;
           }) (record {
             role = out.role;
             lives = out.lives;

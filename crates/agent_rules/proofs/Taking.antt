@@ -10,7 +10,7 @@ use Rattle.pat_base.specs.ServerState.{live}
 use Rattle.store_keys.specs.declared.config.Config.{Config}
 use Rattle.lease_store.specs.declared.granted.Granted.{Granted}
 use Rattle.pg_model.specs.declared.status.ServerStatus.{ServerStatus}
-use Rattle.pg_model.specs.Facts.{is_down}
+use Rattle.pg_model.specs.Facts.{is_down, is_replica}
 use Rattle.cluster_view.specs.Naming.{is_candidate, is_failover_to, is_named}
 use Rattle.cluster_view.specs.Snapshots.{SnapshotFacts}
 use Rattle.leader_key.specs.declared.watchdog.Mode.{Mode}
@@ -24,7 +24,7 @@ use Rattle.agent_model.specs.declared.output.Repair.TheVariants.{Rewind, Clone}
 use Rattle.agent_model.specs.Acting.{comes_late, is_hold_active, is_refusing}
 use Rattle.agent_model.specs.Agents.{Outcome}
 use Rattle.agent_model.specs.Decisions.{can_begin, is_decision, is_lease_of, may_create, may_start_again, may_take, since_crash}
-use Rattle.agent_model.specs.Pausing.{is_paused, is_replica, is_wanted, lets_rewind}
+use Rattle.agent_model.specs.Pausing.{is_paused, is_wanted, lets_rewind}
 use Rattle.agent_model.specs.Repairs.{is_upstream, repair_in, repair_of, repaired_if, repairing, rewind_if}
 use Rattle.agent_model.specs.Snapshots.{informed}
 use Rattle.agent_model.specs.Synchronous.{is_named_if, may_lead_in_sync}

@@ -1,5 +1,5 @@
 -- A turn that is due reads what the key store holds, by the rows of the decision table.
-use Rattle.std.proofs.Common.{ℕ, ◌≡◌, ◌≤◌, ◌<◌, ◌+◌, ◌||◌, ◌&&◌, ◌==◌, nat_le, Bool, true, false, cond, is_none, List, Option, Some, None, Contains, refl, sym, subst, ap, ◌∙◌, arith}
+use Rattle.std.proofs.Common.{ℕ, ◌≡◌, ◌≤◌, ◌<◌, ◌+◌, ◌||◌, ◌&&◌, ◌==◌, nat_le, Bool, true, false, cond, is_none, List, Option, Some, None, refl, sym, subst, ap, ◌∙◌, arith}
 use Rattle.std.proofs.lemmas.Bool.Decides.{nat_tests}
 use Rattle.std.proofs.lemmas.List.Elements.{Contains-push}
 use Rattle.pat_base.specs.declared.ticks.Ticks.{Ticks}
@@ -12,6 +12,7 @@ use Rattle.agent_model.specs.declared.knowledge.Question.{Question}
 use Rattle.agent_model.specs.declared.knowledge.Question.TheVariants.{Reading, ComparingPositions, Creating, Renewing, Claiming, Syncing, FindingCandidate, StayingPrimary}
 use Rattle.agent_model.specs.declared.knowledge.PendingQuestion.{PendingQuestion}
 use Rattle.agent_model.specs.declared.output.Output.TheVariants as outputs
+use Rattle.agent_model.specs.declared.output.Outgoing.TheVariants as outgoing
 use Rattle.agent_model.specs.declared.output.Target.TheVariants as targets
 use Rattle.agent_model.specs.declared.why.Why.{Why}
 use Rattle.agent_model.specs.declared.why.Why.TheVariants.{HandOver, Lost}
@@ -62,7 +63,7 @@ reads-turn now o x t = record {
   waited = _;
   waits = refl;
   asks = refl;
-  sends = Contains-push x.outputs (outputs.Send targets.Store (x.knows.sequence + 1) bodies.Read);
+  sends = Contains-push x.outputs (outputs.Message (outgoing.Send targets.Store (x.knows.sequence + 1) bodies.Read));
   later = later-by-one o.knows.sequence x.knows.sequence t.counted;
   newest = refl;
   sent = refl;

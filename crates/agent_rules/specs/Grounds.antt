@@ -18,6 +18,8 @@ use Rattle.lease_store.specs.declared.granted.Granted.{Granted}
 use Rattle.lease_store.specs.Writes.{nobody}
 use Rattle.store_keys.specs.declared.txn.Txn.{Txn}
 use Rattle.store_keys.specs.declared.txn.Txn.TheVariants as txns
+use Rattle.store_keys.specs.declared.txn.LeaseTxn.TheVariants as lease_txns
+use Rattle.store_keys.specs.declared.txn.SyncTxn.TheVariants as sync_txns
 use Rattle.pg_model.specs.declared.status.ServerStatus.{ServerStatus}
 use Rattle.pg_model.specs.Facts.{is_down}
 use Rattle.cluster_view.specs.Naming.{is_candidate, is_failover_to, is_named}
@@ -42,6 +44,10 @@ use Rattle.agent_model.specs.declared.knowledge.Settling.TheVariants.{KeepsList,
 use Rattle.agent_model.specs.declared.knowledge.SyncRead.{SyncRead}
 use Rattle.agent_model.specs.declared.output.Output.{Output}
 use Rattle.agent_model.specs.declared.output.Output.TheVariants as outputs
+use Rattle.agent_model.specs.declared.output.Feeding.TheVariants as feedings
+use Rattle.agent_model.specs.declared.output.Outgoing.TheVariants as outgoing
+use Rattle.agent_model.specs.declared.output.ServerOrder.TheVariants as orders
+use Rattle.agent_model.specs.declared.output.Telling.TheVariants as tellings
 use Rattle.agent_model.specs.declared.output.Repair.{Repair}
 use Rattle.agent_model.specs.declared.output.Repair.TheVariants.{Rewind, Clone}
 use Rattle.agent_model.specs.declared.output.Target.TheVariants as targets
@@ -291,13 +297,15 @@ pub record HoldGround (now : Ticks) (heard : Heard) (o : Outcome) (until : Ticks
 -- the sync key, as the turn read that, the leader key, in synchronous
 -- mode; another write of it, that the plan calls for it
 abbrev pub RequestGround : Ticks → Heard → Outcome → Txn → Type 0
-RequestGround now heard o (txns.Create info ttl failsafe sync) = CreateGround heard o
-RequestGround now heard o (txns.Renew revision info ttl status row failsafe) = RenewGround heard o revision failsafe
-RequestGround now heard o (txns.Claim revision expected) = TakeGround now heard o revision
+RequestGround now heard o (txns.Lease (lease_txns.Create info ttl failsafe sync)) = CreateGround heard o
+RequestGround now heard o (txns.Lease (lease_txns.Renew revision info ttl status row failsafe)) =
+    RenewGround heard o revision failsafe
+RequestGround now heard o (txns.Sync (sync_txns.Claim revision expected)) = TakeGround now heard o revision
     × (o.knows.turn_settings.synchronous_mode ≡ true) × (expected ≡ expected_of o.knows.turn_sync)
-RequestGround now heard o (txns.SetSync revision sync standbys) =
+RequestGround now heard o (txns.Sync (sync_txns.SetSync revision sync standbys may_lack)) =
     SyncGround now heard o revision sync (λ plan. NamesByPlan plan standbys)
-RequestGround now heard o (txns.DropSync revision sync) = SyncGround now heard o revision (Revision sync) RemovesByPlan
+RequestGround now heard o (txns.Sync (sync_txns.DropSync revision sync)) =
+    SyncGround now heard o revision (Revision sync) RemovesByPlan
 RequestGround now heard o _ = Unit {0}
 
 -- what a message to another member needs: a failsafe request, that its sender can't reach the key store
@@ -308,21 +316,25 @@ AskGround now heard o to _ = Unit {0}
 -- the ground of an output in an input that hears this, over what
 -- precedes each input. A watchdog that is off or broken gets no deadline
 abbrev pub HasGround : Ticks → Heard → Outcome → Output → Type 0
-HasGround now heard o (outputs.Send targets.Store sequence (bodies.Request txn)) = RequestGround now heard o txn
-HasGround now heard o (outputs.Send (targets.Member to) sequence body) = AskGround now heard o to body
-HasGround now heard o outputs.Begin = BeginGround now heard o
+HasGround now heard o (outputs.Message (outgoing.Send targets.Store sequence (bodies.Request txn))) =
+    RequestGround now heard o txn
+HasGround now heard o (outputs.Message (outgoing.Send (targets.Member to) sequence body)) =
+    AskGround now heard o to body
+HasGround now heard o (outputs.Server orders.Begin) = BeginGround now heard o
 HasGround now heard o (outputs.Require required) = RequireGround now heard o required
-HasGround now heard o (outputs.Armed until) = (is_armable o.machine.watchdog.mode o.machine.watchdog.works ≡ true)
+HasGround now heard o (outputs.Watchdog (feedings.Armed until)) =
+    (is_armable o.machine.watchdog.mode o.machine.watchdog.works ≡ true)
     × GrantDeadline now heard o until
-HasGround now heard o (outputs.Fed until) = (is_armable o.machine.watchdog.mode o.machine.watchdog.works ≡ true)
+HasGround now heard o (outputs.Watchdog (feedings.Fed until)) =
+    (is_armable o.machine.watchdog.mode o.machine.watchdog.works ≡ true)
     × GrantDeadline now heard o until
-HasGround now heard o (outputs.FedByFailsafe until members sequence since) =
+HasGround now heard o (outputs.Watchdog (feedings.FedByFailsafe until members sequence since)) =
     (is_armable o.machine.watchdog.mode o.machine.watchdog.works ≡ true)
     × (WordGround now heard o until members sequence ⊎ AloneGround now heard o until members)
-HasGround now heard o (outputs.HoldTaken until from sequence) = HoldGround now heard o until
-HasGround now heard o (outputs.Repair leader repair) =
+HasGround now heard o (outputs.Tell (tellings.HoldTaken until from sequence)) = HoldGround now heard o until
+HasGround now heard o (outputs.Server (orders.Repair leader repair)) =
     (live o.machine.server.state ≡ false) × NeedsRepair repair o.machine.server
-HasGround now heard o outputs.Wipe = IsReinit heard
+HasGround now heard o (outputs.Server orders.Wipe) = IsReinit heard
 HasGround now heard o _ = Unit {0}
 
 -- a leader waits for the answers of the other members that failsafe keys listed, and
@@ -335,7 +347,8 @@ pub record AsksEachKnown (o after : Outcome) : Type 0 where
   pub awaited : after.knows.failsafe.members ≡ others_known o.knows
   pub each : (member : MemberId) → has (others_known o.knows) member.number ≡ true
       → Contains after.outputs
-      (outputs.Send (targets.Member member) waited.sequence (bodies.FailsafeRequest (lease_span o.knows.settings)))
+      (outputs.Message (outgoing.Send (targets.Member member) waited.sequence
+      (bodies.FailsafeRequest (lease_span o.knows.settings))))
 
 -- an input has its grounds: each output does; the other members are waited for only since a turn read that nobody
 -- leads; a leader that can't reach the key store and may stay primary asks each other member that failsafe keys
@@ -345,8 +358,10 @@ pub record HasGrounds (now : Ticks) (heard : Heard) (o after : Outcome) : Type 0
   pub asks : awaits_others after.knows.waited ≡ true
       → (awaits_others o.knows.waited ≡ true) ⊎ (HearsNoLeader heard × (may_create o.role ≡ true))
   pub stays : StayGround now heard o → ((others_known o.knows).bits ≡ 0 → ⊥) → AsksEachKnown o after
-  pub wipes : Contains after.outputs outputs.Wipe → live o.machine.server.state ≡ true
+  pub wipes : Contains after.outputs (outputs.Server orders.Wipe) → live o.machine.server.state ≡ true
       → after.machine.server ≡ o.machine.server
   pub releases : (sequence revision : ℕ)
-      → Contains after.outputs (outputs.Send targets.Store sequence (bodies.Request (txns.Release revision)))
+      → Contains after.outputs
+      (outputs.Message (outgoing.Send targets.Store sequence
+      (bodies.Request (txns.Lease (lease_txns.Release revision)))))
       → lease_of after.role ≡ Some revision → ⊥

@@ -8,6 +8,7 @@ use Rattle.agent_model.specs.declared.knowledge.Question.{Question}
 use Rattle.agent_model.specs.declared.knowledge.Question.TheVariants.{Reading, Renewing}
 use Rattle.agent_model.specs.declared.knowledge.PendingQuestion.{PendingQuestion}
 use Rattle.agent_model.specs.declared.output.Output.TheVariants as outputs
+use Rattle.agent_model.specs.declared.output.ServerOrder.TheVariants as orders
 use Rattle.agent_model.specs.declared.why.Why.TheVariants.{Lost}
 use Rattle.agent_model.specs.Acting.{seconds_after}
 use Rattle.agent_model.specs.Agents.{Leader, Ending, Outcome}
@@ -52,7 +53,7 @@ pub record AsksToStay (sequence revision : ℕ) (o : Outcome) : Type 0 where
 
 -- it ends its server for this reason, and will have no lease when that has ended
 pub record EndsServer (reason : Reason) (now : Ticks) (revision : ℕ) (o after : Outcome) : Type 0 where
-  pub ends : Contains after.outputs (outputs.Stop reason)
+  pub ends : Contains after.outputs (outputs.Server (orders.Stop reason))
   pub server : after.machine.server ≡ status_stopping now o.machine.server
   pub role : after.role ≡ Ending revision Lost
 

@@ -8,6 +8,7 @@ use Rattle.agent_model.specs.declared.heard.Heard.{Heard}
 use Rattle.agent_model.specs.declared.heard.Heard.TheVariants as heards
 use Rattle.agent_model.specs.declared.output.Output.{Output}
 use Rattle.agent_model.specs.declared.output.Output.TheVariants as outputs
+use Rattle.agent_model.specs.declared.output.ServerOrder.TheVariants as orders
 use Rattle.agent_model.specs.declared.output.Repair.TheVariants.{Rewind}
 use Rattle.agent_model.specs.declared.why.Why.TheVariants.{HandOver}
 use Rattle.agent_model.specs.Agents.{RoleFacts, Ending, Outcome}
@@ -34,13 +35,14 @@ NamesAsCandidate _ o = ⊥
 -- server only to hand over, starts it as a replica only after a handover of its own, begins only with a replica
 -- that an operator wants to lead, and rewinds nothing; what else comes to its server an operator asks for
 abbrev pub IsRestrained : Heard → Outcome → RoleFacts → Output → Type 0
-IsRestrained heard o role (outputs.Stop reason) = ⊥
-IsRestrained heard o role outputs.ShutDown = HandsOver role
-IsRestrained heard o role (outputs.StartReplica leader) = o.knows.handed_over ≡ true
-IsRestrained heard o role outputs.Begin = NamesAsCandidate heard o × (o.machine.server.state ≡ states.Replica)
-IsRestrained heard o role (outputs.Repair leader Rewind) = ⊥
-IsRestrained heard o role (outputs.Restart as_primary) = IsRestart heard
-IsRestrained heard o role outputs.Wipe = IsReinit heard
+IsRestrained heard o role (outputs.Server (orders.Stop reason)) = ⊥
+IsRestrained heard o role (outputs.Server orders.ShutDown) = HandsOver role
+IsRestrained heard o role (outputs.Server (orders.StartReplica leader)) = o.knows.handed_over ≡ true
+IsRestrained heard o role (outputs.Server orders.Begin) =
+    NamesAsCandidate heard o × (o.machine.server.state ≡ states.Replica)
+IsRestrained heard o role (outputs.Server (orders.Repair leader Rewind)) = ⊥
+IsRestrained heard o role (outputs.Server (orders.Restart as_primary)) = IsRestart heard
+IsRestrained heard o role (outputs.Server orders.Wipe) = IsReinit heard
 IsRestrained heard o role _ = Unit {0}
 
 -- an input behind which the cluster is paused, by the newest snapshot, has such outputs alone

@@ -8,6 +8,7 @@ use Rattle.agent_model.specs.declared.knowledge.Question.{Question}
 use Rattle.agent_model.specs.declared.knowledge.Question.TheVariants.{Reading, ComparingPositions, Creating, Renewing, StayingPrimary}
 use Rattle.agent_model.specs.declared.knowledge.PendingQuestion.{PendingQuestion}
 use Rattle.agent_model.specs.declared.output.Output.TheVariants as outputs
+use Rattle.agent_model.specs.declared.output.Outgoing.TheVariants as outgoing
 use Rattle.agent_model.specs.declared.output.Target.TheVariants as targets
 use Rattle.agent_model.specs.Acting.{seconds_after}
 use Rattle.agent_model.specs.Agents.{RoleFacts, Ending, Unleased, Outcome, is_leader}
@@ -44,7 +45,7 @@ pub record ReadsNow (now : Ticks) (o after : Outcome) : Type 0 where
   pub waited : PendingQuestion
   pub waits : after.knows.waited ≡ Some waited
   pub asks : waited.question ≡ Reading
-  pub sends : Contains after.outputs (outputs.Send targets.Store waited.sequence bodies.Read)
+  pub sends : Contains after.outputs (outputs.Message (outgoing.Send targets.Store waited.sequence bodies.Read))
   pub later : o.knows.sequence < waited.sequence
   pub newest : waited.sequence ≡ after.knows.sequence
   pub sent : waited.sent ≡ now

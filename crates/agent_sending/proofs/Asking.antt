@@ -21,6 +21,10 @@ use Rattle.agent_model.specs.declared.knowledge.PendingQuestion.{PendingQuestion
 use Rattle.agent_model.specs.declared.machine.Machine.{Machine}
 use Rattle.agent_model.specs.declared.output.Output.{Output}
 use Rattle.agent_model.specs.declared.output.Output.TheVariants as outputs
+use Rattle.agent_model.specs.declared.output.Feeding.TheVariants as feedings
+use Rattle.agent_model.specs.declared.output.Noting.TheVariants as notings
+use Rattle.agent_model.specs.declared.output.Outgoing.TheVariants as outgoing
+use Rattle.agent_model.specs.declared.output.Telling.TheVariants as tellings
 use Rattle.agent_model.specs.declared.output.Target.TheVariants as targets
 use Rattle.agent_model.specs.Acting.{requiring, touching, starting_replica, arming, ending_server, is_refusing, waiting_no_more}
 use Rattle.agent_model.specs.Agents.{EndsAlone, RoleFacts, Follower, Ending, IsSoundAgent, Outcome, outcome_from}
@@ -51,6 +55,7 @@ use Rattle.agent_cases.proofs.Grants.{kept_on, led_on, judges-start-by, renewed-
 use Rattle.store_keys.specs.declared.action.OperatorRequest.TheVariants as requests
 use Rattle.store_keys.specs.declared.config_value.ConfigValue.{ConfigValue}
 use Rattle.store_keys.specs.declared.txn.Txn.TheVariants as txns
+use Rattle.store_keys.specs.declared.txn.OperatorTxn.TheVariants as operator_txns
 use Rattle.event_book.specs.declared.message.Body.{Body}
 use Rattle.lease_model.specs.Modes.{IsModeAsked, IsModeSet}
 use Rattle.agent_sending.specs.Modes.{AsksMode, HearsMode, IsModeRequested}
@@ -81,32 +86,35 @@ only-reads now o after read is no-lease waited waits asks =
 
 -- a request under this number asks for leases of this span
 abbrev SpansAs : ℕ → ℕ → Output → Type 0
-SpansAs number ttl (outputs.Send targets.Store sequence (bodies.Request txn)) =
+SpansAs number ttl (outputs.Message (outgoing.Send targets.Store sequence (bodies.Request txn))) =
     sequence ≡ number → span_asked (query_of txn) ≡ ttl
 SpansAs number ttl _ = Unit {0}
 
 silent-spans : (number ttl : ℕ) (output : Output) → IsSilent output → SpansAs number ttl output
-silent-spans number ttl (outputs.Send to sequence body) silent = absurd silent
+silent-spans number ttl (outputs.Message (outgoing.Send to sequence body)) silent = absurd silent
 silent-spans number ttl _ silent = tt
 
 -- one more request behind silent outputs, that is waited for
 asked-now : (now : Ticks) (o after : Outcome) (outs : List Output) (asked : PendingQuestion) (txn : Txn)
     → All IsSilent outs
-    → after.outputs ≡ with_output (outputs.Send targets.Store asked.sequence (bodies.Request txn)) outs
+    → after.outputs
+    ≡ with_output (outputs.Message (outgoing.Send targets.Store asked.sequence (bodies.Request txn))) outs
     → after.knows.waited ≡ Some asked → asked.sent ≡ now
     → span_asked (query_of txn) ≡ asked.ttl.0 → o.knows.sequence < asked.sequence → Holds now o after
 asked-now now o after outs asked txn silent is waits sent span later waited waits-now asks =
     let same : asked ≡ waited = some-is asked waited (sym waits ∙ waits-now) in
     let all : All (SpansAs asked.sequence asked.ttl.0) after.outputs =
     subst (λ (l : List Output). All (SpansAs asked.sequence asked.ttl.0) l) (sym is)
-    (All-push (SpansAs asked.sequence asked.ttl.0) outs (outputs.Send targets.Store asked.sequence (bodies.Request txn))
+    (All-push (SpansAs asked.sequence asked.ttl.0) outs
+    (outputs.Message (outgoing.Send targets.Store asked.sequence (bodies.Request txn)))
     (All-weaker IsSilent (SpansAs asked.sequence asked.ttl.0) (silent-spans asked.sequence asked.ttl.0) outs silent)
     (λ _. span)) in
     inr (subst (λ (w : PendingQuestion). IsAskedNow now o after w) same (record {
       later = later;
       sent = sent;
       ttl = λ request among. subst (λ (y : Output). SpansAs asked.sequence asked.ttl.0 y) among.2
-          (all among.0 (outputs.Send targets.Store asked.sequence (bodies.Request request)) among.1) refl;
+          (all among.0 (outputs.Message (outgoing.Send targets.Store asked.sequence (bodies.Request request))) among.1)
+          refl;
     }))
 
 more-than : (a b : ℕ) → a ≤ b → a < b + 1
@@ -167,7 +175,8 @@ same-holds now o b x holds outs waits waited is asks = elim (holds waited (sym w
     later = asked.later;
     sent = asked.sent;
     ttl = λ txn among. asked.ttl txn
-        (subst (λ (l : List Output). Contains l (outputs.Send targets.Store waited.sequence (bodies.Request txn)))
+        (subst (λ (l : List Output).
+        Contains l (outputs.Message (outgoing.Send targets.Store waited.sequence (bodies.Request txn))))
         outs among);
   })
 ]
@@ -237,8 +246,8 @@ got-silent now points sequence snapshot o b later same silent =
       free = λ _ _. free-holds now o read later refl silent;
       runs_on = λ _. nothing now o (running_without_key read) refl;
       asks_on = λ _. asked-now now o (asks_as_unleased now read)
-          (with_output (outputs.Note agent_notes.RunsWithoutKey) b.outputs) _ _
-          (silently b.outputs (outputs.Note agent_notes.RunsWithoutKey) silent tt) refl refl refl refl
+          (with_output (outputs.Note (notings.Agent agent_notes.RunsWithoutKey)) b.outputs) _ _
+          (silently b.outputs (outputs.Note (notings.Agent agent_notes.RunsWithoutKey)) silent tt) refl refl refl refl
           (more-than o.knows.sequence b.knows.sequence later);
     })
 
@@ -430,8 +439,8 @@ Any C K F = record {
 -- an output that sends a message does so under a new number that is counted
 numbered : (G : Grounds) (o after : Outcome) (output : Output) → MayPut G o after output
     → IsNumbered o.knows.sequence after.knows.sequence output
-numbered G o after (outputs.Send targets.Store sequence body) may = (may.later, may.counted)
-numbered G o after (outputs.Send (targets.Member member) sequence body) may = (may.0, may.1)
+numbered G o after (outputs.Message (outgoing.Send targets.Store sequence body)) may = (may.later, may.counted)
+numbered G o after (outputs.Message (outgoing.Send (targets.Member member) sequence body)) may = (may.0, may.1)
 numbered G o after _ may = tt
 
 all-numbered : (G : Grounds) (o after : Outcome) → AllMay G o after
@@ -548,29 +557,30 @@ step-sends now points heard o alone silent = step-may (λ config. Unit {0}) (Hea
 stands-put : (C : ConfigValue → Type 0) (heard : Heard) (G : Grounds) (o after : Outcome)
     → IsAny C (HearsFailsafe heard) (FeedsAsAsked o.knows) G → (output : Output) → MayPut G o after output
     → StandsOn heard o.knows output
-stands-put C heard G o after is (outputs.HoldTaken until from sequence) may = elim may [
+stands-put C heard G o after is (outputs.Tell (tellings.HoldTaken until from sequence)) may = elim may [
   | inl none ↦ inl none
   | inr run ↦ inr (run.0, is.acknowledges from run.0 sequence run.1)
 ]
-stands-put C heard G o after is (outputs.FailsafeAnswer to run sequence accepted) may =
+stands-put C heard G o after is (outputs.Message (outgoing.FailsafeAnswer to run sequence accepted)) may =
     λ e. is.acknowledges to run sequence (may e)
-stands-put C heard G o after is (outputs.FedByFailsafe until members sequence since) may = is.feeds members sequence may
+stands-put C heard G o after is (outputs.Watchdog (feedings.FedByFailsafe until members sequence since)) may =
+    is.feeds members sequence may
 stands-put C heard G o after is _ may = tt
 
 -- an operator's configuration has failsafe mode as it is declared, and so has what is asked for
 mode-put : (mode : Bool) (G : Grounds) (o after : Outcome)
     → ((config : ConfigValue) → G.configures config → config.config.failsafe_mode ≡ mode) → (output : Output)
     → MayPut G o after output → AsksMode mode output
-mode-put mode G o after so (outputs.Send targets.Store sequence body) may = by body may.asks
+mode-put mode G o after so (outputs.Message (outgoing.Send targets.Store sequence body)) may = by body may.asks
   where
     by-txn : (txn : Txn) → MayTransact G o after sequence txn → IsModeSet mode txn
-    by-txn (txns.SetConfig revision config) may = so config may
+    by-txn (txns.Operators (operator_txns.SetConfig revision config)) may = so config may
     by-txn _ may = tt
 
     by : (body : Body) → MayAskStore G o after sequence body → IsModeAsked mode body
     by (bodies.Request txn) may = by-txn txn may
     by _ may = tt
-mode-put mode G o after so (outputs.Send (targets.Member member) sequence body) may = by body may.2
+mode-put mode G o after so (outputs.Message (outgoing.Send (targets.Member member) sequence body)) may = by body may.2
   where
     by : (body : Body) → MayAskMember G sequence body → IsModeAsked mode body
     by bodies.Ask may = tt

@@ -13,7 +13,7 @@ use Rattle.cluster_view.specs.declared.view.AgentView.{AgentView}
 use Rattle.cluster_view.specs.declared.view.RoleWord.TheVariants as words
 use Rattle.cluster_view.specs.KeyValues.{config_in, failover_in, status_in, active_sync_in}
 use Rattle.cluster_view.specs.Naming.{candidate_of, is_candidate, is_one_of}
-use Rattle.cluster_view.specs.Snapshots.{SnapshotFacts, entry_in, failsafe_by, failsafe_in, failsafe_of_entry}
+use Rattle.cluster_view.specs.Snapshots.{SnapshotFacts, entry_in, failsafe_by, failsafe_in, found_by, value_by}
 use Rattle.leader_race.specs.Eligibility.{not_running, no_failover, paused, other_candidate, not_sync, too_far_behind, not_listed, eligibility_of}
 use Rattle.leader_race.proofs.Barring.{bar_where-none, first_bar-none}
 use Rattle.event_book.specs.Functions.{set_members}
@@ -28,7 +28,7 @@ use Rattle.agent_model.specs.declared.why.Why.TheVariants.{HandOver, Lost}
 use Rattle.agent_model.specs.Acting.{touching, waiting_no_more}
 use Rattle.agent_model.specs.Agents.{RoleFacts, Follower, Leader, Outcome, is_leader}
 use Rattle.agent_model.specs.Claiming.{postpones}
-use Rattle.agent_model.specs.FailsafeKeys.{failsafe_read_by, failsafe_read_of_entry}
+use Rattle.agent_model.specs.FailsafeKeys.{failsafe_read_by, failsafe_read_at}
 use Rattle.agent_model.specs.HandingOver.{hands_over}
 use Rattle.agent_model.specs.Operators.{answering, given_up, learned}
 use Rattle.agent_model.specs.Pausing.{may_start_behind, running_without_key}
@@ -306,8 +306,8 @@ listed-by me true members e on =
     not-false false e = absurd (no-way (sym e))
 listed-by me false members e on = absurd (no-way on)
 
-read-listed : (found : Option KeyEntry) (read : FailsafeRead) → failsafe_read_of_entry found ≡ Some read
-    → failsafe_of_entry found ≡ Some read.members
+read-listed : (found : Option KeyEntry) (read : FailsafeRead) → found_by failsafe_read_at found ≡ Some read
+    → value_by failsafe_by found ≡ Some read.members
 read-listed None read is = absurd (none-some read is)
 read-listed (Some found) read is = by-value (failsafe_by found.value) is
   where

@@ -9,6 +9,8 @@ use Rattle.pat_base.specs.ServerState.{live}
 use Rattle.store_keys.specs.declared.txn.Expected.{Expected}
 use Rattle.store_keys.specs.declared.txn.Txn.{Txn}
 use Rattle.store_keys.specs.declared.txn.Txn.TheVariants as txns
+use Rattle.store_keys.specs.declared.txn.LeaseTxn.TheVariants as lease_txns
+use Rattle.store_keys.specs.declared.txn.OperatorTxn.TheVariants as operator_txns
 use Rattle.event_book.specs.declared.agent_note.AgentNote.TheVariants as agent_notes
 use Rattle.event_book.specs.declared.message.Body.{Body}
 use Rattle.event_book.specs.declared.message.Body.TheVariants as bodies
@@ -17,6 +19,11 @@ use Rattle.failsafe.specs.declared.asks.Ask.{Ask}
 use Rattle.agent_model.specs.declared.knowledge.PendingQuestion.{PendingQuestion}
 use Rattle.agent_model.specs.declared.output.Output.{Output}
 use Rattle.agent_model.specs.declared.output.Output.TheVariants as outputs
+use Rattle.agent_model.specs.declared.output.Feeding.TheVariants as feedings
+use Rattle.agent_model.specs.declared.output.Noting.TheVariants as notings
+use Rattle.agent_model.specs.declared.output.Outgoing.TheVariants as outgoing
+use Rattle.agent_model.specs.declared.output.ServerOrder.TheVariants as orders
+use Rattle.agent_model.specs.declared.output.Telling.TheVariants as tellings
 use Rattle.agent_model.specs.declared.output.Target.TheVariants as targets
 use Rattle.agent_model.specs.declared.why.Why.{Why}
 use Rattle.agent_model.specs.declared.who.Who.{Who}
@@ -48,12 +55,12 @@ use Rattle.agent_model.specs.Pausing.{disabling_told}
 -- an output that sends nothing but an answer of how far the server is, takes no hold,
 -- feeds no watchdog on acknowledgements, and by which no server comes to accept writes
 abbrev pub IsSilent : Output → Type 0
-IsSilent (outputs.Send to sequence body) = ⊥
-IsSilent (outputs.FailsafeAnswer to incarnation sequence accepted) = ⊥
-IsSilent (outputs.HoldTaken until from sequence) = ⊥
-IsSilent (outputs.FedByFailsafe until members sequence since) = ⊥
-IsSilent outputs.Begin = ⊥
-IsSilent (outputs.Restart as_primary) = ⊥
+IsSilent (outputs.Message (outgoing.Send to sequence body)) = ⊥
+IsSilent (outputs.Message (outgoing.FailsafeAnswer to incarnation sequence accepted)) = ⊥
+IsSilent (outputs.Tell (tellings.HoldTaken until from sequence)) = ⊥
+IsSilent (outputs.Watchdog (feedings.FedByFailsafe until members sequence since)) = ⊥
+IsSilent (outputs.Server orders.Begin) = ⊥
+IsSilent (outputs.Server (orders.Restart as_primary)) = ⊥
 IsSilent _ = Unit {0}
 
 -- on what grounds an input sends: which revisions it is granted, what a create may expect of the
@@ -82,13 +89,13 @@ CarriesSetIf after (Some set) = CarriesSet after set
 
 -- a request that an input may send under this number
 abbrev pub MayTransact : Grounds → Outcome → Outcome → ℕ → Txn → Type 0
-MayTransact G o after sequence (txns.Create info ttl failsafe sync) = G.creates failsafe
-MayTransact G o after sequence (txns.Renew revision info ttl status row failsafe) =
+MayTransact G o after sequence (txns.Lease (lease_txns.Create info ttl failsafe sync)) = G.creates failsafe
+MayTransact G o after sequence (txns.Lease (lease_txns.Renew revision info ttl status row failsafe)) =
     (leader_seen_if after.knows.seen ≡ Some (record { holder = after.knows.who.me.number; revision = revision }))
     × (lease_asked after.knows.waited ≡ Some sequence) × CarriesSetIf after failsafe
-MayTransact G o after sequence (txns.Release revision) =
+MayTransact G o after sequence (txns.Lease (lease_txns.Release revision)) =
     (Acts after → ⊥) × ((lease_of o.role ≡ Some revision) ⊎ G.gives revision)
-MayTransact G o after sequence (txns.SetConfig revision config) = G.configures config
+MayTransact G o after sequence (txns.Operators (operator_txns.SetConfig revision config)) = G.configures config
 MayTransact G o after sequence _ = Unit {0}
 
 -- a question that it may send under this number
@@ -111,28 +118,28 @@ MayAskMember G sequence _ = ⊥
 
 -- an output of an input
 abbrev pub MayPut : Grounds → Outcome → Outcome → Output → Type 0
-MayPut G o after (outputs.Send targets.Store sequence body) = SendsNew G o after sequence body
-MayPut G o after (outputs.Send (targets.Member member) sequence body) =
+MayPut G o after (outputs.Message (outgoing.Send targets.Store sequence body)) = SendsNew G o after sequence body
+MayPut G o after (outputs.Message (outgoing.Send (targets.Member member) sequence body)) =
     (o.knows.sequence < sequence) × (sequence ≤ after.knows.sequence) × MayAskMember G sequence body
-MayPut G o after (outputs.FailsafeAnswer to incarnation sequence accepted) =
+MayPut G o after (outputs.Message (outgoing.FailsafeAnswer to incarnation sequence accepted)) =
     accepted ≡ true → G.acknowledges to incarnation sequence
-MayPut G o after (outputs.FedByFailsafe until members sequence since) = G.feeds members sequence
-MayPut G o after (outputs.HoldTaken until from sequence) =
+MayPut G o after (outputs.Watchdog (feedings.FedByFailsafe until members sequence since)) = G.feeds members sequence
+MayPut G o after (outputs.Tell (tellings.HoldTaken until from sequence)) =
     ((sequence ≡ 0) × (from ≡ o.knows.who.me)) ⊎ ((run : ℕ) × G.acknowledges from run sequence)
-MayPut G o after outputs.Begin = (revision : ℕ) × G.gives revision
-MayPut G o after (outputs.Restart as_primary) = as_primary ≡ true → live o.machine.server.state ≡ true
+MayPut G o after (outputs.Server orders.Begin) = (revision : ℕ) × G.gives revision
+MayPut G o after (outputs.Server (orders.Restart as_primary)) = as_primary ≡ true → live o.machine.server.state ≡ true
 MayPut G o after _ = Unit {0}
 
 abbrev pub AllMay : Grounds → Outcome → Outcome → Type 0
 AllMay G o after = All (MayPut G o after) after.outputs
 
 pub silent-may : (G : Grounds) (o after : Outcome) (output : Output) → IsSilent output → MayPut G o after output
-silent-may G o after (outputs.Send to sequence body) e = absurd e
-silent-may G o after outputs.Begin e = absurd e
-silent-may G o after (outputs.FailsafeAnswer to incarnation sequence accepted) e = absurd e
-silent-may G o after (outputs.HoldTaken until from sequence) e = absurd e
-silent-may G o after (outputs.FedByFailsafe until members sequence since) e = absurd e
-silent-may G o after (outputs.Restart as_primary) e = absurd e
+silent-may G o after (outputs.Message (outgoing.Send to sequence body)) e = absurd e
+silent-may G o after (outputs.Server orders.Begin) e = absurd e
+silent-may G o after (outputs.Message (outgoing.FailsafeAnswer to incarnation sequence accepted)) e = absurd e
+silent-may G o after (outputs.Tell (tellings.HoldTaken until from sequence)) e = absurd e
+silent-may G o after (outputs.Watchdog (feedings.FedByFailsafe until members sequence since)) e = absurd e
+silent-may G o after (outputs.Server (orders.Restart as_primary)) e = absurd e
 silent-may G o after _ e = tt
 
 -- outputs before that were silent
@@ -150,29 +157,32 @@ silently outs output all silent = All-push IsSilent outs output all silent
 silent-disarmed : (deadline : Option Ticks) (outs : List Output) → All IsSilent outs
     → All IsSilent (disarmed deadline outs)
 silent-disarmed None outs all = all
-silent-disarmed (Some deadline) outs all = silently outs outputs.Disarmed all tt
+silent-disarmed (Some deadline) outs all = silently outs (outputs.Watchdog feedings.Disarmed) all tt
 
 pub silent-armed : (deadline : Option Ticks) (outs : List Output) → All IsSilent outs
     → All IsSilent (armed deadline outs)
 silent-armed None outs all = all
-silent-armed (Some deadline) outs all = silently outs (outputs.Armed deadline) all tt
+silent-armed (Some deadline) outs all = silently outs (outputs.Watchdog (feedings.Armed deadline)) all tt
 
 pub silent-fed : (deadline : Option Ticks) (outs : List Output) → All IsSilent outs
     → All IsSilent (fed_until deadline outs)
 silent-fed None outs all = all
-silent-fed (Some deadline) outs all = silently outs (outputs.Fed deadline) all tt
+silent-fed (Some deadline) outs all = silently outs (outputs.Watchdog (feedings.Fed deadline)) all tt
 
 pub silent-disabled : (renews : Bool) (deadline : Option Ticks) (outs : List Output) → All IsSilent outs
     → All IsSilent (disabling_told renews deadline outs)
 silent-disabled renews None outs all = all
-silent-disabled true (Some deadline) outs all = silently (with_output outputs.Disarmed outs)
-    (outputs.Note agent_notes.DisablesWatchdog) (silently outs outputs.Disarmed all tt) tt
-silent-disabled false (Some deadline) outs all = silently outs outputs.Disarmed all tt
+silent-disabled true (Some deadline) outs all = silently (with_output (outputs.Watchdog feedings.Disarmed) outs)
+    (outputs.Note (notings.Agent agent_notes.DisablesWatchdog))
+    (silently outs (outputs.Watchdog feedings.Disarmed) all tt) tt
+silent-disabled false (Some deadline) outs all = silently outs (outputs.Watchdog feedings.Disarmed) all tt
 
 -- the release of this revision under this number, or a silent output
 abbrev pub IsReleaseOr : ℕ → ℕ → Output → Type 0
 IsReleaseOr sequence revision output =
-    IsSilent output ⊎ (output ≡ outputs.Send targets.Store sequence (bodies.Request (txns.Release revision)))
+    IsSilent output
+    ⊎ (output ≡ outputs.Message
+    (outgoing.Send targets.Store sequence (bodies.Request (txns.Lease (lease_txns.Release revision)))))
 
 -- what comes before an input sends nothing; or the lease is released
 -- of an agent whose server has ended, and that waits for nothing
@@ -186,10 +196,10 @@ pub data Fronts (o after : Outcome) : Type 0 where
 -- a request that needs no more than its number, and K of what a create expects:
 -- it tells of the member, asks for a free leader key, or is of a failover
 abbrev pub IsPlain : (Option Expected → Type 0) → Txn → Type 0
-IsPlain K (txns.Create info ttl failsafe sync) = K failsafe
+IsPlain K (txns.Lease (lease_txns.Create info ttl failsafe sync)) = K failsafe
 IsPlain K (txns.Touch info ttl) = Unit {0}
-IsPlain K (txns.SetFailover failover ttl) = Unit {0}
-IsPlain K (txns.DropFailover revision) = Unit {0}
+IsPlain K (txns.Operators (operator_txns.SetFailover failover ttl)) = Unit {0}
+IsPlain K (txns.Operators (operator_txns.DropFailover revision)) = Unit {0}
 IsPlain K _ = ⊥
 
 -- so does a question
@@ -205,14 +215,15 @@ IsPositionAsk _ = ⊥
 
 -- an output that is silent, or sends such a question, or asks another member, under a number between these
 abbrev pub IsMild : (Option Expected → Type 0) → ℕ → ℕ → Output → Type 0
-IsMild K low high (outputs.Send targets.Store sequence body) = (low < sequence) × (sequence ≤ high) × IsPlainBody K body
-IsMild K low high (outputs.Send (targets.Member member) sequence body) =
+IsMild K low high (outputs.Message (outgoing.Send targets.Store sequence body)) =
+    (low < sequence) × (sequence ≤ high) × IsPlainBody K body
+IsMild K low high (outputs.Message (outgoing.Send (targets.Member member) sequence body)) =
     (low < sequence) × (sequence ≤ high) × IsPositionAsk body
-IsMild K low high (outputs.FailsafeAnswer to incarnation sequence accepted) = ⊥
-IsMild K low high (outputs.HoldTaken until from sequence) = ⊥
-IsMild K low high (outputs.FedByFailsafe until members sequence since) = ⊥
-IsMild K low high outputs.Begin = ⊥
-IsMild K low high (outputs.Restart as_primary) = ⊥
+IsMild K low high (outputs.Message (outgoing.FailsafeAnswer to incarnation sequence accepted)) = ⊥
+IsMild K low high (outputs.Tell (tellings.HoldTaken until from sequence)) = ⊥
+IsMild K low high (outputs.Watchdog (feedings.FedByFailsafe until members sequence since)) = ⊥
+IsMild K low high (outputs.Server orders.Begin) = ⊥
+IsMild K low high (outputs.Server (orders.Restart as_primary)) = ⊥
 IsMild K low high _ = Unit {0}
 
 abbrev pub AllMild : (Option Expected → Type 0) → ℕ → Outcome → Type 0
@@ -220,10 +231,10 @@ AllMild K low o = All (IsMild K low o.knows.sequence) o.outputs
 
 plain-may : (G : Grounds) (o after : Outcome) (sequence : ℕ) (txn : Txn) → IsPlain G.creates txn
     → MayTransact G o after sequence txn
-plain-may G o after sequence (txns.Create info ttl failsafe sync) e = e
+plain-may G o after sequence (txns.Lease (lease_txns.Create info ttl failsafe sync)) e = e
 plain-may G o after sequence (txns.Touch info ttl) e = tt
-plain-may G o after sequence (txns.SetFailover failover ttl) e = tt
-plain-may G o after sequence (txns.DropFailover revision) e = tt
+plain-may G o after sequence (txns.Operators (operator_txns.SetFailover failover ttl)) e = tt
+plain-may G o after sequence (txns.Operators (operator_txns.DropFailover revision)) e = tt
 plain-may G o after sequence _ e = absurd e
 
 plain-asks : (G : Grounds) (o after : Outcome) (sequence : ℕ) (body : Body) → IsPlainBody G.creates body
@@ -238,15 +249,15 @@ position-asks G sequence _ e = absurd e
 
 pub mild-may : (G : Grounds) (o after : Outcome) (output : Output)
     → IsMild G.creates o.knows.sequence after.knows.sequence output → MayPut G o after output
-mild-may G o after (outputs.Send targets.Store sequence body) e =
+mild-may G o after (outputs.Message (outgoing.Send targets.Store sequence body)) e =
     record { later = e.0; counted = e.1; asks = plain-asks G o after sequence body e.2 }
-mild-may G o after (outputs.Send (targets.Member member) sequence body) e =
+mild-may G o after (outputs.Message (outgoing.Send (targets.Member member) sequence body)) e =
     (e.0, e.1, position-asks G sequence body e.2)
-mild-may G o after (outputs.FailsafeAnswer to incarnation sequence accepted) e = absurd e
-mild-may G o after (outputs.HoldTaken until from sequence) e = absurd e
-mild-may G o after (outputs.FedByFailsafe until members sequence since) e = absurd e
-mild-may G o after outputs.Begin e = absurd e
-mild-may G o after (outputs.Restart as_primary) e = absurd e
+mild-may G o after (outputs.Message (outgoing.FailsafeAnswer to incarnation sequence accepted)) e = absurd e
+mild-may G o after (outputs.Tell (tellings.HoldTaken until from sequence)) e = absurd e
+mild-may G o after (outputs.Watchdog (feedings.FedByFailsafe until members sequence since)) e = absurd e
+mild-may G o after (outputs.Server orders.Begin) e = absurd e
+mild-may G o after (outputs.Server (orders.Restart as_primary)) e = absurd e
 mild-may G o after _ e = tt
 
 pub mild-all : (G : Grounds) (o after : Outcome) → AllMild G.creates o.knows.sequence after → AllMay G o after
@@ -255,12 +266,12 @@ mild-all G o after all = All-weaker (IsMild G.creates o.knows.sequence after.kno
 
 silent-mild : (K : Option Expected → Type 0) (low high : ℕ) (output : Output) → IsSilent output
     → IsMild K low high output
-silent-mild K low high (outputs.Send to sequence body) e = absurd e
-silent-mild K low high (outputs.FailsafeAnswer to incarnation sequence accepted) e = absurd e
-silent-mild K low high (outputs.HoldTaken until from sequence) e = absurd e
-silent-mild K low high (outputs.FedByFailsafe until members sequence since) e = absurd e
-silent-mild K low high outputs.Begin e = absurd e
-silent-mild K low high (outputs.Restart as_primary) e = e
+silent-mild K low high (outputs.Message (outgoing.Send to sequence body)) e = absurd e
+silent-mild K low high (outputs.Message (outgoing.FailsafeAnswer to incarnation sequence accepted)) e = absurd e
+silent-mild K low high (outputs.Tell (tellings.HoldTaken until from sequence)) e = absurd e
+silent-mild K low high (outputs.Watchdog (feedings.FedByFailsafe until members sequence since)) e = absurd e
+silent-mild K low high (outputs.Server orders.Begin) e = absurd e
+silent-mild K low high (outputs.Server (orders.Restart as_primary)) e = e
 silent-mild K low high _ e = tt
 
 pub mild-front : (K : Option Expected → Type 0) (low high : ℕ) (outs : List Output) → All IsSilent outs
@@ -272,15 +283,15 @@ up-to a b c first second = omega (arith, first, second)
 
 pub more-mild : (K : Option Expected → Type 0) (low high more : ℕ) → high ≤ more → (output : Output)
     → IsMild K low high output → IsMild K low more output
-more-mild K low high more less (outputs.Send targets.Store sequence body) e =
+more-mild K low high more less (outputs.Message (outgoing.Send targets.Store sequence body)) e =
     (e.0, up-to sequence high more e.1 less, e.2)
-more-mild K low high more less (outputs.Send (targets.Member member) sequence body) e =
+more-mild K low high more less (outputs.Message (outgoing.Send (targets.Member member) sequence body)) e =
     (e.0, up-to sequence high more e.1 less, e.2)
-more-mild K low high more less (outputs.FailsafeAnswer to incarnation sequence accepted) e = e
-more-mild K low high more less (outputs.HoldTaken until from sequence) e = e
-more-mild K low high more less (outputs.FedByFailsafe until members sequence since) e = e
-more-mild K low high more less outputs.Begin e = e
-more-mild K low high more less (outputs.Restart as_primary) e = e
+more-mild K low high more less (outputs.Message (outgoing.FailsafeAnswer to incarnation sequence accepted)) e = e
+more-mild K low high more less (outputs.Tell (tellings.HoldTaken until from sequence)) e = e
+more-mild K low high more less (outputs.Watchdog (feedings.FedByFailsafe until members sequence since)) e = e
+more-mild K low high more less (outputs.Server orders.Begin) e = e
+more-mild K low high more less (outputs.Server (orders.Restart as_primary)) e = e
 more-mild K low high more less _ e = tt
 
 -- a race that is judged asks for the leader key, or tells of the member
@@ -291,9 +302,10 @@ judged-mild K low now o may less silent =
     let later : low < high = omega (arith, less) in
     judged-by (AllMild K low) now o
     (All-push (IsMild K low high) o.outputs _ (mild-front K low high o.outputs silent) (later, omega arith, may))
-    (λ bar. All-push (IsMild K low high) (with_output (outputs.Note (agent_notes.DoesNotRace bar)) o.outputs) _
-    (mild-front K low high (with_output (outputs.Note (agent_notes.DoesNotRace bar)) o.outputs)
-    (silently o.outputs (outputs.Note (agent_notes.DoesNotRace bar)) silent tt))
+    (λ bar.
+    All-push (IsMild K low high) (with_output (outputs.Note (notings.Agent (agent_notes.DoesNotRace bar))) o.outputs) _
+    (mild-front K low high (with_output (outputs.Note (notings.Agent (agent_notes.DoesNotRace bar))) o.outputs)
+    (silently o.outputs (outputs.Note (notings.Agent (agent_notes.DoesNotRace bar))) silent tt))
     (later, omega arith, tt))
 
 -- so do the asks
@@ -303,9 +315,10 @@ ask-mild : (K : Option Expected → Type 0) (low high : ℕ) (who : Who) (sequen
 ask-mild K low high who sequence None outs later less all = all
 ask-mild K low high who sequence (Some member) outs later less all =
     if-cases (λ (l : List Output). All (IsMild K low high) l) (is_other who member)
-    (with_output (outputs.Send (targets.Member member) sequence bodies.Ask) outs) outs
+    (with_output (outputs.Message (outgoing.Send (targets.Member member) sequence bodies.Ask)) outs) outs
     (λ _.
-    All-push (IsMild K low high) outs (outputs.Send (targets.Member member) sequence bodies.Ask) all (later, less, tt))
+    All-push (IsMild K low high) outs
+    (outputs.Message (outgoing.Send (targets.Member member) sequence bodies.Ask)) all (later, less, tt))
     (λ _. all)
 
 asks-mild : (K : Option Expected → Type 0) (low high : ℕ) (who : Who) (sequence count : ℕ) (outs : List Output)
@@ -329,9 +342,11 @@ handover-mild K low now held o less silent = let out : ℕ = o.knows.sequence in
   clears = λ compared. All-push (IsMild K low (out + 1)) o.outputs _
       (mild-front K low (out + 1) o.outputs silent) (omega (arith, less), omega arith, tt);
   hands = λ candidate. mild-front K low out
-      (with_output outputs.ShutDown (with_output (outputs.Note (agent_notes.HandsOver candidate)) o.outputs))
-      (silently (with_output (outputs.Note (agent_notes.HandsOver candidate)) o.outputs) outputs.ShutDown
-      (silently o.outputs (outputs.Note (agent_notes.HandsOver candidate)) silent tt) tt);
+      (with_output (outputs.Server orders.ShutDown)
+      (with_output (outputs.Note (notings.Agent (agent_notes.HandsOver candidate))) o.outputs))
+      (silently (with_output (outputs.Note (notings.Agent (agent_notes.HandsOver candidate))) o.outputs)
+      (outputs.Server orders.ShutDown)
+      (silently o.outputs (outputs.Note (notings.Agent (agent_notes.HandsOver candidate))) silent tt) tt);
 }
 
 -- so does who asks for whom it may hand over to
@@ -354,7 +369,8 @@ ended-fronts : (why : Why) (held : ℕ) (o : Outcome) → o.role ≡ Ending held
 ended-fronts HandOver held o is ended alone silent =
     Released held (rw is refl) (alone (rw is refl)) refl ended (omega arith)
     (All-push (IsReleaseOr (o.knows.sequence + 1) held) (disarmed o.machine.watchdog.deadline o.outputs)
-    (outputs.Send targets.Store (o.knows.sequence + 1) (bodies.Request (txns.Release held)))
+    (outputs.Message (outgoing.Send targets.Store (o.knows.sequence + 1)
+    (bodies.Request (txns.Lease (lease_txns.Release held)))))
     (All-weaker IsSilent (IsReleaseOr (o.knows.sequence + 1) held) (λ output e. inl e)
     (disarmed o.machine.watchdog.deadline o.outputs) (silent-disarmed o.machine.watchdog.deadline o.outputs silent))
     (inr refl))
@@ -400,7 +416,8 @@ before-may G now o alone silent = fronts-may G o (reconciled now o) (before-fron
 -- a promotion that is postponed sends nothing
 pub postpones-silent : (held : ℕ) (o : Outcome) → All IsSilent o.outputs → All IsSilent (postpones held o).outputs
 postpones-silent held o silent = silently (disarmed o.machine.watchdog.deadline o.outputs)
-    (outputs.Note agent_notes.PostponesPromotion) (silent-disarmed o.machine.watchdog.deadline o.outputs silent) tt
+    (outputs.Note (notings.Agent agent_notes.PostponesPromotion))
+    (silent-disarmed o.machine.watchdog.deadline o.outputs silent) tt
 
 -- a read is sent under the next number
 pub reads-new : (G : Grounds) (now : Ticks) (o b : Outcome) → o.knows.sequence ≤ b.knows.sequence
@@ -421,10 +438,12 @@ pub told-fronts : (o b : Outcome) → Fronts o b → ReplyRows (Fronts o) b
 told-fronts o b fronts = record { kept = fronts; answers = λ request told. answers-front request told fronts }
   where
     answers-front : (request : ℕ) (told : Tells) → Fronts o b → Fronts o (answering request told b)
-    answers-front request told (Silent all) = Silent (silently b.outputs (outputs.Told request told) all tt)
+    answers-front request told (Silent all) =
+        Silent (silently b.outputs (outputs.Tell (tellings.Told request told)) all tt)
     answers-front request told (Released revision held alone role ended counted all) =
         Released revision held alone role ended counted
-        (All-push (IsReleaseOr (o.knows.sequence + 1) revision) b.outputs (outputs.Told request told) all (inl tt))
+        (All-push (IsReleaseOr (o.knows.sequence + 1) revision) b.outputs
+        (outputs.Tell (tellings.Told request told)) all (inl tt))
 
 -- what precedes an input leaves what a create expects
 abbrev pub ComparesAs : Outcome → Outcome → Type 0

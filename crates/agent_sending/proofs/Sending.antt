@@ -12,6 +12,9 @@ use Rattle.lease_store.specs.declared.granted.Granted.{Granted}
 use Rattle.store_keys.specs.declared.txn.Expected.{Expected}
 use Rattle.store_keys.specs.declared.txn.Txn.{Txn}
 use Rattle.store_keys.specs.declared.txn.Txn.TheVariants as txns
+use Rattle.store_keys.specs.declared.txn.LeaseTxn.TheVariants as lease_txns
+use Rattle.store_keys.specs.declared.txn.OperatorTxn.TheVariants as operator_txns
+use Rattle.store_keys.specs.declared.txn.SyncTxn.TheVariants as sync_txns
 use Rattle.wal_model.specs.declared.entry.HistoryPoint.{HistoryPoint}
 use Rattle.cluster_view.specs.declared.snapshot.LeaderEntry.{LeaderEntry}
 use Rattle.cluster_view.specs.Snapshots.{SnapshotFacts, leader_in}
@@ -27,6 +30,11 @@ use Rattle.agent_model.specs.declared.knowledge.Settling.{Settling}
 use Rattle.agent_model.specs.declared.knowledge.PendingQuestion.{PendingQuestion}
 use Rattle.agent_model.specs.declared.output.Output.{Output}
 use Rattle.agent_model.specs.declared.output.Output.TheVariants as outputs
+use Rattle.agent_model.specs.declared.output.Feeding.TheVariants as feedings
+use Rattle.agent_model.specs.declared.output.Noting.TheVariants as notings
+use Rattle.agent_model.specs.declared.output.Outgoing.TheVariants as outgoing
+use Rattle.agent_model.specs.declared.output.ServerOrder.TheVariants as orders
+use Rattle.agent_model.specs.declared.output.Telling.TheVariants as tellings
 use Rattle.agent_model.specs.declared.output.Target.TheVariants as targets
 use Rattle.agent_model.specs.declared.who.Who.{Who}
 use Rattle.agent_model.specs.declared.why.Why.TheVariants.{HandOver}
@@ -95,7 +103,7 @@ touches G o x outs later silent = push G o (touching x) x.outputs _ (front G o (
 touches-repairing : (G : Grounds) (leader : MemberId) (r : Repair) (o x : Outcome)
     → o.knows.sequence ≤ x.knows.sequence → All IsSilent x.outputs → AllMay G o (repairing leader r (touching x))
 touches-repairing G leader r o x later silent = let y : Outcome = repairing leader r (touching x) in
-    push G o y (touching x).outputs (outputs.Repair leader r)
+    push G o y (touching x).outputs (outputs.Server (orders.Repair leader r))
     (push G o y x.outputs _ (front G o y x.outputs silent) (sends G o y x.knows.sequence _ later refl tt)) tt
 
 follow-may : (G : Grounds) (now : Ticks) (leader : MemberId) (o b : Outcome)
@@ -107,17 +115,19 @@ follow-may G now leader o b later silent = let x : Outcome = led_by_another b in
     (follow-by (λ (y : Outcome). AllMay G o (touching y)) may now leader b.machine.server.state x
     (touches G o x x.outputs later silent)
     (touches G o (starting_replica now (Some leader) x) x.outputs later
-    (silently b.outputs (outputs.StartReplica (Some leader)) silent tt))
-    (touches G o (following_server leader x) x.outputs later (silently b.outputs (outputs.Follow leader) silent tt))
-    (touches G o (shutting_down now x) x.outputs later (silently b.outputs outputs.ShutDown silent tt)))
+    (silently b.outputs (outputs.Server (orders.StartReplica (Some leader))) silent tt))
+    (touches G o (following_server leader x) x.outputs later
+    (silently b.outputs (outputs.Server (orders.Follow leader)) silent tt))
+    (touches G o (shutting_down now x) x.outputs later (silently b.outputs (outputs.Server orders.ShutDown) silent tt)))
     (λ r.
     follow-by (λ (y : Outcome). AllMay G o (repairing leader r (touching y))) may now leader b.machine.server.state x
     (touches-repairing G leader r o x later silent)
     (touches-repairing G leader r o (starting_replica now (Some leader) x) later
-    (silently b.outputs (outputs.StartReplica (Some leader)) silent tt))
+    (silently b.outputs (outputs.Server (orders.StartReplica (Some leader))) silent tt))
     (touches-repairing G leader r o (following_server leader x) later
-    (silently b.outputs (outputs.Follow leader) silent tt))
-    (touches-repairing G leader r o (shutting_down now x) later (silently b.outputs outputs.ShutDown silent tt)))
+    (silently b.outputs (outputs.Server (orders.Follow leader)) silent tt))
+    (touches-repairing G leader r o (shutting_down now x) later
+    (silently b.outputs (outputs.Server orders.ShutDown) silent tt)))
 
 -- what a member without a lease does while nobody leads, where it is known that nothing bars it as it races
 pub free-when : (P : Outcome → Type 0) (now : Ticks) (o : Outcome)
@@ -142,11 +152,11 @@ free-may : (G : Grounds) (now : Ticks) (o b : Outcome)
 free-may G now o b creates later silent = let x : Outcome = record b { role = Follower } in
     free-when (AllMay G o) now x
     (touches G o (starting_replica now None x) x.outputs later
-    (silently b.outputs (outputs.StartReplica None) silent tt))
+    (silently b.outputs (outputs.Server (orders.StartReplica None)) silent tt))
     (touches G o x x.outputs later silent)
     (λ bar. touches G o (record x {
-      outputs = with_output (outputs.Note (agent_notes.DoesNotRace bar)) x.outputs;
-    }) x.outputs later (silently b.outputs (outputs.Note (agent_notes.DoesNotRace bar)) silent tt))
+      outputs = with_output (outputs.Note (notings.Agent (agent_notes.DoesNotRace bar))) x.outputs;
+    }) x.outputs later (silently b.outputs (outputs.Note (notings.Agent (agent_notes.DoesNotRace bar))) silent tt))
     (λ free. mild-all G o (judged now (unheard x))
     (judged-mild G.creates o.knows.sequence now (unheard x) (creates free) later silent))
     (λ free.
@@ -217,9 +227,9 @@ got-silent G now points sequence snapshot o b creates fits later silent =
       quiet = front G o (waiting_no_more b) b.outputs silent;
       other = front G o read b.outputs silent;
       leader = λ held _. let lost : Outcome = leader_loses_key now held read in
-          push G o lost b.outputs (outputs.Stop LeaderKeyLost) (front G o lost b.outputs silent) tt;
+          push G o lost b.outputs (outputs.Server (orders.Stop LeaderKeyLost)) (front G o lost b.outputs silent) tt;
       unleased = λ _. let lost : Outcome = unleased_loses_key now read in
-          push G o lost b.outputs (outputs.Stop LeaderKeyLost) (front G o lost b.outputs silent) tt;
+          push G o lost b.outputs (outputs.Server (orders.Stop LeaderKeyLost)) (front G o lost b.outputs silent) tt;
       renews = λ _ leader some mine. let renews : Outcome = renewing now points leader.revision read in
           push G o renews b.outputs _ (front G o renews b.outputs silent)
           (sends G o renews b.knows.sequence _ later refl (
@@ -231,11 +241,12 @@ got-silent G now points sequence snapshot o b creates fits later silent =
       follows = λ leader _ _. follow-may G now leader.holder o read later silent;
       free = λ _ _. free-may G now o read creates.free later silent;
       runs_on = λ _. let runs : Outcome = running_without_key read in
-          front G o runs runs.outputs (silently b.outputs (outputs.Note agent_notes.RunsWithoutKey) silent tt);
+          front G o runs runs.outputs
+          (silently b.outputs (outputs.Note (notings.Agent agent_notes.RunsWithoutKey)) silent tt);
       asks_on = λ paused. let asks : Outcome = asks_as_unleased now read in
-          let runs : List Output = with_output (outputs.Note agent_notes.RunsWithoutKey) b.outputs in
+          let runs : List Output = with_output (outputs.Note (notings.Agent agent_notes.RunsWithoutKey)) b.outputs in
           push G o asks runs _
-          (front G o asks runs (silently b.outputs (outputs.Note agent_notes.RunsWithoutKey) silent tt))
+          (front G o asks runs (silently b.outputs (outputs.Note (notings.Agent agent_notes.RunsWithoutKey)) silent tt))
           (sends G o asks b.knows.sequence _ later refl (creates.paused paused));
     })
 
@@ -284,11 +295,11 @@ refused-silent : (now : Ticks) (sequence : ℕ) (o : Outcome) → All IsSilent o
 refused-silent now sequence o silent = refused-by (λ (x : Outcome). All IsSilent x.outputs) now sequence o (record {
   kept = silent;
   quiet = silent;
-  leader = λ held _. silently o.outputs (outputs.Stop LeaderKeyLost) silent tt;
-  unleased = λ _. silently o.outputs (outputs.Stop LeaderKeyLost) silent tt;
+  leader = λ held _. silently o.outputs (outputs.Server (orders.Stop LeaderKeyLost)) silent tt;
+  unleased = λ _. silently o.outputs (outputs.Server (orders.Stop LeaderKeyLost)) silent tt;
   follower = λ held _. silent;
   ready = λ held _. postpones-silent held (waiting_no_more o) silent;
-  runs_on = λ _. silently o.outputs (outputs.Note agent_notes.RunsWithoutKey) silent tt;
+  runs_on = λ _. silently o.outputs (outputs.Note (notings.Agent agent_notes.RunsWithoutKey)) silent tt;
 })
 
 refused-none : (now : Ticks) (sequence : ℕ) (o : Outcome) → o.knows.waited ≡ None → refused now sequence o ≡ o
@@ -360,8 +371,8 @@ asked-may G now from incarnation sequence o alone silent =
 -- a write of the sync key is sent under the next number
 writes-ask : (G : Grounds) (o after : Outcome) (sequence : ℕ) (txn : Txn) → WritesSync txn
     → MayTransact G o after sequence txn
-writes-ask G o after sequence (txns.SetSync revision sync standbys) e = tt
-writes-ask G o after sequence (txns.DropSync revision sync) e = tt
+writes-ask G o after sequence (txns.Sync (sync_txns.SetSync revision sync standbys may_lack)) e = tt
+writes-ask G o after sequence (txns.Sync (sync_txns.DropSync revision sync)) e = tt
 writes-ask G o after sequence _ e = absurd e
 
 writes-may : (G : Grounds) (now : Ticks) (settling : Settling) (txn : Txn) (o b : Outcome) → WritesSync txn
@@ -405,7 +416,7 @@ renewed-may G now ttl revision o b later silent = let led : Outcome = led_on now
     let ended : Outcome = record (ending_server now StartTooLong led) { role = Ending revision HandOver } in
     let rest : All IsSilent led.outputs = silent-fed (deadline_after now ttl b.machine.watchdog) b.outputs silent in
     renewed-by (AllMay G o) now ttl revision b
-    (front G o ended ended.outputs (silently led.outputs (outputs.Stop StartTooLong) rest tt))
+    (front G o ended ended.outputs (silently led.outputs (outputs.Server (orders.Stop StartTooLong)) rest tt))
     (duty-may G now revision o led later rest)
 
 kept-may : (G : Grounds) (now : Ticks) (revision : ℕ) (o b : Outcome) → o.knows.sequence ≤ b.knows.sequence
@@ -413,12 +424,12 @@ kept-may : (G : Grounds) (now : Ticks) (revision : ℕ) (o b : Outcome) → o.kn
 kept-may G now revision o b later silent = let led : Outcome = kept_on revision b in
     let ended : Outcome = record (ending_server now StartTooLong led) { role = Ending revision HandOver } in
     judges-start-by (AllMay G o) now revision led
-    (front G o ended ended.outputs (silently b.outputs (outputs.Stop StartTooLong) silent tt))
+    (front G o ended ended.outputs (silently b.outputs (outputs.Server (orders.Stop StartTooLong)) silent tt))
     (duty-may G now revision o led later silent)
 
 unarmed-may : (G : Grounds) (now : Ticks) (o b : Outcome) → All IsSilent b.outputs → AllMay G o (unleased_unarmed now b)
 unarmed-may G now o b silent = let ended : Outcome = ending_server now WatchdogNotArmed b in
-    front G o ended ended.outputs (silently b.outputs (outputs.Stop WatchdogNotArmed) silent tt)
+    front G o ended ended.outputs (silently b.outputs (outputs.Server (orders.Stop WatchdogNotArmed)) silent tt)
 
 unleased-may : (G : Grounds) (now ttl : Ticks) (revision : ℕ) (o b : Outcome) → All IsSilent b.outputs
     → AllMay G o (unleased_renewed now ttl revision b)
@@ -439,19 +450,21 @@ cannot-arm-may : (G : Grounds) (revision : ℕ) (o b : Outcome) → o.knows.sequ
     → live b.machine.server.state ≡ false → G.gives revision → All IsSilent b.outputs
     → AllMay G o (cannot_arm revision b)
 cannot-arm-may G revision o b later ended given silent =
-    gives-back-may G revision o (record b { outputs = with_output (outputs.Note agent_notes.CannotArm) b.outputs })
-    later ended given (silently b.outputs (outputs.Note agent_notes.CannotArm) silent tt)
+    gives-back-may G revision o
+    (record b { outputs = with_output (outputs.Note (notings.Agent agent_notes.CannotArm)) b.outputs })
+    later ended given (silently b.outputs (outputs.Note (notings.Agent agent_notes.CannotArm)) silent tt)
 
 begins-may : (G : Grounds) (now : Ticks) (revision : ℕ) (o b : Outcome) → G.gives revision
     → All IsSilent b.outputs → AllMay G o (begins now revision b)
 begins-may G now revision o b given silent = let begun : Outcome = begins now revision b in
     let required : Output = outputs.Require (unnamed b.knows.turn_settings) in
-    push G o begun (with_output required b.outputs) outputs.Begin
+    push G o begun (with_output required b.outputs) (outputs.Server orders.Begin)
     (front G o begun (with_output required b.outputs) (silently b.outputs required silent tt)) (revision, given)
 
 -- a note of the sync key is silent
 pub silent-passing : (o : Outcome) → All IsSilent o.outputs → All IsSilent (passing o).outputs
-silent-passing o silent = passing-by (All IsSilent) o silent (silently o.outputs outputs.ClaimsOutsideSync silent tt)
+silent-passing o silent =
+    passing-by (All IsSilent) o silent (silently o.outputs (outputs.Tell tellings.ClaimsOutsideSync) silent tt)
 
 claims-may : (G : Grounds) (now : Ticks) (revision : ℕ) (o b : Outcome) → o.knows.sequence ≤ b.knows.sequence
     → All IsSilent b.outputs → AllMay G o (claims now revision b)
@@ -489,7 +502,7 @@ HoldsOfReady G b = (revision : ℕ) → b.role ≡ Ready revision → G.gives re
 -- what an input may send it may where its set is confirmed besides
 confirm-put : (G : Grounds) (snapshot : SnapshotFacts) (o after : Outcome) (output : Output)
     → MayPut G o after output → MayPut G o (confirming snapshot after) output
-confirm-put G snapshot o after (outputs.Send targets.Store sequence body) may =
+confirm-put G snapshot o after (outputs.Message (outgoing.Send targets.Store sequence body)) may =
     record { later = may.later; counted = may.counted; asks = confirm-asks body may.asks }
   where
     confirm-set : (carried : Option MemberSet) → CarriesSetIf after carried
@@ -500,10 +513,11 @@ confirm-put G snapshot o after (outputs.Send targets.Store sequence body) may =
 
     confirm-txn : (txn : Txn) → MayTransact G o after sequence txn
         → MayTransact G o (confirming snapshot after) sequence txn
-    confirm-txn (txns.Create info ttl failsafe sync) asks = asks
-    confirm-txn (txns.Renew revision info ttl status row failsafe) asks = (asks.0, asks.1, confirm-set failsafe asks.2)
-    confirm-txn (txns.Release revision) asks = asks
-    confirm-txn (txns.SetConfig revision config) asks = asks
+    confirm-txn (txns.Lease (lease_txns.Create info ttl failsafe sync)) asks = asks
+    confirm-txn (txns.Lease (lease_txns.Renew revision info ttl status row failsafe)) asks =
+        (asks.0, asks.1, confirm-set failsafe asks.2)
+    confirm-txn (txns.Lease (lease_txns.Release revision)) asks = asks
+    confirm-txn (txns.Operators (operator_txns.SetConfig revision config)) asks = asks
     confirm-txn _ asks = tt
 
     confirm-asks : (body : Body) → MayAskStore G o after sequence body
@@ -511,12 +525,12 @@ confirm-put G snapshot o after (outputs.Send targets.Store sequence body) may =
     confirm-asks bodies.Read asks = tt
     confirm-asks (bodies.Request txn) asks = confirm-txn txn asks
     confirm-asks _ asks = absurd asks
-confirm-put G snapshot o after (outputs.Send (targets.Member member) sequence body) may = may
-confirm-put G snapshot o after (outputs.FailsafeAnswer to incarnation sequence accepted) may = may
-confirm-put G snapshot o after (outputs.HoldTaken until from sequence) may = may
-confirm-put G snapshot o after (outputs.FedByFailsafe until members sequence since) may = may
-confirm-put G snapshot o after outputs.Begin may = may
-confirm-put G snapshot o after (outputs.Restart as_primary) may = may
+confirm-put G snapshot o after (outputs.Message (outgoing.Send (targets.Member member) sequence body)) may = may
+confirm-put G snapshot o after (outputs.Message (outgoing.FailsafeAnswer to incarnation sequence accepted)) may = may
+confirm-put G snapshot o after (outputs.Tell (tellings.HoldTaken until from sequence)) may = may
+confirm-put G snapshot o after (outputs.Watchdog (feedings.FedByFailsafe until members sequence since)) may = may
+confirm-put G snapshot o after (outputs.Server orders.Begin) may = may
+confirm-put G snapshot o after (outputs.Server (orders.Restart as_primary)) may = may
 confirm-put G snapshot o after _ may = tt
 
 confirm-may : (G : Grounds) (snapshot : SnapshotFacts) (o after : Outcome) → AllMay G o after
@@ -617,31 +631,31 @@ acts-may G now request o b fronts who later primary asked configures = by asked 
 
     restarts : (told : Tells) → AllMay G o (telling request told (restarting now b))
     restarts told = let after : Outcome = telling request told (restarting now b) in
-        let restart : Output = outputs.Restart (is_primary b.machine.server.state) in
-        push G o after (with_output restart b.outputs) (outputs.Told request told)
+        let restart : Output = outputs.Server (orders.Restart (is_primary b.machine.server.state)) in
+        push G o after (with_output restart b.outputs) (outputs.Tell (tellings.Told request told))
         (push G o after b.outputs restart
         (front-of G o b after fronts (omega arith) refl (restart-live now b.machine.server)) primary)
         tt
 
     wipes : (told : Tells) → AllMay G o (telling request told (wiping b))
     wipes told = let after : Outcome = telling request told (wiping b) in
-        push G o after (with_output outputs.Wipe b.outputs) (outputs.Told request told)
-        (push G o after b.outputs outputs.Wipe
+        push G o after (with_output (outputs.Server orders.Wipe) b.outputs) (outputs.Tell (tellings.Told request told))
+        (push G o after b.outputs (outputs.Server orders.Wipe)
         (front-of G o b after fronts (omega arith) refl (wipe-live b.machine.server)) tt)
         tt
 
     holds : (ttl : Ticks) (told : Tells)
         → AllMay G o (telling request told (holding_for now b.knows.who.me unnumbered ttl b))
     holds ttl told = let after : Outcome = telling request told (holding_for now b.knows.who.me unnumbered ttl b) in
-        let hold : Output = outputs.HoldTaken (span_after now ttl) b.knows.who.me unnumbered in
-        push G o after (with_output hold b.outputs) (outputs.Told request told)
+        let hold : Output = outputs.Tell (tellings.HoldTaken (span_after now ttl) b.knows.who.me unnumbered) in
+        push G o after (with_output hold b.outputs) (outputs.Tell (tellings.Told request told))
         (push G o after b.outputs hold (front-of G o b after fronts (omega arith) refl (λ e. e))
         (inl (refl, ap (λ (w : Who). w.me) who)))
         tt
 
     refuses : (told : Tells) → AllMay G o (telling request told b)
     refuses told = let after : Outcome = telling request told b in push G o after b.outputs
-        (outputs.Told request told) (front-of G o b after fronts (omega arith) refl (λ e. e)) tt
+        (outputs.Tell (tellings.Told request told)) (front-of G o b after fronts (omega arith) refl (λ e. e)) tt
 
     by : (asked : OperatorRequest)
         → ((config : ConfigValue) → asked ≡ requests.Configuration config → G.configures config)
@@ -650,9 +664,10 @@ acts-may G now request o b fronts who later primary asked configures = by asked 
         (λ text _. holds (record { 0 = ttl }) (tolds.Text ok text))
         (λ text. refuses (tolds.Text internal_server_error text))
     by (requests.Failover kind failover) configures =
-        put (FailingOver kind) (txns.SetFailover failover (lease_span b.knows.settings)) tt
+        put (FailingOver kind) (txns.Operators (operator_txns.SetFailover failover (lease_span b.knows.settings))) tt
     by (requests.Configuration config) configures =
-        put Configuring (txns.SetConfig (config_revision b.knows.seen) config) (configures config refl)
+        put Configuring (txns.Operators (operator_txns.SetConfig (config_revision b.knows.seen) config))
+        (configures config refl)
     by requests.Restart configures = restarts (tolds.Text ok texts.Restarted)
     by requests.Reinit configures = wipes (tolds.Text ok texts.ReinitializeStarted)
 

@@ -17,6 +17,11 @@ use Rattle.agent_model.specs.declared.knowledge.Question.TheVariants.{Reading, C
 use Rattle.agent_model.specs.declared.knowledge.PendingQuestion.{PendingQuestion}
 use Rattle.agent_model.specs.declared.output.Output.{Output}
 use Rattle.agent_model.specs.declared.output.Output.TheVariants as outputs
+use Rattle.agent_model.specs.declared.output.Feeding.TheVariants as feedings
+use Rattle.agent_model.specs.declared.output.Noting.TheVariants as notings
+use Rattle.agent_model.specs.declared.output.Outgoing.TheVariants as outgoing
+use Rattle.agent_model.specs.declared.output.ServerOrder.TheVariants as orders
+use Rattle.agent_model.specs.declared.output.Telling.TheVariants as tellings
 use Rattle.agent_model.specs.declared.output.Target.TheVariants as targets
 use Rattle.agent_model.specs.Acting.{deadline_after, lease_span, waiting_no_more}
 use Rattle.agent_model.specs.Agents.{RoleFacts, Follower, Holder, Ready, Leader, Ending, Unleased, Outcome}
@@ -50,7 +55,8 @@ turn-mild G now o b later mild = let noted : Outcome = record b { knows = turn_n
     turn-by (AllMay G o) now b (record {
       kept = mild-all G o b mild;
       quiet = mild-all G o noted mild;
-      reads = λ _. push G o (reading now noted) b.outputs (outputs.Send targets.Store (high + 1) bodies.Read)
+      reads = λ _.
+          push G o (reading now noted) b.outputs (outputs.Message (outgoing.Send targets.Store (high + 1) bodies.Read))
           (All-weaker (IsMild K low (high + 1)) (MayPut G o (reading now noted))
           (mild-may G o (reading now noted)) b.outputs
           (All-weaker (IsMild K low high) (IsMild K low (high + 1))
@@ -67,7 +73,8 @@ turn-released G now o b revision held role ended counted all =
       kept = released G o b revision b.outputs held role ended counted all;
       quiet = released G o noted revision b.outputs held role ended counted all;
       reads =
-          λ _. push G o (reading now noted) b.outputs (outputs.Send targets.Store (b.knows.sequence + 1) bodies.Read)
+          λ _. push G o (reading now noted) b.outputs
+          (outputs.Message (outgoing.Send targets.Store (b.knows.sequence + 1) bodies.Read))
           (released G o (reading now noted) revision b.outputs held role ended (omega (arith, counted)) all)
           (reads-new G now o b (omega (arith, counted)));
     })
@@ -105,8 +112,10 @@ request-may : (G : Grounds) (o after : Outcome) (members : MemberSet) (sequence 
 request-may G o after members sequence ttl None outs later counted may all = all
 request-may G o after members sequence ttl (Some member) outs later counted may all =
     if-cases (λ (l : List Output). All (MayPut G o after) l) (has members member.number)
-    (with_output (outputs.Send (targets.Member member) sequence (bodies.FailsafeRequest ttl)) outs) outs
-    (λ _. push G o after outs (outputs.Send (targets.Member member) sequence (bodies.FailsafeRequest ttl)) all
+    (with_output (outputs.Message (outgoing.Send (targets.Member member) sequence (bodies.FailsafeRequest ttl))) outs)
+    outs
+    (λ _. push G o after outs
+    (outputs.Message (outgoing.Send (targets.Member member) sequence (bodies.FailsafeRequest ttl))) all
     (later, counted, may))
     (λ _. all)
 
@@ -131,7 +140,8 @@ seeks-may G now o b members later silent =
 -- an output that is silent, or feeds the watchdog on the acknowledgements of these members
 abbrev IsSteady : MemberSet → ℕ → Output → Type 0
 IsSteady members sequence output = IsSilent output
-    ⊎ ((until : Ticks) × ((since : Ticks) × (output ≡ outputs.FedByFailsafe until members sequence since)))
+    ⊎ ((until : Ticks) ×
+    ((since : Ticks) × (output ≡ outputs.Watchdog (feedings.FedByFailsafe until members sequence since))))
 
 steady-may : (G : Grounds) (o after : Outcome) (members : MemberSet) (sequence : ℕ) → G.feeds members sequence
     → (output : Output) → IsSteady members sequence output → MayPut G o after output
@@ -145,7 +155,7 @@ stays-steady : (now ttl : Ticks) (sequence : ℕ) (since : Ticks) (o : Outcome) 
 stays-steady now ttl sequence since o silent =
     All-push Steady
     (fed_by_failsafe (deadline_after now ttl o.machine.watchdog) o.knows.failsafe.members sequence since o.outputs)
-    outputs.StaysByFailsafe (fed-steady (deadline_after now ttl o.machine.watchdog)) (inl tt)
+    (outputs.Note notings.StaysByFailsafe) (fed-steady (deadline_after now ttl o.machine.watchdog)) (inl tt)
   where
     Steady : Output → Type 0
     Steady output = IsSteady o.knows.failsafe.members sequence output
@@ -157,7 +167,8 @@ stays-steady now ttl sequence since o silent =
         → All Steady (fed_by_failsafe deadline o.knows.failsafe.members sequence since o.outputs)
     fed-steady None = before-it
     fed-steady (Some until) = All-push Steady o.outputs
-        (outputs.FedByFailsafe until o.knows.failsafe.members sequence since) before-it (inr (until, (since, refl)))
+        (outputs.Watchdog (feedings.FedByFailsafe until o.knows.failsafe.members sequence since)) before-it
+        (inr (until, (since, refl)))
 
 steady-all : (G : Grounds) (o after x : Outcome) (members : MemberSet) (sequence : ℕ)
     → G.feeds members sequence → All (IsSteady members sequence) x.outputs → All (MayPut G o after) x.outputs
@@ -173,7 +184,8 @@ turn-steady G now o x members sequence later may all =
       kept = steady-all G o x x members sequence may all;
       quiet = steady-all G o noted x members sequence may all;
       reads =
-          λ _. push G o (reading now noted) x.outputs (outputs.Send targets.Store (x.knows.sequence + 1) bodies.Read)
+          λ _. push G o (reading now noted) x.outputs
+          (outputs.Message (outgoing.Send targets.Store (x.knows.sequence + 1) bodies.Read))
           (steady-all G o (reading now noted) x members sequence may all) (reads-new G now o x later);
     })
 
@@ -191,9 +203,10 @@ overdue-asking : (G : Grounds) (now : Ticks) (o b : Outcome)
     → o.knows.sequence ≤ b.knows.sequence → All IsSilent b.outputs → Turns G now o (overdue now b)
 overdue-asking G now o b creates feeds later silent =
     let low : ℕ = o.knows.sequence in let out : ℕ = b.knows.sequence in let K : Option Expected → Type 0 = G.creates in
-    let stopped : (reason : Reason) → All (IsMild K low out) (with_output (outputs.Stop reason) b.outputs) =
-    λ reason. mild-front K low out (with_output (outputs.Stop reason) b.outputs)
-    (silently b.outputs (outputs.Stop reason) silent tt) in
+    let stopped : (reason : Reason)
+    → All (IsMild K low out) (with_output (outputs.Server (orders.Stop reason)) b.outputs) =
+    λ reason. mild-front K low out (with_output (outputs.Server (orders.Stop reason)) b.outputs)
+    (silently b.outputs (outputs.Server (orders.Stop reason)) silent tt) in
     let mild : All (IsMild K low out) b.outputs = mild-front K low out b.outputs silent in
     overdue-when (Turns G now o) now b (record {
       kept = mild-turns G now o b later mild;
@@ -244,8 +257,8 @@ overdue-staying G now o b awaits later silent = by b.knows.waited awaits
     ends : (role : RoleFacts) → Turns G now o (unacknowledged_as now role (waiting_no_more b))
     ends (Leader held) = mild-turns G now o (leader_unacknowledged now held (waiting_no_more b)) later
         (mild-front G.creates o.knows.sequence b.knows.sequence
-        (with_output (outputs.Stop FailsafeNotAcknowledged) b.outputs)
-        (silently b.outputs (outputs.Stop FailsafeNotAcknowledged) silent tt))
+        (with_output (outputs.Server (orders.Stop FailsafeNotAcknowledged)) b.outputs)
+        (silently b.outputs (outputs.Server (orders.Stop FailsafeNotAcknowledged)) silent tt))
     ends Follower = mild-turns G now o (waiting_no_more b) later mild
     ends (Holder held) = mild-turns G now o (waiting_no_more b) later mild
     ends (Ready held) = mild-turns G now o (waiting_no_more b) later mild
@@ -329,12 +342,12 @@ failsafe-asked-may G now from incarnation sequence ttl o may alone silent = let 
     let held : Outcome = holding_for now from sequence ttl b in
     failsafe-asked-by (AllMay G o) now from incarnation sequence ttl b
     (λ _. let after : Outcome = answering_failsafe from incarnation sequence true held in
-    push G o after held.outputs (outputs.FailsafeAnswer from incarnation sequence true)
-    (push G o after b.outputs (outputs.HoldTaken (span_after now ttl) from sequence)
+    push G o after held.outputs (outputs.Message (outgoing.FailsafeAnswer from incarnation sequence true))
+    (push G o after b.outputs (outputs.Tell (tellings.HoldTaken (span_after now ttl) from sequence))
     (front-of G o b after fronts (omega arith) refl (λ e. e)) (inr (incarnation, may)))
     (λ _. may))
     (let after : Outcome = answering_failsafe from incarnation sequence false b in
-    push G o after b.outputs (outputs.FailsafeAnswer from incarnation sequence false)
+    push G o after b.outputs (outputs.Message (outgoing.FailsafeAnswer from incarnation sequence false))
     (front-of G o b after fronts (omega arith) refl (λ e. e)) (λ e. absurd (no-way e)))
 
 -- an acknowledgement that is heard sends nothing
@@ -360,7 +373,8 @@ failsafe-answered-all G now from sequence accepted sent o b feeds silent =
           (feeds waited is staying))
           (stays-steady now waited.ttl waited.sequence since (counting from sent b) silent);
       fails = λ held _ _. let ended : Outcome = leader_unacknowledged now held (waiting_no_more b) in
-          front G o ended ended.outputs (silently b.outputs (outputs.Stop FailsafeNotAcknowledged) silent tt);
+          front G o ended ended.outputs
+          (silently b.outputs (outputs.Server (orders.Stop FailsafeNotAcknowledged)) silent tt);
     })
   where
     heard-same : (ask : Ask) → (ask_heard ask from true sent).members ≡ ask.members

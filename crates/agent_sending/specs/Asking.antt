@@ -12,6 +12,9 @@ use Rattle.agent_model.specs.declared.knowledge.Knowledge.{Knowledge}
 use Rattle.agent_model.specs.declared.knowledge.PendingQuestion.{PendingQuestion}
 use Rattle.agent_model.specs.declared.output.Output.{Output}
 use Rattle.agent_model.specs.declared.output.Output.TheVariants as outputs
+use Rattle.agent_model.specs.declared.output.Feeding.TheVariants as feedings
+use Rattle.agent_model.specs.declared.output.Outgoing.TheVariants as outgoing
+use Rattle.agent_model.specs.declared.output.Telling.TheVariants as tellings
 use Rattle.agent_model.specs.declared.output.Target.TheVariants as targets
 use Rattle.agent_model.specs.Agents.{Outcome}
 use Rattle.agent_model.specs.Decisions.{asks_lease}
@@ -19,14 +22,15 @@ use Rattle.agent_model.specs.StayingPrimary.{is_staying}
 
 -- a message that this output sends has a number above the first and at most the second
 abbrev pub IsNumbered : ℕ → ℕ → Output → Type 0
-IsNumbered above most (outputs.Send to sequence body) = (above < sequence) × (sequence ≤ most)
+IsNumbered above most (outputs.Message (outgoing.Send to sequence body)) = (above < sequence) × (sequence ≤ most)
 IsNumbered above most _ = Unit {0}
 
 -- what is waited for is asked in this input: under a new number, at this moment, and for leases of that span
 pub record IsAskedNow (now : Ticks) (o after : Outcome) (waited : PendingQuestion) : Type 0 where
   pub later : o.knows.sequence < waited.sequence
   pub sent : waited.sent ≡ now
-  pub ttl : (txn : Txn) → Contains after.outputs (outputs.Send targets.Store waited.sequence (bodies.Request txn))
+  pub ttl : (txn : Txn)
+      → Contains after.outputs (outputs.Message (outgoing.Send targets.Store waited.sequence (bodies.Request txn)))
       → span_asked (query_of txn) ≡ waited.ttl.0
 
 -- the acknowledgements of a failsafe request are waited for
@@ -48,11 +52,12 @@ HearsFailsafe heard from run sequence = (ttl : Ticks) × (heard ≡ FailsafeAske
 -- an output holds and acknowledges only on a request that is heard, but for holds
 -- under number 0, which a member takes for itself; and it feeds the watchdog so
 abbrev pub StandsOn : Heard → Knowledge → Output → Type 0
-StandsOn heard knows (outputs.HoldTaken until from sequence) =
+StandsOn heard knows (outputs.Tell (tellings.HoldTaken until from sequence)) =
     ((sequence ≡ 0) × (from ≡ knows.who.me)) ⊎ ((run : ℕ) × HearsFailsafe heard from run sequence)
-StandsOn heard knows (outputs.FailsafeAnswer to run sequence accepted) =
+StandsOn heard knows (outputs.Message (outgoing.FailsafeAnswer to run sequence accepted)) =
     accepted ≡ true → HearsFailsafe heard to run sequence
-StandsOn heard knows (outputs.FedByFailsafe until members sequence since) = FeedsAsAsked knows members sequence
+StandsOn heard knows (outputs.Watchdog (feedings.FedByFailsafe until members sequence since)) =
+    FeedsAsAsked knows members sequence
 StandsOn heard knows _ = Unit {0}
 
 -- an input asks under new numbers that are counted, and the create or the renewal that its agent waits for

@@ -6,6 +6,7 @@ use Rattle.store_keys.specs.declared.config.Config.{Config}
 use Rattle.lease_model.specs.Modes.{IsModeAsked}
 use Rattle.agent_model.specs.declared.output.Output.{Output}
 use Rattle.agent_model.specs.declared.output.Output.TheVariants as outputs
+use Rattle.agent_model.specs.declared.output.Outgoing.TheVariants as outgoing
 use Rattle.cluster_view.specs.Snapshots.{SnapshotFacts, settings_in}
 use Rattle.event_book.specs.Functions.{set_members}
 use Rattle.agent_model.specs.declared.knowledge.Knowledge.{Knowledge}
@@ -47,7 +48,7 @@ HearsMode mode _ = Unit {0}
 
 -- a configuration that an output asks for has the mode so
 abbrev pub AsksMode : Bool → Output → Type 0
-AsksMode mode (outputs.Send to sequence body) = IsModeAsked mode body
+AsksMode mode (outputs.Message (outgoing.Send to sequence body)) = IsModeAsked mode body
 AsksMode mode _ = Unit {0}
 
 -- an input leaves that so

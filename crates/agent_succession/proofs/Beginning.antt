@@ -12,6 +12,7 @@ use Rattle.agent_model.specs.declared.knowledge.Question.TheVariants.{Reading, C
 use Rattle.agent_model.specs.declared.knowledge.PendingQuestion.{PendingQuestion}
 use Rattle.agent_model.specs.declared.knowledge.Knowledge.{Knowledge}
 use Rattle.agent_model.specs.declared.output.Output.TheVariants as outputs
+use Rattle.agent_model.specs.declared.output.ServerOrder.TheVariants as orders
 use Rattle.agent_model.specs.Acting.{arming, comes_late, is_refusing, waiting_no_more}
 use Rattle.agent_model.specs.Agents.{RoleFacts, Follower, Holder, Ready, Leader, Ending, Unleased, Outcome, is_ready}
 use Rattle.agent_model.specs.Reconciling.{reconciled}
@@ -118,7 +119,7 @@ lease-begins now sequence grant snapshot o awaited is =
     confirming snapshot (cond b (claims now grant.revision (passing arm)) (begins now grant.revision arm)))
     e in (
       (λ off. subst (BeginsOn now grant.revision o) (sym (by false off))
-          (record { role = refl; server = refl; begins = Contains-push _ outputs.Begin })),
+          (record { role = refl; server = refl; begins = Contains-push _ (outputs.Server orders.Begin) })),
       (λ on. subst (ClaimsOn grant.revision o) (sym (by true on)) (record {
         role = refl;
         server = refl;
@@ -165,7 +166,7 @@ granted-begins now sequence grant snapshot o = (
       (takes-then now sequence grant snapshot o unpaused awaited in_time may take armed)),
   (λ revision unpaused awaited role can. subst (BeginsOn now revision o)
       (sym (claim-then now sequence grant snapshot o revision unpaused awaited role can))
-      (record { role = refl; server = refl; begins = Contains-push _ outputs.Begin })),
+      (record { role = refl; server = refl; begins = Contains-push _ (outputs.Server orders.Begin) })),
 )
 
 -- ---- a grant is the agent's own

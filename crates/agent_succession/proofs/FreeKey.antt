@@ -24,9 +24,9 @@ use Rattle.pg_model.specs.Facts.{is_down}
 use Rattle.event_book.specs.declared.message.Body.TheVariants as bodies
 use Rattle.cluster_view.specs.declared.snapshot.LeaderEntry.{LeaderEntry}
 use Rattle.cluster_view.specs.declared.view.AgentView.{AgentView}
-use Rattle.cluster_view.specs.KeyValues.{config_in, failover_in, sync_by, sync_of_entry, sync_in, active_sync_where}
+use Rattle.cluster_view.specs.KeyValues.{config_in, failover_in, sync_by, sync_in, active_sync_where}
 use Rattle.cluster_view.specs.Naming.{is_candidate}
-use Rattle.cluster_view.specs.Snapshots.{IsRead, SnapshotFacts, leader_in, entry_in, settings_by, settings_of_entry, settings_in}
+use Rattle.cluster_view.specs.Snapshots.{IsRead, SnapshotFacts, leader_in, entry_in, settings_by, settings_of_entry, settings_in, found_by, value_by}
 use Rattle.leader_race.specs.Bars.{first_bar}
 use Rattle.leader_race.specs.Eligibility.{eligibility_of}
 use Rattle.leader_race.specs.declared.racer.RaceKeys.{RaceKeys}
@@ -39,6 +39,7 @@ use Rattle.agent_model.specs.declared.knowledge.PendingQuestion.{PendingQuestion
 use Rattle.agent_model.specs.declared.knowledge.SyncRead.{SyncRead}
 use Rattle.agent_model.specs.declared.output.Output.{Output}
 use Rattle.agent_model.specs.declared.output.Output.TheVariants as outputs
+use Rattle.agent_model.specs.declared.output.Outgoing.TheVariants as outgoing
 use Rattle.agent_model.specs.declared.output.Target.TheVariants as targets
 use Rattle.agent_model.specs.declared.heard.Heard.TheVariants.{Wake}
 use Rattle.agent_model.specs.declared.who.Who.{Who}
@@ -54,7 +55,7 @@ use Rattle.agent_model.specs.HandingOver.{check_answered}
 use Rattle.agent_model.specs.Peers.{is_asking, awaits_answer, awaits_check, judged_if_all, keeping, accepted_answer, answered_for, answered}
 use Rattle.agent_model.specs.Racing.{can_start, bar_of, turn_keys, judged_as, judged, asking_others, unheard, races, races_unless, finds_free, starts_alone}
 use Rattle.agent_model.specs.Snapshots.{no_key, led, is_active, awaits_read, read_noted, accepted, read_answered}
-use Rattle.agent_model.specs.Synchronous.{sync_read_by, sync_read_of_entry}
+use Rattle.agent_model.specs.Synchronous.{sync_read_by, sync_read_at}
 use Rattle.agent_model.specs.Views.{shown}
 use Rattle.agent_model.specs.Operators.{given_up}
 use Rattle.agent_model.specs.Table.{prepared}
@@ -137,6 +138,7 @@ settings-value settings (values.Sync sync) kind = absurd kind
 settings-value settings (values.Status end) kind = absurd kind
 settings-value settings (values.History row) kind = absurd kind
 settings-value settings (values.Failsafe members) kind = absurd kind
+settings-value settings (values.Scheduled planned) kind = absurd kind
 
 settings-found : (settings : Config) (found : Option KeyEntry) → IsSome found
     → ((stored : KeyEntry) → found ≡ Some stored → IsOfKind keys.Config stored.value)
@@ -156,7 +158,7 @@ sync-value revision None = refl
 sync-value revision (Some key) = refl
 
 sync-found : (found : Option KeyEntry)
-    → option_map (λ (read : SyncRead). read.key) (sync_read_of_entry found) ≡ sync_of_entry found
+    → option_map (λ (read : SyncRead). read.key) (found_by sync_read_at found) ≡ value_by sync_by found
 sync-found None = refl
 sync-found (Some found) = sync-value found.revision (sync_by found.value)
 
@@ -202,17 +204,20 @@ ask-keeps : (who : Who) (sequence : ℕ) (member : Option MemberId) (outs : List
 ask-keeps who sequence None outs output among = among
 ask-keeps who sequence (Some member) outs output among =
     if-cases (λ (l : List Output). Contains l output) (is_other who member)
-    (with_output (outputs.Send (targets.Member member) sequence bodies.Ask) outs) outs
-    (λ _. Contains-append_left outs (outputs.Send (targets.Member member) sequence bodies.Ask ∷ []) output among)
+    (with_output (outputs.Message (outgoing.Send (targets.Member member) sequence bodies.Ask)) outs) outs
+    (λ _. Contains-append_left outs
+    (outputs.Message (outgoing.Send (targets.Member member) sequence bodies.Ask) ∷ []) output among)
     (λ _. among)
 
 ask-sent : (who : Who) (sequence : ℕ) (member : MemberId) (outs : List Output) → is_other who member ≡ true
-    → Contains (asking_one who sequence (Some member) outs) (outputs.Send (targets.Member member) sequence bodies.Ask)
+    → Contains (asking_one who sequence (Some member) outs)
+    (outputs.Message (outgoing.Send (targets.Member member) sequence bodies.Ask))
 ask-sent who sequence member outs other =
-    subst (λ (l : List Output). Contains l (outputs.Send (targets.Member member) sequence bodies.Ask))
+    subst (λ (l : List Output).
+    Contains l (outputs.Message (outgoing.Send (targets.Member member) sequence bodies.Ask)))
     (sym (if-true (is_other who member)
-    (with_output (outputs.Send (targets.Member member) sequence bodies.Ask) outs) outs other))
-    (Contains-push outs (outputs.Send (targets.Member member) sequence bodies.Ask))
+    (with_output (outputs.Message (outgoing.Send (targets.Member member) sequence bodies.Ask)) outs) outs other))
+    (Contains-push outs (outputs.Message (outgoing.Send (targets.Member member) sequence bodies.Ask)))
 
 below-or : (a n : ℕ) → a < suc n → (a < n) ⊎ (a ≡ n)
 below-or a n less = grind (arith, less)
@@ -220,15 +225,16 @@ below-or a n less = grind (arith, less)
 -- each other member is asked
 each-asked : (who : Who) (sequence count : ℕ) (member : MemberId) (outs : List Output)
     → is_other who member ≡ true → member.number < count
-    → Contains (asking_first who sequence count outs) (outputs.Send (targets.Member member) sequence bodies.Ask)
+    → Contains (asking_first who sequence count outs)
+    (outputs.Message (outgoing.Send (targets.Member member) sequence bodies.Ask))
 each-asked who sequence zero member outs other less = absurd (omega (arith, less))
 each-asked who sequence (suc count) member outs other less = elim (below-or member.number count less) [
   | inl before-it ↦ ask-keeps who sequence (member_of count) (asking_first who sequence count outs)
-      (outputs.Send (targets.Member member) sequence bodies.Ask)
+      (outputs.Message (outgoing.Send (targets.Member member) sequence bodies.Ask))
       (each-asked who sequence count member outs other before-it)
   | inr here ↦
       subst (λ (m : Option MemberId). Contains (asking_one who sequence m (asking_first who sequence count outs))
-      (outputs.Send (targets.Member member) sequence bodies.Ask))
+      (outputs.Message (outgoing.Send (targets.Member member) sequence bodies.Ask)))
       (sym (member_of-number member) ∙ ap (λ (n : ℕ). member_of n) here)
       (ask-sent who sequence member (asking_first who sequence count outs) other)
 ]

@@ -16,6 +16,8 @@ use Rattle.event_book.specs.declared.agent_note.AgentNote.TheVariants as agent_n
 use Rattle.agent_model.specs.declared.knowledge.SyncRead.{SyncRead}
 use Rattle.agent_model.specs.declared.output.Output.{Output}
 use Rattle.agent_model.specs.declared.output.Output.TheVariants as outputs
+use Rattle.agent_model.specs.declared.output.Noting.TheVariants as notings
+use Rattle.agent_model.specs.declared.output.ServerOrder.TheVariants as orders
 use Rattle.agent_model.specs.Acting.{waiting_no_more}
 use Rattle.agent_model.specs.Agents.{Outcome}
 use Rattle.agent_model.specs.HandingOver.{clearing, handover_judged, hands_over_to, is_near, is_standby_in, is_successor, may_follow_in_sync, position_of, successor_by}
@@ -119,41 +121,47 @@ may-lead o failover candidate found =
 
 -- ---- a handover that is judged
 asks-nobody : (sent : Output) (o : Outcome) (candidate : MemberId)
-    → (sent ≡ outputs.Note (agent_notes.HandsOver candidate) → ⊥)
-    → Contains (with_output sent o.outputs) (outputs.Note (agent_notes.HandsOver candidate))
-    → Contains o.outputs (outputs.Note (agent_notes.HandsOver candidate))
+    → (sent ≡ outputs.Note (notings.Agent (agent_notes.HandsOver candidate)) → ⊥)
+    → Contains (with_output sent o.outputs) (outputs.Note (notings.Agent (agent_notes.HandsOver candidate)))
+    → Contains o.outputs (outputs.Note (notings.Agent (agent_notes.HandsOver candidate)))
 asks-nobody sent o candidate other among =
     elim (Contains-push_cases o.outputs sent
-    (outputs.Note (agent_notes.HandsOver candidate)) among) [ inl before-it ↦ before-it | inr is ↦ absurd (other is) ]
+    (outputs.Note (notings.Agent (agent_notes.HandsOver candidate)))
+    among) [ inl before-it ↦ before-it | inr is ↦ absurd (other is) ]
 
 same-candidate : (member candidate : MemberId)
-    → ◌≡◌ {A = Output} (outputs.Note (agent_notes.HandsOver member)) (outputs.Note (agent_notes.HandsOver candidate))
+    → ◌≡◌ {A = Output} (outputs.Note (notings.Agent (agent_notes.HandsOver member)))
+    (outputs.Note (notings.Agent (agent_notes.HandsOver candidate)))
     → member ≡ candidate
 same-candidate member candidate e = cc
 
 ends-nobody : (candidate : MemberId)
-    → ◌≡◌ {A = Output} outputs.ShutDown (outputs.Note (agent_notes.HandsOver candidate)) → ⊥
+    → ◌≡◌ {A = Output} (outputs.Server orders.ShutDown) (outputs.Note (notings.Agent (agent_notes.HandsOver candidate)))
+    → ⊥
 ends-nobody candidate e = cc
 
 module _ (now : Ticks) (revision : ℕ) (candidate : MemberId) (o : Outcome) where
   abbrev Right : Outcome → Type 0
-  Right after = Contains after.outputs (outputs.Note (agent_notes.HandsOver candidate))
-      → Contains o.outputs (outputs.Note (agent_notes.HandsOver candidate)) ⊎ HandsOverTo revision candidate o after
+  Right after = Contains after.outputs (outputs.Note (notings.Agent (agent_notes.HandsOver candidate)))
+      → Contains o.outputs (outputs.Note (notings.Agent (agent_notes.HandsOver candidate)))
+      ⊎ HandsOverTo revision candidate o after
 
   clears : Right (clearing (waiting_no_more o))
   clears among =
-      inl (clearing-by (λ (after : Outcome). Contains after.outputs (outputs.Note (agent_notes.HandsOver candidate)) →
-      Contains o.outputs (outputs.Note (agent_notes.HandsOver candidate)))
+      inl (clearing-by (λ (after : Outcome).
+      Contains after.outputs (outputs.Note (notings.Agent (agent_notes.HandsOver candidate))) →
+      Contains o.outputs (outputs.Note (notings.Agent (agent_notes.HandsOver candidate))))
       (waiting_no_more o) (λ before-it. before-it) (λ compared. asks-nobody _ o candidate (λ e. cc)) among)
 
   hands : (failover : FailoverKey) (member : MemberId) → o.knows.turn_failover ≡ Some failover
       → first_of (is_successor o.knows o.machine.server failover) o.knows.answers ≡ Some member
       → Right (hands_over_to now revision (Some member) (waiting_no_more o))
   hands failover member asked is among =
-      let noted : List Output = with_output (outputs.Note (agent_notes.HandsOver member)) o.outputs in
-      elim (Contains-push_cases o.outputs (outputs.Note (agent_notes.HandsOver member))
-      (outputs.Note (agent_notes.HandsOver candidate))
-      (asks-nobody outputs.ShutDown (record o { outputs = noted }) candidate (ends-nobody candidate) among)) [
+      let noted : List Output = with_output (outputs.Note (notings.Agent (agent_notes.HandsOver member))) o.outputs in
+      elim (Contains-push_cases o.outputs (outputs.Note (notings.Agent (agent_notes.HandsOver member)))
+      (outputs.Note (notings.Agent (agent_notes.HandsOver candidate)))
+      (asks-nobody (outputs.Server orders.ShutDown) (record o { outputs = noted }) candidate
+      (ends-nobody candidate) among)) [
         | inl before-it ↦ inl before-it
         | inr same ↦ inr (record {
           failover = failover;
@@ -161,7 +169,7 @@ module _ (now : Ticks) (revision : ℕ) (candidate : MemberId) (o : Outcome) whe
           may_lead = subst (MayLeadNext o failover) (same-candidate member candidate same)
               (may-lead o failover member
               (first-passes (is_successor o.knows o.machine.server failover) o.knows.answers member is));
-          ends = Contains-push noted outputs.ShutDown;
+          ends = Contains-push noted (outputs.Server orders.ShutDown);
           holds = refl;
         })
       ]

@@ -6,6 +6,8 @@ use Rattle.pat_base.specs.declared.ticks.Ticks.{Ticks}
 use Rattle.pat_base.specs.declared.ineligibility.Ineligibility.{Ineligibility}
 use Rattle.lease_store.specs.declared.granted.Granted.{Granted}
 use Rattle.store_keys.specs.declared.txn.Txn.TheVariants as txns
+use Rattle.store_keys.specs.declared.txn.LeaseTxn.TheVariants as lease_txns
+use Rattle.store_keys.specs.declared.txn.SyncTxn.TheVariants as sync_txns
 use Rattle.leader_race.specs.Eligibility.{eligibility_of}
 use Rattle.leader_race.specs.Outcome.{outcome_by, race_keys_in}
 use Rattle.event_book.specs.declared.agent_note.AgentNote.TheVariants as agent_notes
@@ -17,6 +19,9 @@ use Rattle.agent_model.specs.declared.knowledge.Knowledge.{Knowledge}
 use Rattle.agent_model.specs.declared.knowledge.Question.TheVariants.{ComparingPositions, Creating, Claiming}
 use Rattle.agent_model.specs.declared.knowledge.PendingQuestion.{PendingQuestion}
 use Rattle.agent_model.specs.declared.output.Output.TheVariants as outputs
+use Rattle.agent_model.specs.declared.output.Noting.TheVariants as notings
+use Rattle.agent_model.specs.declared.output.Outgoing.TheVariants as outgoing
+use Rattle.agent_model.specs.declared.output.ServerOrder.TheVariants as orders
 use Rattle.agent_model.specs.declared.output.Target.TheVariants as targets
 use Rattle.agent_model.specs.Acting.{comes_late, is_refusing, lease_span, status_begun}
 use Rattle.agent_model.specs.Agents.{Follower, Ready, Leader, Outcome}
@@ -48,10 +53,10 @@ pub record StaysOut (snapshot : SnapshotFacts) (bar : Ineligibility) (o after : 
   pub machine : after.machine ≡ o.machine
   pub waits : after.knows.waited ≡ None
   pub outputs_are : after.outputs
-      ≡ with_output (outputs.Send targets.Store (o.knows.sequence + 1)
+      ≡ with_output (outputs.Message (outgoing.Send targets.Store (o.knows.sequence + 1)
       (bodies.Request (txns.Touch (info_of o.knows.who o.machine.server)
-      (lease_span (settings_in o.knows.settings snapshot)))))
-      (with_output (outputs.Note (agent_notes.DoesNotRace bar)) o.outputs)
+      (lease_span (settings_in o.knows.settings snapshot))))))
+      (with_output (outputs.Note (notings.Agent (agent_notes.DoesNotRace bar))) o.outputs)
 
 -- the agent asks for the leader key, with failsafe mode under the
 -- failsafe key that its turn read, and waits for the answer
@@ -60,9 +65,9 @@ pub record AsksForKey (o after : Outcome) : Type 0 where
   pub waits : after.knows.waited ≡ Some waited
   pub asks : waited.question ≡ Creating
   pub outputs_are : after.outputs
-      ≡ with_output (outputs.Send targets.Store waited.sequence
-      (bodies.Request (txns.Create (info_of o.knows.who o.machine.server) waited.ttl
-      (failsafe_compared after.knows) None)))
+      ≡ with_output (outputs.Message (outgoing.Send targets.Store waited.sequence
+      (bodies.Request (txns.Lease (lease_txns.Create (info_of o.knows.who o.machine.server) waited.ttl
+      (failsafe_compared after.knows) None)))))
       o.outputs
 
 -- the agent asks each other member how far its server is, and nobody else, all under one new number. It waits
@@ -76,7 +81,7 @@ pub record AsksOthers (now : Ticks) (snapshot : SnapshotFacts) (o after : Outcom
   pub unheard : after.knows.answers ≡ []
   pub keys : IsRead snapshot.entries → turn_keys after.knows ≡ race_keys_in snapshot
   pub each : (member : MemberId) → is_other o.knows.who member ≡ true
-      → Contains after.outputs (outputs.Send (targets.Member member) waited.sequence bodies.Ask)
+      → Contains after.outputs (outputs.Message (outgoing.Send (targets.Member member) waited.sequence bodies.Ask))
   pub outputs_are : after.outputs ≡ asking_all o.knows.who waited.sequence o.outputs
 
 -- the agent waits for the answers of the others
@@ -103,9 +108,9 @@ pub record LosesRace (bar : Ineligibility) (o after : Outcome) : Type 0 where
   pub machine : after.machine ≡ o.machine
   pub waits : after.knows.waited ≡ None
   pub outputs_are : after.outputs
-      ≡ with_output (outputs.Send targets.Store (o.knows.sequence + 1)
-      (bodies.Request (txns.Touch (info_of o.knows.who o.machine.server) (lease_span o.knows.settings))))
-      (with_output (outputs.Note (agent_notes.DoesNotRace bar)) o.outputs)
+      ≡ with_output (outputs.Message (outgoing.Send targets.Store (o.knows.sequence + 1)
+      (bodies.Request (txns.Touch (info_of o.knows.who o.machine.server) (lease_span o.knows.settings)))))
+      (with_output (outputs.Note (notings.Agent (agent_notes.DoesNotRace bar))) o.outputs)
 
 -- it loses the race, and then a turn begins that is due
 pub record LosesAndTurns (now : Ticks) (bar : Ineligibility) (o after : Outcome) : Type 0 where
@@ -136,7 +141,7 @@ AsksWhereWon now _ o after = Unit {0}
 pub record BeginsOn (now : Ticks) (revision : ℕ) (o after : Outcome) : Type 0 where
   pub role : after.role ≡ Leader revision
   pub server : after.machine.server ≡ status_begun now o.machine.server
-  pub begins : Contains after.outputs outputs.Begin
+  pub begins : Contains after.outputs (outputs.Server orders.Begin)
 
 -- the agent is about to begin, over its server as it was: it claims
 -- the sync key as its turn read it, and waits for the answer
@@ -147,8 +152,8 @@ pub record ClaimsOn (revision : ℕ) (o after : Outcome) : Type 0 where
   pub waits : after.knows.waited ≡ Some waited
   pub asks : waited.question ≡ Claiming
   pub claims : Contains after.outputs
-      (outputs.Send targets.Store waited.sequence
-      (bodies.Request (txns.Claim revision (expected_of o.knows.turn_sync))))
+      (outputs.Message (outgoing.Send targets.Store waited.sequence
+      (bodies.Request (txns.Sync (sync_txns.Claim revision (expected_of o.knows.turn_sync))))))
 
 -- the answer of this number grants this member the claim that it waits for
 pub record IsAwaitedClaim (sequence : ℕ) (grant : Granted) (knows : Knowledge) : Type 0 where

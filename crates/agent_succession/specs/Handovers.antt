@@ -10,6 +10,7 @@ use Rattle.cluster_view.specs.Naming.{is_standby}
 use Rattle.leader_race.specs.Eligibility.{may_fail_over}
 use Rattle.agent_model.specs.declared.knowledge.SyncRead.{SyncRead}
 use Rattle.agent_model.specs.declared.output.Output.TheVariants as outputs
+use Rattle.agent_model.specs.declared.output.ServerOrder.TheVariants as orders
 use Rattle.agent_model.specs.declared.why.Why.TheVariants.{HandOver}
 use Rattle.agent_model.specs.Agents.{Ending, Outcome}
 use Rattle.agent_model.specs.HandingOver.{position_of}
@@ -35,5 +36,5 @@ pub record HandsOverTo (revision : ℕ) (candidate : MemberId) (o after : Outcom
   pub failover : FailoverKey
   pub asked : o.knows.turn_failover ≡ Some failover
   pub may_lead : MayLeadNext o failover candidate
-  pub ends : Contains after.outputs outputs.ShutDown
+  pub ends : Contains after.outputs (outputs.Server orders.ShutDown)
   pub holds : after.role ≡ Ending revision HandOver

@@ -13,6 +13,7 @@ ghost use Rattle.agent_model.specs.declared.heard.Heard.{Heard};
 ghost use Rattle.agent_model.specs.declared.heard.Heard.TheVariants as heard;
 ghost use Rattle.agent_model.specs.declared.knowledge.PendingQuestion.{PendingQuestion};
 ghost use Rattle.agent_model.specs.declared.output.Output.TheVariants as outputs;
+ghost use Rattle.agent_model.specs.declared.output.Noting.TheVariants as notings;
 ghost use Rattle.event_book.specs.declared.agent_note.AgentNote.TheVariants as agent_notes;
 ghost use Rattle.agent_model.specs.Agents.{Outcome};
 ghost use Rattle.agent_model.specs.Answers.{with_answer, all_answered};
@@ -29,7 +30,7 @@ ghost use Rattle.agent_model.specs.Views.{shown};
 /// further than `maximum_lag_on_failover` and, at a switchover in synchronous mode, is a standby in the sync key. Then the leader ends
 /// its server, and keeps its lease until that has ended.
 pub fn a_leader_hands_over_to_who_may_lead()
-    ensures { (now : Ticks) (revision : ℕ) (candidate : MemberId) (o : Outcome) → Contains (handover_judged now revision o).outputs (outputs.Note (agent_notes.HandsOver candidate)) → Contains o.outputs (outputs.Note (agent_notes.HandsOver candidate)) ⊎ HandsOverTo revision candidate o (handover_judged now revision o) }
+    ensures { (now : Ticks) (revision : ℕ) (candidate : MemberId) (o : Outcome) → Contains (handover_judged now revision o).outputs (outputs.Note (notings.Agent (agent_notes.HandsOver candidate))) → Contains o.outputs (outputs.Note (notings.Agent (agent_notes.HandsOver candidate))) ⊎ HandsOverTo revision candidate o (handover_judged now revision o) }
 {}
 
 /// Who is barred doesn't ask for a free leader key: where the answer to its read tells that nobody leads, an agent without a

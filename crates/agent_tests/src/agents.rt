@@ -1,7 +1,9 @@
 //! Inputs of agents, worked by hand.
 ghost use Rattle.agent_rows.specs.Inputs.{IsSpannedInput};
 
-use agent_model::{Heard, Machine, Output, Replication, Told, Who};
+use agent_model::{
+    Feeding, Heard, Machine, Outgoing, Output, Replication, ServerOrder, Telling, Told, Who,
+};
 use cluster_view::{RoleWord, Snapshot};
 use event_book::{Body, Reason};
 use ha_loop::{Agent, Outputs};
@@ -13,7 +15,7 @@ use pg_model::Server;
 use std::alloc::Global;
 use std::process::Abort;
 use std::test::Fail;
-use store_keys::{ConfigValue, MemberInfo, OperatorAction, OperatorRequest, Txn};
+use store_keys::{ConfigValue, LeaseTxn, MemberInfo, OperatorAction, OperatorRequest, Txn};
 use wal_model::History;
 
 fn who(rt: &impl Abort) -> Who {
@@ -37,8 +39,8 @@ fn asked(body: &Body) -> &'static str {
     match body {
         Body::Read => "read",
         Body::Request(txn) => match txn.get() {
-            Txn::Create { .. } => "create",
-            Txn::Renew { .. } => "renewal",
+            Txn::Lease(LeaseTxn::Create { .. }) => "create",
+            Txn::Lease(LeaseTxn::Renew { .. }) => "renewal",
             _ => "another request",
         },
         _ => "another message",
@@ -48,46 +50,60 @@ fn asked(body: &Body) -> &'static str {
 /// What an output does, in a word.
 fn word(rt: &impl Abort, alloc: Global, output: Output) -> &'static str {
     match output {
-        Output::Send { body, .. } => asked(&body.into_body(alloc).expect(rt, "memory")),
-        Output::Begin => "begin",
-        Output::Stop {
-            reason: Reason::StoreOutOfReach,
-        } => "out of reach",
+        Output::Message(Outgoing::Send { body, .. }) => asked(
+            &body.into_body(alloc).expect(rt, "memory"),
+        ),
+        Output::Server(ServerOrder::Begin) => "begin",
+        Output::Server(
+            ServerOrder::Stop {
+                reason: Reason::StoreOutOfReach,
+            },
+        ) => "out of reach",
         Output::Require { .. } => "require",
-        Output::Armed { until: Ticks(251) } => "armed until 251",
-        Output::Disarmed => "disarmed",
-        Output::Restart { as_primary: false } => "restart as a replica",
-        Output::HoldTaken {
-            until: Ticks(301),
-            from: MemberId { number: 0 },
-            sequence: 0,
-        } => "hold until 301",
-        Output::Told {
-            request: 7,
-            told: Told::Text {
-                status: 200,
-                text: Text::Accepted,
+        Output::Watchdog(Feeding::Armed { until: Ticks(251) }) => "armed until 251",
+        Output::Watchdog(Feeding::Disarmed) => "disarmed",
+        Output::Server(ServerOrder::Restart { as_primary: false }) => "restart as a replica",
+        Output::Tell(
+            Telling::HoldTaken {
+                until: Ticks(301),
+                from: MemberId { number: 0 },
+                sequence: 0,
             },
-        } => "accepted",
-        Output::Told {
-            request: 7,
-            told: Told::Text {
-                status: 500,
-                text: Text::Refused,
+        ) => "hold until 301",
+        Output::Tell(
+            Telling::Told {
+                request: 7,
+                told: Told::Text {
+                    status: 200,
+                    text: Text::Accepted,
+                },
             },
-        } => "refused",
-        Output::Told { request: 7, .. } => "answer to 7",
-        Output::HoldTaken {
-            until: Ticks(305),
-            from: MemberId { number: 1 },
-            sequence: 9,
-        } => "hold until 305",
-        Output::FailsafeAnswer {
-            to: MemberId { number: 1 },
-            incarnation: 4,
-            sequence: 9,
-            accepted,
-        } => { if accepted { "yes" } else { "no" } }
+        ) => "accepted",
+        Output::Tell(
+            Telling::Told {
+                request: 7,
+                told: Told::Text {
+                    status: 500,
+                    text: Text::Refused,
+                },
+            },
+        ) => "refused",
+        Output::Tell(Telling::Told { request: 7, .. }) => "answer to 7",
+        Output::Tell(
+            Telling::HoldTaken {
+                until: Ticks(305),
+                from: MemberId { number: 1 },
+                sequence: 9,
+            },
+        ) => "hold until 305",
+        Output::Message(
+            Outgoing::FailsafeAnswer {
+                to: MemberId { number: 1 },
+                incarnation: 4,
+                sequence: 9,
+                accepted,
+            },
+        ) => { if accepted { "yes" } else { "no" } }
         _ => "another",
     }
 }
@@ -162,7 +178,7 @@ fn snapshot(alloc: Global, who: &Who, store: &Store, at: Ticks) -> Result<Snapsh
 fn answers(alloc: Global, who: &Who) -> Result<(Snapshot, Granted, Snapshot, Snapshot), Fail> {
     let mut store = Store::new(alloc, ConfigValue::defaults(alloc)?)?;
     let free = snapshot(alloc, who, &store, Ticks(1))?;
-    let create = Txn::Create {
+    let create = Txn::Lease(LeaseTxn::Create {
         info: MemberInfo {
             host: who.host,
             tags: who.tags,
@@ -174,7 +190,7 @@ fn answers(alloc: Global, who: &Who) -> Result<(Snapshot, Granted, Snapshot, Sna
         ttl: Ticks(300),
         failsafe: None,
         sync: None,
-    };
+    });
     let granted = store.apply(Ticks(1), who.me, &create)?;
     let leading = snapshot(alloc, who, &store, Ticks(1))?;
     let read = snapshot(alloc, who, &store, Ticks(101))?;

@@ -15,7 +15,10 @@ use crate::info::info_of;
 use crate::outputs::Outputs;
 use crate::role::Role;
 use crate::turn::Turn;
-use agent_model::{Inquiry, Machine, Output, PendingQuestion, Question, Target, Why};
+use agent_model::{
+    Feeding, Inquiry, Machine, Noting, Outgoing, Output, PendingQuestion, Question, ServerOrder,
+    Target, Why,
+};
 use event_book::{AgentNote, Reason};
 use leader_key::{Armed, Lease, Mode, NotArmed, Watchdog, Writer};
 use lease_store::Granted;
@@ -30,11 +33,11 @@ impl Turn<'_> {
         ensures left { Spent 1 1 self.old self.new }
     {
         self.knows.sequence += 1;
-        self.out.put(Output::Send {
+        self.out.put(Output::Message(Outgoing::Send {
             to: Target::Store,
             sequence: self.knows.sequence,
             body,
-        });
+        }));
     }
 
     /// Asks the key store, and waits for the answer until a moment.
@@ -92,7 +95,7 @@ impl Turn<'_> {
         ensures left { Spent 1 0 self.old self.new }
     {
         self.machine.server.stop(self.moment);
-        self.out.put(Output::Stop { reason });
+        self.out.put(Output::Server(ServerOrder::Stop { reason }));
     }
 
     /// A leader ends its server, since it loses the leader key.
@@ -225,7 +228,8 @@ impl Turn<'_> {
         ensures outcome { ComesTo running_without_key self.old self.new }
         ensures left { Spent 1 0 self.old self.new }
     {
-        self.out.put(Output::Note(AgentNote::RunsWithoutKey));
+        self.out
+            .put(Output::Note(Noting::Agent(AgentNote::RunsWithoutKey)));
         Role::Unleased
     }
 }
@@ -236,7 +240,7 @@ fn note_disarmed(out: &mut Outputs, deadline: Option<Ticks>)
     ensures room { out.old.spare ≤ out.new.spare + 1 }
 {
     if deadline.is_some() {
-        out.put(Output::Disarmed);
+        out.put(Output::Watchdog(Feeding::Disarmed));
     }
 }
 
@@ -247,7 +251,7 @@ fn note_fed(out: &mut Outputs, deadline: Option<Ticks>)
     ensures room { out.old.spare ≤ out.new.spare + 1 }
 {
     if let Some(until) = deadline {
-        out.put(Output::Fed { until });
+        out.put(Output::Watchdog(Feeding::Fed { until }));
     }
 }
 
@@ -258,7 +262,7 @@ fn note_armed(out: &mut Outputs, deadline: Option<Ticks>)
     ensures room { out.old.spare ≤ out.new.spare + 1 }
 {
     if let Some(until) = deadline {
-        out.put(Output::Armed { until });
+        out.put(Output::Watchdog(Feeding::Armed { until }));
     }
 }
 
@@ -317,8 +321,8 @@ fn tell_rest(out: &mut Outputs, renews: bool, deadline: Option<Ticks>)
     if deadline.is_none() {
         return;
     }
-    out.put(Output::Disarmed);
+    out.put(Output::Watchdog(Feeding::Disarmed));
     if renews {
-        out.put(Output::Note(AgentNote::DisablesWatchdog));
+        out.put(Output::Note(Noting::Agent(AgentNote::DisablesWatchdog)));
     }
 }

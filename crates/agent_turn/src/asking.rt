@@ -7,7 +7,7 @@ ghost use Rattle.pat_base.specs.Moments.{latest};
 ghost use Rattle.agent_model.specs.declared.output.Output.TheVariants as outputs;
 
 use crate::Outputs;
-use agent_model::{Answers, Inquiry, Output, Target, Who};
+use agent_model::{Answers, Inquiry, Outgoing, Output, Target, Who};
 use pat_base::{MOST_MEMBERS, MemberId, Ticks};
 
 /// For so many ticks a member waits for the answers of the others.
@@ -40,11 +40,11 @@ pub fn ask_one(who: &Who, sequence: u64, member: Option<MemberId>, out: &mut Out
 {
     if let Some(member) = member {
         if is_other(who, member) {
-            out.put(Output::Send {
+            out.put(Output::Message(Outgoing::Send {
                 to: Target::Member(member),
                 sequence,
                 body: Inquiry::ask(),
-            });
+            }));
         }
     }
 }

@@ -1,7 +1,7 @@
 //! What an agent reads of the failsafe key, and what it writes there (Patroni documentation, "DCS Failsafe Mode").
-ghost use Rattle.std.specs.Prelude.{option_copied, ◌≡◌};
+ghost use Rattle.std.specs.Prelude.{◌≡◌};
 ghost use Rattle.cluster_view.specs.Snapshots.{failsafe_by};
-ghost use Rattle.agent_model.specs.FailsafeKeys.{failsafe_compared, failsafe_expected, failsafe_read_by, failsafe_read_in, failsafe_read_of_entry, is_fed_by_failsafe, set_in, set_carried};
+ghost use Rattle.agent_model.specs.FailsafeKeys.{failsafe_compared, failsafe_expected, failsafe_read_by, failsafe_read_in, is_fed_by_failsafe, set_in, set_carried};
 ghost use Rattle.agent_turn.specs.Roles.{role_of};
 ghost use Rattle.agent_turn.specs.Turns.{reached};
 
@@ -11,21 +11,13 @@ use agent_model::{FailsafeRead, Knowledge, Machine};
 use cluster_view::Snapshot;
 use failsafe::set_to_write;
 use pat_base::MemberSet;
-use store_keys::{Expected, Key, KeyEntry, Value};
+use store_keys::{Expected, Key, Value};
 
 /// The failsafe key that a snapshot has, with its revision.
 pub fn failsafe_read_in(snapshot: &Snapshot) -> Option<FailsafeRead>
     ensures { result ≡ failsafe_read_in snapshot.now }
 {
-    failsafe_read_of_entry(snapshot.entry(Key::Failsafe))
-}
-
-fn failsafe_read_of_entry(found: Option<&KeyEntry>) -> Option<FailsafeRead>
-    ensures { result ≡ failsafe_read_of_entry (option_copied found.entry) }
-{
-    let Some(found) = found else {
-        return None;
-    };
+    let found = snapshot.entry(Key::Failsafe)?;
     failsafe_read_by(found.revision, failsafe_by(&found.value))
 }
 

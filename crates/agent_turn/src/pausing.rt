@@ -1,7 +1,8 @@
 //! What an agent does otherwise while the cluster is paused: by itself it neither starts nor ends nor rewinds a server, but for a
 //! handover (Patroni's documentation, "Pause/Resume mode for the cluster").
 ghost use Rattle.std.specs.Prelude.{option_copied, ◌≡◌};
-ghost use Rattle.agent_model.specs.Pausing.{ends_forks, is_paused, is_replica, is_wanted, is_wanted_by, lets_rewind, may_start_behind};
+ghost use Rattle.pg_model.specs.Facts.{is_replica};
+ghost use Rattle.agent_model.specs.Pausing.{ends_forks, is_paused, is_wanted, is_wanted_by, lets_rewind, may_start_behind};
 
 use crate::Outputs;
 use crate::role::Role;

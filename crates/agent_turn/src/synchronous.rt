@@ -1,26 +1,18 @@
 //! What an agent reads of the sync key, and whom commits come to wait for (Patroni documentation, "Replication modes").
 ghost use Rattle.std.specs.Prelude.{option_copied, ◌≡◌};
 ghost use Rattle.cluster_view.specs.KeyValues.{sync_by};
-ghost use Rattle.agent_model.specs.Synchronous.{expected_of, is_named_if, is_strict, may_lead_in_sync, sync_read_by, sync_read_if, sync_read_in, sync_read_of_entry, unnamed, waiting_for};
+ghost use Rattle.agent_model.specs.Synchronous.{expected_of, is_named_if, is_strict, may_lead_in_sync, sync_read_by, sync_read_if, sync_read_in, unnamed, waiting_for};
 
 use agent_model::{Knowledge, SyncRead};
 use cluster_view::{Snapshot, is_failover_to, is_named};
 use pat_base::{MemberId, MemberSet, Required};
-use store_keys::{Config, Expected, Key, KeyEntry, SyncKey, Value};
+use store_keys::{Config, Expected, Key, SyncKey, Value};
 
 /// The sync key that a snapshot has, with its revision.
 pub fn sync_read_in(snapshot: &Snapshot) -> Option<SyncRead>
     ensures { result ≡ sync_read_in snapshot.now }
 {
-    sync_read_of_entry(snapshot.entry(Key::Sync))
-}
-
-fn sync_read_of_entry(found: Option<&KeyEntry>) -> Option<SyncRead>
-    ensures { result ≡ sync_read_of_entry (option_copied found.entry) }
-{
-    let Some(found) = found else {
-        return None;
-    };
+    let found = snapshot.entry(Key::Sync)?;
     sync_read_by(found.revision, sync_by(&found.value))
 }
 

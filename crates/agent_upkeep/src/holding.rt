@@ -7,7 +7,7 @@ ghost use Rattle.failsafe.specs.Holding.{may_hold};
 ghost use Rattle.agent_model.specs.StayingPrimary.{awaits_lease, holding_for, is_lease_question};
 ghost use Rattle.agent_model.specs.Views.{shown};
 
-use agent_model::{Output, PendingQuestion, Question};
+use agent_model::{Output, PendingQuestion, Question, Telling};
 use agent_turn::{Role, Turn, view_of, word_of};
 use failsafe::may_hold;
 use pat_base::{MemberId, Ticks};
@@ -45,11 +45,11 @@ pub fn hold(turn: &mut Turn, from: MemberId, sequence: u64, ttl: Ticks)
 {
     let until = turn.moment + ttl;
     turn.machine.hold = Some(prolonged_to(until, turn.machine.hold));
-    turn.out.put(Output::HoldTaken {
+    turn.out.put(Output::Tell(Telling::HoldTaken {
         until,
         from,
         sequence,
-    });
+    }));
 }
 
 /// The end of a hold until this moment, where there may be one before.

@@ -12,13 +12,15 @@ ghost use Rattle.agent_model.specs.Acting.{waiting};
 
 use crate::holding::{hold, may_acknowledge};
 use crate::waiting::{awaits_number, awaits_read};
-use agent_model::{Inquiry, Knowledge, Operating, Operation, Output, Told};
+use agent_model::{Inquiry, Knowledge, Operating, Operation, Output, ServerOrder, Telling, Told};
 use agent_turn::{Role, Turn, inform, is_active, is_write_of};
 use cluster_view::Snapshot;
 use lease_store::Granted;
 use operator_answers::{CONFLICT, INTERNAL_SERVER_ERROR, OK, SERVICE_UNAVAILABLE, Text};
 use pat_base::{Host, MemberId, Name, State, Ticks};
-use store_keys::{Config, FailoverKey, FailoverKind, Key, KeyEntry, OperatorRequest, Txn};
+use store_keys::{
+    Config, FailoverKey, FailoverKind, Key, KeyEntry, OperatorRequest, OperatorTxn, Txn,
+};
 
 /// For so many ticks an operator waits for what comes of a switchover or a failover.
 const MOST_OPERATOR_TICKS: u64 = 600;
@@ -35,17 +37,17 @@ pub fn operate(role: &Role, turn: &mut Turn, request: u64, asked: OperatorReques
 {
     match asked {
         OperatorRequest::Failover { kind, failover } => {
-            let txn = Txn::SetFailover {
+            let txn = Txn::Operators(OperatorTxn::SetFailover {
                 failover,
                 ttl: turn.knows.settings.ttl_ticks(),
-            };
+            });
             owe(request, Operation::FailingOver(kind), txn, turn);
         }
         OperatorRequest::Configuration(config) => {
-            let txn = Txn::SetConfig {
+            let txn = Txn::Operators(OperatorTxn::SetConfig {
                 revision: config_revision(turn.knows.seen.as_ref()),
                 config,
-            };
+            });
             owe(request, Operation::Configuring, txn, turn);
         }
         OperatorRequest::Restart => {
@@ -125,7 +127,8 @@ fn restart(turn: &mut Turn)
     let as_primary = matches!(turn.machine.server.state, State::Primary);
     turn.machine.server.restart(turn.moment);
     turn.knows.begun = Some(turn.moment);
-    turn.out.put(Output::Restart { as_primary });
+    turn.out
+        .put(Output::Server(ServerOrder::Restart { as_primary }));
 }
 
 /// The server is wiped, and waits for a copy.
@@ -135,7 +138,7 @@ fn wipe(turn: &mut Turn)
     ensures left { Spent 1 0 turn.old turn.new }
 {
     turn.machine.server.wipe();
-    turn.out.put(Output::Wipe);
+    turn.out.put(Output::Server(ServerOrder::Wipe));
 }
 
 /// An answer of these words with this status.
@@ -151,7 +154,7 @@ fn tell(request: u64, told: Told, turn: &mut Turn)
     ensures outcome { ComesTo (telling request told) turn.old turn.new }
     ensures left { Spent 1 0 turn.old turn.new }
 {
-    turn.out.put(Output::Told { request, told });
+    turn.out.put(Output::Tell(Telling::Told { request, told }));
 }
 
 /// Answers the request that waits, which waits no more.

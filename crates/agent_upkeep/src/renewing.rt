@@ -11,7 +11,7 @@ use agent_turn::{Role, Turn, info_of, known_with, set_carried};
 use cluster_view::Snapshot;
 use pat_base::{Lsn, MemberId, MemberSet, State, Ticks};
 use pg_model::ServerStatus;
-use store_keys::{HistoryRow, Txn};
+use store_keys::{HistoryRow, LeaseTxn, Txn};
 use wal_model::{History, HistoryPoint};
 
 /// Asks for the renewal of the leader key that was read. A leader may write the failsafe key with it; whom it lists there is known to
@@ -58,14 +58,14 @@ fn renewal(
 ) -> Txn
     ensures { result ≡ renewal now history.now.points revision knows.now server.now carried }
 {
-    Txn::Renew {
+    Txn::Lease(LeaseTxn::Renew {
         revision,
         info: info_of(&knows.who, server),
         ttl: knows.settings.ttl_ticks(),
         status: status_told(server),
         row: row_told(now, history, knows, server),
         failsafe: carried,
-    }
+    })
 }
 
 /// A leader tells where its log ends.

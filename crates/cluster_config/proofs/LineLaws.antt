@@ -157,7 +157,9 @@ empty-config = λ i. record {
   primary_start_timeout = 300;
   synchronous_node_count = 1;
   synchronous_mode = false;
+  quorum = false;
   synchronous_mode_strict = false;
+  standby_cluster = false;
   failsafe_mode = false;
   pause = false;
   use_pg_rewind = false;
@@ -178,6 +180,8 @@ empty-config = λ i. record {
     le_prop empty.synchronous_node_count_range.0 default_config.synchronous_node_count_range.0 i,
     le_prop empty.synchronous_node_count_range.1 default_config.synchronous_node_count_range.1 i,
   );
+  quorum_is_synchronous = refl;
+  standby_stands_alone = refl;
 }
 
 pub config_read-empty : config_read (codes "{}") ≡ Ok default_settings

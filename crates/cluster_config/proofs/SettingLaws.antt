@@ -1,6 +1,7 @@
 -- What a configuration that is read sets is what its text has at the settings' keys.
-use Rattle.std.proofs.Common.{◌≡◌, ℕ, List, Bool, true, false, not, cond, is_some, Option, Some, None, option_map, option_and_then, unwrap_or, find, Ok, nat_lt, true≢false, refl, sym, ap, ◌∙◌, arith}
+use Rattle.std.proofs.Common.{◌≡◌, ℕ, List, Bool, true, false, not, cond, is_some, Option, Some, None, option_map, option_and_then, unwrap_or, find, Ok, nat_lt, ◌||◌, bytes_eq, codes, true≢false, refl, sym, ap, subst, ◌∙◌, arith}
 use Rattle.std.proofs.lemmas.Bool.Decides.{nat_tests}
+use Rattle.std.proofs.lemmas.Slice.Eq.{bytes_eq-Decides}
 use Rattle.store_keys.specs.Defaults.{default_config}
 use Rattle.store_keys.specs.Settings.{Settings}
 use Rattle.serde_json.specs.Data.{Num, unsigned, negative, float, Data, null, boolean, number, string, array, object}
@@ -10,6 +11,7 @@ use Rattle.cluster_config.specs.declared.config_fault.ConfigFault.{ConfigFault}
 use Rattle.cluster_config.specs.declared.config_fault.ConfigFault.TheVariants as faults
 use Rattle.cluster_config.specs.declared.setting.Setting.{Setting}
 use Rattle.cluster_config.specs.declared.setting.Setting.TheVariants as settings
+use Rattle.cluster_config.specs.declared.setting.SettingKind.TheVariants as setting_kinds
 use Rattle.cluster_config.specs.declared.setting.SettingRange.{SettingRange}
 use Rattle.cluster_config.specs.declared.setting_value.WholeNumber.{WholeNumber}
 use Rattle.cluster_config.specs.declared.setting_value.WholeNumber.TheVariants.{BelowZero, FromZero}
@@ -17,7 +19,7 @@ use Rattle.cluster_config.specs.ConfigFaults.{is_bad_number, is_low_number, is_b
 use Rattle.cluster_config.specs.ConfigLaws.{number_set, truth_set}
 use Rattle.cluster_config.specs.ConfigReading.{on_ok, json_of, object_in, object_if_json, judged, config_read}
 use Rattle.cluster_config.specs.SettingTable.{settings_in_order, loop_wait_range, retry_timeout_range, ttl_range, maximum_lag_range, primary_start_timeout_range, node_count_range}
-use Rattle.cluster_config.specs.SettingValues.{value_at, whole_number, whole_number_of, truth_value, within_or, whole_or, number_or, truth_or_false, config_in}
+use Rattle.cluster_config.specs.SettingValues.{value_at, whole_number, whole_number_of, truth_value, truth_word, within_or, whole_or, number_or, truth_or_false, is_quorum_word, says_quorum, config_in}
 use Rattle.cluster_config.proofs.ConfigFacts.{err-not-ok, had-no-fault}
 use Rattle.cluster_config.proofs.ReadingLaws.{none_after}
 
@@ -41,28 +43,31 @@ none-found p e =
     let f = no-first (p settings.UsePgRewind) settings.UsePgRewind _ d.1 in
     let g = no-first (p settings.PrimaryStartTimeout) settings.PrimaryStartTimeout _ f.1 in
     let h = no-first (p settings.RetryTimeout) settings.RetryTimeout _ g.1 in
-    let i = no-first (p settings.SynchronousMode) settings.SynchronousMode _ h.1 in
+    let m = no-first (p settings.StandbyCluster) settings.StandbyCluster _ h.1 in
+    let i = no-first (p settings.SynchronousMode) settings.SynchronousMode _ m.1 in
     let j = no-first (p settings.SynchronousModeStrict) settings.SynchronousModeStrict _ i.1 in
     let k = no-first (p settings.SynchronousNodeCount) settings.SynchronousNodeCount _ j.1 in
     let l = no-first (p settings.Ttl) settings.Ttl _ k.1 in
-    all_of p a.0 b.0 c.0 d.0 f.0 g.0 h.0 i.0 j.0 k.0 l.0
+    all_of p a.0 b.0 c.0 d.0 f.0 g.0 h.0 m.0 i.0 j.0 k.0 l.0
   where
     all_of : (p : Setting → Bool) → p settings.FailsafeMode ≡ false → p settings.LoopWait ≡ false
         → p settings.MaximumLagOnFailover ≡ false → p settings.Pause ≡ false → p settings.UsePgRewind ≡ false
-        → p settings.PrimaryStartTimeout ≡ false → p settings.RetryTimeout ≡ false → p settings.SynchronousMode ≡ false
-        → p settings.SynchronousModeStrict ≡ false → p settings.SynchronousNodeCount ≡ false → p settings.Ttl ≡ false
+        → p settings.PrimaryStartTimeout ≡ false → p settings.RetryTimeout ≡ false → p settings.StandbyCluster ≡ false
+        → p settings.SynchronousMode ≡ false → p settings.SynchronousModeStrict ≡ false
+        → p settings.SynchronousNodeCount ≡ false → p settings.Ttl ≡ false
         → (setting : Setting) → p setting ≡ false
-    all_of p a b c d f g h i j k l settings.FailsafeMode = a
-    all_of p a b c d f g h i j k l settings.LoopWait = b
-    all_of p a b c d f g h i j k l settings.MaximumLagOnFailover = c
-    all_of p a b c d f g h i j k l settings.Pause = d
-    all_of p a b c d f g h i j k l settings.UsePgRewind = f
-    all_of p a b c d f g h i j k l settings.PrimaryStartTimeout = g
-    all_of p a b c d f g h i j k l settings.RetryTimeout = h
-    all_of p a b c d f g h i j k l settings.SynchronousMode = i
-    all_of p a b c d f g h i j k l settings.SynchronousModeStrict = j
-    all_of p a b c d f g h i j k l settings.SynchronousNodeCount = k
-    all_of p a b c d f g h i j k l settings.Ttl = l
+    all_of p a b c d f g h m i j k l settings.FailsafeMode = a
+    all_of p a b c d f g h m i j k l settings.LoopWait = b
+    all_of p a b c d f g h m i j k l settings.MaximumLagOnFailover = c
+    all_of p a b c d f g h m i j k l settings.Pause = d
+    all_of p a b c d f g h m i j k l settings.UsePgRewind = f
+    all_of p a b c d f g h m i j k l settings.PrimaryStartTimeout = g
+    all_of p a b c d f g h m i j k l settings.RetryTimeout = h
+    all_of p a b c d f g h m i j k l settings.StandbyCluster = m
+    all_of p a b c d f g h m i j k l settings.SynchronousMode = i
+    all_of p a b c d f g h m i j k l settings.SynchronousModeStrict = j
+    all_of p a b c d f g h m i j k l settings.SynchronousNodeCount = k
+    all_of p a b c d f g h m i j k l settings.Ttl = l
 
 within-itself : (range : SettingRange) (other n : ℕ) → nat_lt range.greatest n ≡ false
     → nat_lt n range.least ≡ false → within_or range other n ≡ n
@@ -77,7 +82,7 @@ in-order range other (Some (FromZero n)) bad low =
 
 -- a number at a setting's key is what is set
 number-there : (range : SettingRange) (other : ℕ) (found : Option Data) (value : Data)
-    → is_bad_if_some (Some range) found ≡ false → is_low_if_some (Some range) found ≡ false
+    → is_bad_if_some (setting_kinds.Number range) found ≡ false → is_low_if_some (Some range) found ≡ false
     → found ≡ Some value → whole_number value ≡ Some (FromZero (number_or range other found))
 number-there range other None value bad low is = absurd (some-not-none value (sym is))
 number-there range other (Some d) value bad low is =
@@ -88,12 +93,40 @@ truth-if : (t : Option Bool) → not (is_some t) ≡ false → t ≡ Some (unwra
 truth-if None e = absurd (true≢false e)
 truth-if (Some b) e = refl
 
-truth-there : (found : Option Data) (value : Data) → is_bad_if_some None found ≡ false → found ≡ Some value
+truth-there : (found : Option Data) (value : Data) → is_bad_if_some setting_kinds.Truth found ≡ false
+    → found ≡ Some value
     → truth_value value ≡ Some (truth_or_false found)
 truth-there None value bad is = absurd (some-not-none value (sym is))
 truth-there (Some d) value bad is =
     let same : d ≡ value = same-some d value is in
     ap truth_value (sym same) ∙ truth-if (truth_value d) bad
+
+-- a truth value is no text that turns quorum commit on
+quorum-word : (text : List ℕ) → bytes_eq text (codes "quorum") ≡ true → truth_word text ≡ None
+quorum-word text is =
+    subst (λ (t : List ℕ). truth_word t ≡ None) (sym ((bytes_eq-Decides text (codes "quorum")).0 is)) refl
+
+none-or : (truth quorum : Bool) → quorum ≡ false → (truth || quorum) ≡ truth
+none-or true quorum none = refl
+none-or false quorum none = none
+
+says-none : (d : Data) → not (is_some (truth_value d)) ≡ false → is_quorum_word d ≡ false
+says-none null bad = refl
+says-none (boolean b) bad = refl
+says-none (number n) bad = refl
+says-none (string s) bad = by (bytes_eq s (codes "quorum")) refl
+  where
+    by : (test : Bool) → bytes_eq s (codes "quorum") ≡ test → test ≡ false
+    by false is = refl
+    by true is =
+        absurd (true≢false (sym (ap (λ (t : Option Bool). not (is_some t)) (quorum-word s is)) ∙ bad))
+says-none (array ds) bad = refl
+says-none (object ms) bad = refl
+
+no-quorum : (found : Option Data) → is_bad_if_some setting_kinds.Truth found ≡ false
+    → (truth_or_false found || says_quorum found) ≡ truth_or_false found
+no-quorum None bad = refl
+no-quorum (Some d) bad = none-or (truth_or_false (Some d)) (is_quorum_word d) (says-none d bad)
 
 pub number-set : (d value : Data) (setting : Setting) (n : ℕ) → is_bad d setting ≡ false → is_low d setting ≡ false
     → number_set setting (config_in d) ≡ Some n → value_at setting d ≡ Some value
@@ -115,6 +148,7 @@ number-set d value settings.PrimaryStartTimeout n bad low set is =
 number-set d value settings.RetryTimeout n bad low set is =
     number-there retry_timeout_range default_config.retry_timeout (value_at settings.RetryTimeout d) value bad low is
     ∙ ap (option_map FromZero) set
+number-set d value settings.StandbyCluster n bad low set is = absurd (some-not-none n (sym set))
 number-set d value settings.SynchronousMode n bad low set is = absurd (some-not-none n (sym set))
 number-set d value settings.SynchronousModeStrict n bad low set is = absurd (some-not-none n (sym set))
 number-set d value settings.SynchronousNodeCount n bad low set is =
@@ -135,8 +169,11 @@ truth-set d value settings.UsePgRewind truth bad set is =
     truth-there (value_at settings.UsePgRewind d) value bad is ∙ set
 truth-set d value settings.PrimaryStartTimeout truth bad set is = absurd (some-not-none truth (sym set))
 truth-set d value settings.RetryTimeout truth bad set is = absurd (some-not-none truth (sym set))
+truth-set d value settings.StandbyCluster truth bad set is = absurd (some-not-none truth (sym set))
 truth-set d value settings.SynchronousMode truth bad set is =
-    truth-there (value_at settings.SynchronousMode d) value bad is ∙ set
+    truth-there (value_at settings.SynchronousMode d) value bad is
+    ∙ ap Some (sym (no-quorum (value_at settings.SynchronousMode d) bad))
+    ∙ set
 truth-set d value settings.SynchronousModeStrict truth bad set is =
     truth-there (value_at settings.SynchronousModeStrict d) value bad is ∙ set
 truth-set d value settings.SynchronousNodeCount truth bad set is = absurd (some-not-none truth (sym set))

@@ -7,10 +7,12 @@ use Rattle.cluster_config.specs.declared.config_fault.ConfigFault.{ConfigFault}
 use Rattle.cluster_config.specs.declared.config_fault.ConfigFault.TheVariants as faults
 use Rattle.cluster_config.specs.declared.setting.Setting.{Setting}
 use Rattle.cluster_config.specs.declared.setting.Setting.TheVariants as settings
+use Rattle.cluster_config.specs.declared.setting.SettingKind.{SettingKind}
+use Rattle.cluster_config.specs.declared.setting.SettingKind.TheVariants as setting_kinds
 use Rattle.cluster_config.specs.declared.setting.SettingRange.{SettingRange}
 use Rattle.cluster_config.specs.declared.setting_value.WholeNumber.{WholeNumber}
 use Rattle.cluster_config.specs.declared.setting_value.WholeNumber.TheVariants.{BelowZero, FromZero}
-use Rattle.cluster_config.specs.SettingTable.{range_of, settings_in_order}
+use Rattle.cluster_config.specs.SettingTable.{kind_of, range_of, settings_in_order}
 use Rattle.cluster_config.specs.SettingValues.{value_at, whole_number, truth_value}
 
 -- whether what stands for a whole number is none, or above the greatest
@@ -19,19 +21,20 @@ is_bad_number range None = true
 is_bad_number range (Some BelowZero) = false
 is_bad_number range (Some (FromZero n)) = nat_lt range.greatest n
 
--- whether a value isn't of a setting's kind, or above its greatest
-abbrev pub is_bad_value : Option SettingRange → Data → Bool
-is_bad_value None d = not (is_some (truth_value d))
-is_bad_value (Some range) d = is_bad_number range (whole_number d)
+-- whether a value isn't of a setting's kind, or above its greatest; what is kept may be anything
+abbrev pub is_bad_value : SettingKind → Data → Bool
+is_bad_value (setting_kinds.Number range) d = is_bad_number range (whole_number d)
+is_bad_value setting_kinds.Truth d = not (is_some (truth_value d))
+is_bad_value setting_kinds.Kept d = false
 
 -- the same of what a configuration has at a setting's key; where nothing stands nothing is bad
-abbrev pub is_bad_if_some : Option SettingRange → Option Data → Bool
-is_bad_if_some range None = false
-is_bad_if_some range (Some d) = is_bad_value range d
+abbrev pub is_bad_if_some : SettingKind → Option Data → Bool
+is_bad_if_some kind None = false
+is_bad_if_some kind (Some d) = is_bad_value kind d
 
 -- whether the value at a setting's key is of the wrong kind, or above the greatest
 abbrev pub is_bad : Data → Setting → Bool
-is_bad d setting = is_bad_if_some (range_of setting) (value_at setting d)
+is_bad d setting = is_bad_if_some (kind_of setting) (value_at setting d)
 
 -- whether a whole number is below the least
 abbrev pub is_low_number : SettingRange → Option WholeNumber → Bool
@@ -64,9 +67,10 @@ is_switched true next = not next
 is_switched false next = next
 
 -- whether a configuration changes a setting of another that is as the
--- first configuration has it for good: the failsafe mode
+-- first configuration has it for good: the failsafe mode, and quorum commit
 abbrev pub is_changed : Config → Config → Setting → Bool
 is_changed present next settings.FailsafeMode = is_switched present.failsafe_mode next.failsafe_mode
+is_changed present next settings.SynchronousMode = is_switched present.quorum next.quorum
 is_changed present next _ = false
 
 -- this fault, or else the next

@@ -3,6 +3,8 @@
 use Rattle.std.specs.Prelude.{ℕ, ◌≤◌, ◌^◌, List, [], ◌∷◌, Option, Some, None, codes}
 use Rattle.cluster_config.specs.declared.setting.Setting.{Setting}
 use Rattle.cluster_config.specs.declared.setting.Setting.TheVariants as settings
+use Rattle.cluster_config.specs.declared.setting.SettingKind.{SettingKind}
+use Rattle.cluster_config.specs.declared.setting.SettingKind.TheVariants as setting_kinds
 use Rattle.cluster_config.specs.declared.setting.SettingRange.{SettingRange}
 use Rattle.pat_base.specs.declared.member_id.TheConstants.{MOST_MEMBERS}
 
@@ -15,6 +17,7 @@ setting_name settings.Pause = codes "pause"
 setting_name settings.UsePgRewind = codes "postgresql.use_pg_rewind"
 setting_name settings.PrimaryStartTimeout = codes "primary_start_timeout"
 setting_name settings.RetryTimeout = codes "retry_timeout"
+setting_name settings.StandbyCluster = codes "standby_cluster"
 setting_name settings.SynchronousMode = codes "synchronous_mode"
 setting_name settings.SynchronousModeStrict = codes "synchronous_mode_strict"
 setting_name settings.SynchronousNodeCount = codes "synchronous_node_count"
@@ -23,8 +26,8 @@ setting_name settings.Ttl = codes "ttl"
 -- all settings, in the byte order of their names
 abbrev pub settings_in_order : List Setting
 settings_in_order = settings.FailsafeMode ∷ settings.LoopWait ∷ settings.MaximumLagOnFailover ∷ settings.Pause
-    ∷ settings.UsePgRewind ∷ settings.PrimaryStartTimeout ∷ settings.RetryTimeout ∷ settings.SynchronousMode
-    ∷ settings.SynchronousModeStrict ∷ settings.SynchronousNodeCount ∷ settings.Ttl ∷ []
+    ∷ settings.UsePgRewind ∷ settings.PrimaryStartTimeout ∷ settings.RetryTimeout ∷ settings.StandbyCluster
+    ∷ settings.SynchronousMode ∷ settings.SynchronousModeStrict ∷ settings.SynchronousNodeCount ∷ settings.Ttl ∷ []
 
 -- a day, in seconds: the longest time that a setting may say
 abbrev pub longest : ℕ
@@ -54,19 +57,30 @@ primary_start_timeout_range = record { least = 0; greatest = longest }
 abbrev pub node_count_range : SettingRange
 node_count_range = record { least = 1; greatest = MOST_MEMBERS }
 
--- the range of a setting that is a number; nothing for one that is a truth value
+-- what a setting holds: a number within a range, a truth value, or an object that is kept
+abbrev pub kind_of : Setting → SettingKind
+kind_of settings.FailsafeMode = setting_kinds.Truth
+kind_of settings.LoopWait = setting_kinds.Number loop_wait_range
+kind_of settings.MaximumLagOnFailover = setting_kinds.Number maximum_lag_range
+kind_of settings.Pause = setting_kinds.Truth
+kind_of settings.UsePgRewind = setting_kinds.Truth
+kind_of settings.PrimaryStartTimeout = setting_kinds.Number primary_start_timeout_range
+kind_of settings.RetryTimeout = setting_kinds.Number retry_timeout_range
+kind_of settings.StandbyCluster = setting_kinds.Kept
+kind_of settings.SynchronousMode = setting_kinds.Truth
+kind_of settings.SynchronousModeStrict = setting_kinds.Truth
+kind_of settings.SynchronousNodeCount = setting_kinds.Number node_count_range
+kind_of settings.Ttl = setting_kinds.Number ttl_range
+
+-- the range of what is a number; nothing for anything else
+abbrev pub range_in : SettingKind → Option SettingRange
+range_in (setting_kinds.Number range) = Some range
+range_in setting_kinds.Truth = None
+range_in setting_kinds.Kept = None
+
+-- the range of a setting that is a number
 abbrev pub range_of : Setting → Option SettingRange
-range_of settings.FailsafeMode = None
-range_of settings.LoopWait = Some loop_wait_range
-range_of settings.MaximumLagOnFailover = Some maximum_lag_range
-range_of settings.Pause = None
-range_of settings.UsePgRewind = None
-range_of settings.PrimaryStartTimeout = Some primary_start_timeout_range
-range_of settings.RetryTimeout = Some retry_timeout_range
-range_of settings.SynchronousMode = None
-range_of settings.SynchronousModeStrict = None
-range_of settings.SynchronousNodeCount = Some node_count_range
-range_of settings.Ttl = Some ttl_range
+range_of setting = range_in (kind_of setting)
 
 -- a number is within a range
 abbrev pub IsWithin : SettingRange → ℕ → Type 0

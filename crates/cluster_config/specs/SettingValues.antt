@@ -1,5 +1,5 @@
 -- What a configuration has at the settings' keys, as JSON values, and what that sets.
-use Rattle.std.specs.Prelude.{◌≡◌, ℕ, Bool, true, false, ◌||◌, List, nat_le, bytes_eq, codes, cond, if◌then◌else◌, Option, Some, None, option_and_then, unwrap_or, refl}
+use Rattle.std.specs.Prelude.{◌≡◌, ℕ, Bool, true, false, not, ◌||◌, ◌&&◌, List, nat_le, bytes_eq, codes, cond, if◌then◌else◌, Option, Some, None, option_and_then, unwrap_or, refl}
 use Rattle.std.proofs.Common.{zero-le}
 use Rattle.std.proofs.lemmas.Bool.{leb-true}
 use Rattle.store_keys.specs.Defaults.{default_config}
@@ -73,6 +73,38 @@ number_or range other found = whole_or range other (option_and_then whole_number
 abbrev pub truth_or_false : Option Data → Bool
 truth_or_false found = unwrap_or (option_and_then truth_value found) false
 
+-- a text that turns quorum commit on
+abbrev pub is_quorum_word : Data → Bool
+is_quorum_word (string s) = bytes_eq s (codes "quorum")
+is_quorum_word _ = false
+
+-- a value says that commits wait for so many of a set of standbys
+abbrev pub says_quorum : Option Data → Bool
+says_quorum None = false
+says_quorum (Some d) = is_quorum_word d
+
+-- a value is an object
+abbrev pub is_object : Data → Bool
+is_object (object ms) = true
+is_object _ = false
+
+-- there is a value, and it is an object
+abbrev pub says_object : Option Data → Bool
+says_object None = false
+says_object (Some d) = is_object d
+
+-- quorum commit is a synchronous mode
+pub quorum-is_synchronous : (truth quorum : Bool) → (not quorum || (truth || quorum)) ≡ true
+quorum-is_synchronous truth false = refl
+quorum-is_synchronous true true = refl
+quorum-is_synchronous false true = refl
+
+-- a standby cluster has neither mode
+pub standby-stands_alone : (is mode : Bool) → ((is && not mode) && mode) ≡ false
+standby-stands_alone false mode = refl
+standby-stands_alone true false = refl
+standby-stands_alone true true = refl
+
 tested : {A : Type 0} (P : A → Type 0) (b : Bool) (x y : A) → (b ≡ true → P x) → P y → P (cond b x y)
 tested P true x y first second = first refl
 tested P false x y first second = second
@@ -96,7 +128,8 @@ pub number_or-within : (range : SettingRange) (other : ℕ) (found : Option Data
     → IsWithin range (number_or range other found)
 number_or-within range other found within = whole_or-within range other (option_and_then whole_number found) within
 
--- what a configuration sets: for each setting the value at its key, and the default where there is none
+-- what a configuration sets: for each setting the value at its key, and the default where
+-- there is none; a standby cluster where neither synchronous nor failsafe mode is on
 abbrev pub config_in : Data → Config
 config_in d = record {
   loop_wait = number_or loop_wait_range default_config.loop_wait (value_at settings.LoopWait d);
@@ -108,8 +141,13 @@ config_in d = record {
       (value_at settings.PrimaryStartTimeout d);
   synchronous_node_count =
       number_or node_count_range default_config.synchronous_node_count (value_at settings.SynchronousNodeCount d);
-  synchronous_mode = truth_or_false (value_at settings.SynchronousMode d);
+  synchronous_mode = truth_or_false (value_at settings.SynchronousMode d)
+      || says_quorum (value_at settings.SynchronousMode d);
+  quorum = says_quorum (value_at settings.SynchronousMode d);
   synchronous_mode_strict = truth_or_false (value_at settings.SynchronousModeStrict d);
+  standby_cluster = says_object (value_at settings.StandbyCluster d) && not
+      ((truth_or_false (value_at settings.SynchronousMode d) || says_quorum (value_at settings.SynchronousMode d))
+      || truth_or_false (value_at settings.FailsafeMode d));
   failsafe_mode = truth_or_false (value_at settings.FailsafeMode d);
   pause = truth_or_false (value_at settings.Pause d);
   use_pg_rewind = truth_or_false (value_at settings.UsePgRewind d);
@@ -126,4 +164,9 @@ config_in d = record {
       (value_at settings.PrimaryStartTimeout d) (zero-le, default_config.primary_start_timeout_range)).1;
   synchronous_node_count_range = number_or-within node_count_range default_config.synchronous_node_count
       (value_at settings.SynchronousNodeCount d) default_config.synchronous_node_count_range;
+  quorum_is_synchronous = quorum-is_synchronous (truth_or_false (value_at settings.SynchronousMode d))
+      (says_quorum (value_at settings.SynchronousMode d));
+  standby_stands_alone = standby-stands_alone (says_object (value_at settings.StandbyCluster d))
+      ((truth_or_false (value_at settings.SynchronousMode d) || says_quorum (value_at settings.SynchronousMode d))
+      || truth_or_false (value_at settings.FailsafeMode d));
 }

@@ -6,7 +6,7 @@ ghost use Rattle.cluster_config.specs.SettingTable.{settings_in_order};
 
 use crate::ConfigFault;
 use crate::floats::has_float;
-use crate::setting::{SETTINGS, Setting, SettingRange, range_of};
+use crate::setting::{SETTINGS, Setting, SettingKind, SettingRange, kind_of};
 use crate::setting_value::{WholeNumber, truth_value, value_at, whole_number};
 use serde_json::Value;
 use store_keys::Config;
@@ -21,13 +21,14 @@ fn is_bad_number(range: SettingRange, number: Option<WholeNumber>) -> bool
     }
 }
 
-/// Whether a value isn't of a setting's kind, or above its greatest.
-fn is_bad_value(range: Option<SettingRange>, value: &Value) -> bool
-    ensures { result ≡ is_bad_value range (view value.now) }
+/// Whether a value isn't of a setting's kind, or above its greatest. What is kept may be anything.
+fn is_bad_value(kind: SettingKind, value: &Value) -> bool
+    ensures { result ≡ is_bad_value kind (view value.now) }
 {
-    match range {
-        None => truth_value(value).is_none(),
-        Some(range) => is_bad_number(range, whole_number(value)),
+    match kind {
+        SettingKind::Number(range) => is_bad_number(range, whole_number(value)),
+        SettingKind::Truth => truth_value(value).is_none(),
+        SettingKind::Kept => false,
     }
 }
 
@@ -37,7 +38,7 @@ fn is_bad(object: &Value, setting: Setting) -> bool
 {
     match value_at(setting, object) {
         None => false,
-        Some(value) => is_bad_value(range_of(setting), value),
+        Some(value) => is_bad_value(kind_of(setting), value),
     }
 }
 
@@ -67,7 +68,7 @@ fn is_low(object: &Value, setting: Setting) -> bool
 {
     match value_at(setting, object) {
         None => false,
-        Some(value) => is_low_value(range_of(setting), value),
+        Some(value) => is_low_value(setting.range(), value),
     }
 }
 
@@ -96,12 +97,14 @@ fn keeps_times(config: Config) -> bool
     config.loop_wait + 2 * config.retry_timeout <= config.ttl
 }
 
-/// Whether a configuration changes a setting of another that is as the first configuration has it for good: the failsafe mode.
+/// Whether a configuration changes a setting of another that is as the first configuration has it for good: the failsafe mode, and
+/// quorum commit.
 fn is_changed(present: Config, next: Config, setting: Setting) -> bool
     ensures { result ≡ is_changed present next setting }
 {
     match setting {
         Setting::FailsafeMode => present.failsafe_mode != next.failsafe_mode,
+        Setting::SynchronousMode => present.quorum != next.quorum,
         _ => false,
     }
 }

@@ -1,6 +1,6 @@
 //! The settings of a cluster.
 ghost use Rattle.std.specs.Prelude.{◌≡◌};
-ghost use Rattle.cluster_config.specs.SettingTable.{setting_name, range_of};
+ghost use Rattle.cluster_config.specs.SettingTable.{setting_name, kind_of, range_in, range_of};
 
 use pat_base::MOST_MEMBERS;
 use std::fmt;
@@ -17,6 +17,7 @@ pub enum Setting {
     UsePgRewind,
     PrimaryStartTimeout,
     RetryTimeout,
+    StandbyCluster,
     SynchronousMode,
     SynchronousModeStrict,
     SynchronousNodeCount,
@@ -24,7 +25,7 @@ pub enum Setting {
 }
 
 /// All settings, in order.
-pub(crate) const SETTINGS: [Setting; 11] = [
+pub(crate) const SETTINGS: [Setting; 12] = [
     Setting::FailsafeMode,
     Setting::LoopWait,
     Setting::MaximumLagOnFailover,
@@ -32,6 +33,7 @@ pub(crate) const SETTINGS: [Setting; 11] = [
     Setting::UsePgRewind,
     Setting::PrimaryStartTimeout,
     Setting::RetryTimeout,
+    Setting::StandbyCluster,
     Setting::SynchronousMode,
     Setting::SynchronousModeStrict,
     Setting::SynchronousNodeCount,
@@ -43,6 +45,15 @@ pub(crate) const SETTINGS: [Setting; 11] = [
 pub struct SettingRange {
     pub least: u64,
     pub greatest: u64,
+}
+
+/// What a setting holds.
+#[derive(Clone, Copy, PartialEq, Eq)]
+pub(crate) enum SettingKind {
+    Number(SettingRange),
+    Truth,
+    /// An object of JSON, which is kept in the text and not read.
+    Kept,
 }
 
 /// A day, in seconds: the longest time that a setting may say.
@@ -90,6 +101,7 @@ pub(crate) fn setting_name(setting: Setting) -> &'static str
         Setting::UsePgRewind => "postgresql.use_pg_rewind",
         Setting::PrimaryStartTimeout => "primary_start_timeout",
         Setting::RetryTimeout => "retry_timeout",
+        Setting::StandbyCluster => "standby_cluster",
         Setting::SynchronousMode => "synchronous_mode",
         Setting::SynchronousModeStrict => "synchronous_mode_strict",
         Setting::SynchronousNodeCount => "synchronous_node_count",
@@ -97,22 +109,33 @@ pub(crate) fn setting_name(setting: Setting) -> &'static str
     }
 }
 
-/// The range of a setting that is a number. `None` exactly for a truth value.
-pub(crate) fn range_of(setting: Setting) -> Option<SettingRange>
-    ensures { result ≡ range_of setting }
+/// What a setting holds.
+pub(crate) fn kind_of(setting: Setting) -> SettingKind
+    ensures { result ≡ kind_of setting }
 {
     match setting {
-        Setting::LoopWait => Some(LOOP_WAIT),
-        Setting::MaximumLagOnFailover => Some(MAXIMUM_LAG),
-        Setting::PrimaryStartTimeout => Some(PRIMARY_START_TIMEOUT),
-        Setting::RetryTimeout => Some(RETRY_TIMEOUT),
-        Setting::SynchronousNodeCount => Some(NODE_COUNT),
-        Setting::Ttl => Some(TTL),
+        Setting::LoopWait => SettingKind::Number(LOOP_WAIT),
+        Setting::MaximumLagOnFailover => SettingKind::Number(MAXIMUM_LAG),
+        Setting::PrimaryStartTimeout => SettingKind::Number(PRIMARY_START_TIMEOUT),
+        Setting::RetryTimeout => SettingKind::Number(RETRY_TIMEOUT),
+        Setting::SynchronousNodeCount => SettingKind::Number(NODE_COUNT),
+        Setting::Ttl => SettingKind::Number(TTL),
         Setting::FailsafeMode
         | Setting::Pause
         | Setting::UsePgRewind
         | Setting::SynchronousMode
-        | Setting::SynchronousModeStrict => None,
+        | Setting::SynchronousModeStrict => SettingKind::Truth,
+        Setting::StandbyCluster => SettingKind::Kept,
+    }
+}
+
+/// The range of a kind. `None` exactly where that is no number.
+fn range_in(kind: SettingKind) -> Option<SettingRange>
+    ensures { result ≡ range_in kind }
+{
+    match kind {
+        SettingKind::Number(range) => Some(range),
+        SettingKind::Truth | SettingKind::Kept => None,
     }
 }
 
@@ -124,11 +147,11 @@ impl Setting {
         setting_name(self)
     }
 
-    /// The range of a setting that is a number. `None` exactly for a truth value.
+    /// The range of a setting that is a number. `None` exactly for another one.
     pub fn range(self) -> Option<SettingRange>
         ensures { result ≡ range_of self }
     {
-        range_of(self)
+        range_in(kind_of(self))
     }
 }
 

@@ -2,7 +2,7 @@
 ghost use Rattle.std.specs.Prelude.{◌≡◌, Some, option_map};
 ghost use Rattle.serde_json.specs.View.{view};
 ghost use Rattle.cluster_config.specs.SettingTable.{IsWithin};
-ghost use Rattle.cluster_config.specs.SettingValues.{found_at, unless_null, value_at, whole_number, truth_word, truth_value, within_or, whole_or, number_or, truth_or_false, config_in};
+ghost use Rattle.cluster_config.specs.SettingValues.{found_at, unless_null, value_at, whole_number, truth_word, truth_value, within_or, whole_or, number_or, truth_or_false, is_quorum_word, says_quorum, is_object, says_object, config_in};
 
 use crate::setting::{
     LOOP_WAIT, MAXIMUM_LAG, NODE_COUNT, PRIMARY_START_TIMEOUT, RETRY_TIMEOUT, Setting,
@@ -122,6 +122,49 @@ fn truth_or_false(found: Option<&Value>) -> bool
     }
 }
 
+/// Whether a value is the text that turns quorum commit on.
+fn is_quorum_word(value: &Value) -> bool
+    ensures { result ≡ is_quorum_word (view value.now) }
+{
+    match value {
+        Value::String(text) => text.as_str() == "quorum",
+        Value::Null | Value::Bool(_) | Value::Number(_) | Value::Array(_) | Value::Object(_) => {
+            false
+        }
+    }
+}
+
+/// Whether a value is that text, where there is one.
+fn says_quorum(found: Option<&Value>) -> bool
+    ensures { result ≡ says_quorum (option_map (λ v. view v.now) found.entry) }
+{
+    match found {
+        None => false,
+        Some(value) => is_quorum_word(value),
+    }
+}
+
+fn is_object(value: &Value) -> bool
+    ensures { result ≡ is_object (view value.now) }
+{
+    match value {
+        Value::Object(_) => true,
+        Value::Null | Value::Bool(_) | Value::Number(_) | Value::String(_) | Value::Array(_) => {
+            false
+        }
+    }
+}
+
+/// Whether a value is an object, where there is one.
+fn says_object(found: Option<&Value>) -> bool
+    ensures { result ≡ says_object (option_map (λ v. view v.now) found.entry) }
+{
+    match found {
+        None => false,
+        Some(value) => is_object(value),
+    }
+}
+
 /// The number at a setting's key, or the default.
 fn number_at(range: SettingRange, default: u64, setting: Setting, object: &Value) -> u64
     requires { IsWithin range default }
@@ -138,11 +181,16 @@ fn truth_at(setting: Setting, object: &Value) -> bool
     truth_or_false(value_at(setting, object))
 }
 
-/// What a configuration sets: for each setting the value at its key, and the default where there is none.
+/// What a configuration sets: for each setting the value at its key, and the default where there is none; a standby
+/// cluster where neither synchronous nor failsafe mode is on.
 pub(crate) fn config_in(object: &Value) -> Config
     ensures { result ≡ config_in (view object.now) }
 {
     let default = Config::defaults();
+    let quorum = says_quorum(value_at(Setting::SynchronousMode, object));
+    let synchronous_mode = truth_at(Setting::SynchronousMode, object) || quorum;
+    let failsafe_mode = truth_at(Setting::FailsafeMode, object);
+    let follows_another = says_object(value_at(Setting::StandbyCluster, object));
     Config {
         loop_wait: number_at(LOOP_WAIT, default.loop_wait, Setting::LoopWait, object),
         retry_timeout: number_at(
@@ -170,9 +218,11 @@ pub(crate) fn config_in(object: &Value) -> Config
             Setting::SynchronousNodeCount,
             object,
         ),
-        synchronous_mode: truth_at(Setting::SynchronousMode, object),
+        synchronous_mode,
+        quorum,
         synchronous_mode_strict: truth_at(Setting::SynchronousModeStrict, object),
-        failsafe_mode: truth_at(Setting::FailsafeMode, object),
+        standby_cluster: follows_another && !(synchronous_mode || failsafe_mode),
+        failsafe_mode,
         pause: truth_at(Setting::Pause, object),
         use_pg_rewind: truth_at(Setting::UsePgRewind, object),
     }

@@ -3,3 +3,4 @@ pub mod Places
 pub mod Lists
 pub mod Founds
 pub mod Commanding
+pub mod Outputs

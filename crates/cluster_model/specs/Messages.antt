@@ -3,6 +3,7 @@ use Rattle.std.specs.Prelude.{ℕ, ◌+◌, nat_le, Bool, true, false, if◌then
 use Rattle.store_keys.specs.declared.action.OperatorAction.{OperatorAction}
 use Rattle.store_keys.specs.declared.txn.Txn.{Txn}
 use Rattle.store_keys.specs.declared.txn.Txn.TheVariants as txns
+use Rattle.store_keys.specs.declared.txn.SyncTxn.TheVariants as sync_txns
 use Rattle.lease_store.specs.Decision.{Decision, Grant, Refusal, decision_on}
 use Rattle.store_keys.specs.TxnKinds.{txn_kind_of}
 use Rattle.pat_base.specs.declared.name.Name.{Name}
@@ -34,6 +35,16 @@ use Rattle.agent_model.specs.declared.heard.Heard.{Heard}
 use Rattle.agent_model.specs.declared.heard.Heard.TheVariants.{Wake, Operated as HearsOperator}
 use Rattle.agent_model.specs.declared.output.Output.{Output}
 use Rattle.agent_model.specs.declared.output.Output.TheVariants as outputs
+use Rattle.agent_model.specs.declared.output.Feeding.{Feeding}
+use Rattle.agent_model.specs.declared.output.Noting.{Noting}
+use Rattle.agent_model.specs.declared.output.Outgoing.{Outgoing}
+use Rattle.agent_model.specs.declared.output.ServerOrder.{ServerOrder}
+use Rattle.agent_model.specs.declared.output.Telling.{Telling}
+use Rattle.agent_model.specs.declared.output.Feeding.TheVariants as feedings
+use Rattle.agent_model.specs.declared.output.Noting.TheVariants as notings
+use Rattle.agent_model.specs.declared.output.Outgoing.TheVariants as outgoing
+use Rattle.agent_model.specs.declared.output.ServerOrder.TheVariants as orders
+use Rattle.agent_model.specs.declared.output.Telling.TheVariants as tellings
 use Rattle.agent_model.specs.declared.output.Repair.{Repair}
 use Rattle.agent_model.specs.declared.output.Target.{Target}
 use Rattle.agent_model.specs.declared.output.Target.TheVariants as targets
@@ -121,44 +132,62 @@ abbrev pub server_order_events : Cluster → Member → (ServerFacts → Option 
 server_order_events cluster member order =
     events_of cluster (kinds_of (option_and_then order (server_at cluster member)))
 
--- what an output of the agent of a member comes to, on the message that it heard
-abbrev pub output_events : Member → HeardMessage → Cluster → Output → List Event
-output_events member heard cluster (outputs.Send to sequence body) = sending_events cluster member
+-- what the agent of a member writes to another end of a link
+abbrev pub outgoing_events : Cluster → Member → Outgoing → List Event
+outgoing_events cluster member (outgoing.Send to sequence body) = sending_events cluster member
     (slice_get cluster.facts.processes member.id.number) (receiver_of cluster.facts.members to) sequence body
-output_events member heard cluster (outputs.Answer to incarnation sequence answer) = replying_events cluster member
+outgoing_events cluster member (outgoing.Answer to incarnation sequence answer) = replying_events cluster member
     (receiver_of cluster.facts.members (targets.Member to)) incarnation sequence (bodies.Answer answer)
-output_events member heard cluster (outputs.FailsafeAnswer to incarnation sequence accepted) =
+outgoing_events cluster member (outgoing.FailsafeAnswer to incarnation sequence accepted) =
     replying_events cluster member (receiver_of cluster.facts.members (targets.Member to)) incarnation sequence
     (bodies.FailsafeAnswer accepted)
-output_events member heard cluster outputs.Begin = begin_events cluster member
-output_events member heard cluster (outputs.StartReplica leader) =
+
+-- what it orders its server to do
+abbrev pub order_events : Cluster → Member → ServerOrder → List Event
+order_events cluster member orders.Begin = begin_events cluster member
+order_events cluster member (orders.StartReplica leader) =
     replica_start_events cluster member (declared_member cluster.facts.members leader)
-output_events member heard cluster (outputs.Stop reason) = stop_events cluster member reason
-output_events member heard cluster outputs.ShutDown = server_order_events cluster member (stop_of member)
-output_events member heard cluster (outputs.Restart as_primary) = server_restart_events cluster member
-output_events member heard cluster outputs.Wipe = server_order_events cluster member (wipe_of member)
-output_events member heard cluster (outputs.Follow leader) =
+order_events cluster member (orders.Stop reason) = stop_events cluster member reason
+order_events cluster member orders.ShutDown = server_order_events cluster member (stop_of member)
+order_events cluster member (orders.Restart as_primary) = server_restart_events cluster member
+order_events cluster member orders.Wipe = server_order_events cluster member (wipe_of member)
+order_events cluster member (orders.Follow leader) =
     server_order_events cluster member (upstream_of member (slice_get cluster.facts.members leader.number))
-output_events member heard cluster (outputs.Repair leader repair) =
+order_events cluster member (orders.Repair leader repair) =
     repair_events cluster member repair (slice_get cluster.facts.members leader.number)
+
+-- what it did to its watchdog, on the message that it heard
+abbrev pub feeding_kinds : Member → HeardMessage → Feeding → List EventKind
+feeding_kinds member heard (feedings.Armed until) = feed_kinds member heard.sent (arming member until heard)
+feeding_kinds member heard (feedings.Fed until) = feed_kinds member heard.sent (feeding member until heard)
+feeding_kinds member heard (feedings.FedByFailsafe until members sequence since) =
+    feed_kinds member since (failsafe_feeding member until members sequence)
+feeding_kinds member heard feedings.Disarmed = kinds.Watchdog (Disarmed member) ∷ []
+
+-- what it tells, on the message that it heard
+abbrev pub telling_kind : Cluster → Member → HeardMessage → Telling → Option EventKind
+telling_kind cluster member heard (tellings.Told request told) =
+    told_kind member (agent_at cluster.agents member.id.number) told
+telling_kind cluster member heard (tellings.HoldTaken until from sequence) = option_map
+    (hold_taken member until heard.incarnation sequence) (slice_get cluster.facts.members from.number)
+telling_kind cluster member heard tellings.ClaimsOutsideSync = Some (kinds.Agent (Passed member))
+
+-- what it notes, among these members
+abbrev pub noting_kind : List Member → Member → Noting → EventKind
+noting_kind members member (notings.Agent note) = agent_noting members member note
+noting_kind members member notings.StaysByFailsafe = kinds.Note (StaysByFailsafe member)
+
+-- what an output of the agent of a member comes to, on the message that it heard
+abbrev pub output_events : Member → HeardMessage → Cluster → Output → List Event
+output_events member heard cluster (outputs.Message written) = outgoing_events cluster member written
+output_events member heard cluster (outputs.Server order) = order_events cluster member order
+output_events member heard cluster (outputs.Watchdog fed) = events_of cluster (feeding_kinds member heard fed)
 output_events member heard cluster (outputs.Require required) =
     server_order_events cluster member (require_of cluster.facts.members member required)
-output_events member heard cluster (outputs.Armed until) =
-    events_of cluster (feed_kinds member heard.sent (arming member until heard))
-output_events member heard cluster (outputs.Fed until) =
-    events_of cluster (feed_kinds member heard.sent (feeding member until heard))
-output_events member heard cluster (outputs.FedByFailsafe until members sequence since) =
-    events_of cluster (feed_kinds member since (failsafe_feeding member until members sequence))
-output_events member heard cluster outputs.StaysByFailsafe = event_of cluster (kinds.Note (StaysByFailsafe member))
-output_events member heard cluster outputs.Disarmed = event_of cluster (kinds.Watchdog (Disarmed member))
-output_events member heard cluster (outputs.Note note) =
-    event_of cluster (agent_noting cluster.facts.members member note)
-output_events member heard cluster outputs.ClaimsOutsideSync = event_of cluster (kinds.Agent (Passed member))
-output_events member heard cluster (outputs.Told request told) =
-    events_of cluster (kinds_of (told_kind member (agent_at cluster.agents member.id.number) told))
-output_events member heard cluster (outputs.HoldTaken until from sequence) = events_of cluster
-    (kinds_of (option_map (hold_taken member until heard.incarnation sequence)
-    (slice_get cluster.facts.members from.number)))
+output_events member heard cluster (outputs.Tell telling) =
+    events_of cluster (kinds_of (telling_kind cluster member heard telling))
+output_events member heard cluster (outputs.Note noting) =
+    event_of cluster (noting_kind cluster.facts.members member noting)
 
 -- what the outputs of an input come to, one after another
 abbrev pub input_events : Cluster → Member → HeardMessage → Option Outcome → List Event
@@ -240,7 +269,7 @@ visit_events cluster visits.Failure member = event_of cluster (kinds.Note Connec
 
 -- the names of the standbys that a request publishes
 abbrev pub published_names : List Member → Txn → List Name
-published_names members (txns.SetSync revision sync standbys) = names_of standbys members
+published_names members (txns.Sync (sync_txns.SetSync revision sync standbys may_lack)) = names_of standbys members
 published_names members _ = []
 
 -- the key store's decision on the request that a message carries, as an event, among these members

@@ -94,11 +94,14 @@ abbrev pub is_same_required : Required → Required → Bool
 is_same_required requireds.Nobody requireds.Nobody = true
 is_same_required requireds.AnyOne requireds.AnyOne = true
 is_same_required (requireds.All first) (requireds.All second) = first.bits == second.bits
+is_same_required (requireds.AtLeast number first) (requireds.AtLeast other second) =
+    (number == other) && (first.bits == second.bits)
 is_same_required _ _ = false
 
 -- the names of those that commits wait for
 abbrev pub required_names : List Member → Required → List Name
 required_names members (requireds.All set) = names_of set members
+required_names members (requireds.AtLeast number set) = names_of set members
 required_names members _ = []
 
 -- a server that doesn't accept writes, and won't when its start is

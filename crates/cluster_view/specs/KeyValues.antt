@@ -6,26 +6,20 @@ use Rattle.store_keys.specs.Defaults.{default_config}
 use Rattle.store_keys.specs.declared.config.Config.{Config}
 use Rattle.store_keys.specs.declared.key.Key.TheVariants as keys
 use Rattle.store_keys.specs.declared.value.FailoverKey.{FailoverKey}
-use Rattle.store_keys.specs.declared.value.KeyEntry.{KeyEntry}
 use Rattle.store_keys.specs.declared.value.MemberInfo.{MemberInfo}
 use Rattle.store_keys.specs.declared.value.SyncKey.{SyncKey}
 use Rattle.store_keys.specs.declared.value.Value.{Value}
 use Rattle.store_keys.specs.declared.value.Value.TheVariants as values
-use Rattle.cluster_view.specs.Snapshots.{SnapshotFacts, entry_in, settings_in}
+use Rattle.cluster_view.specs.Snapshots.{SnapshotFacts, entry_in, settings_in, value_by}
 
 -- what a member tells of itself, by a value of its key
 abbrev pub info_by : Value → Option MemberInfo
 info_by (values.Member info) = Some info
 info_by _ = None
 
--- what a member tells of itself, by the entry of its key
-abbrev pub info_of_entry : Option KeyEntry → Option MemberInfo
-info_of_entry None = None
-info_of_entry (Some found) = info_by found.value
-
 -- what the member tells of itself, where its key is there
 abbrev pub info_in : SnapshotFacts → MemberId → Option MemberInfo
-info_in snapshot member = info_of_entry (entry_in (keys.Member member) snapshot)
+info_in snapshot member = value_by info_by (entry_in (keys.Member member) snapshot)
 
 -- what the configuration sets
 abbrev pub config_in : SnapshotFacts → Config
@@ -36,42 +30,27 @@ abbrev pub failover_by : Value → Option FailoverKey
 failover_by (values.Failover failover) = Some failover
 failover_by _ = None
 
--- the failover that the entry of the failover key asks for
-abbrev pub failover_of_entry : Option KeyEntry → Option FailoverKey
-failover_of_entry None = None
-failover_of_entry (Some found) = failover_by found.value
-
 -- the failover or the switchover that is asked for, if one is
 abbrev pub failover_in : SnapshotFacts → Option FailoverKey
-failover_in snapshot = failover_of_entry (entry_in keys.Failover snapshot)
+failover_in snapshot = value_by failover_by (entry_in keys.Failover snapshot)
 
 -- who replicates synchronously, by a value of the sync key
 abbrev pub sync_by : Value → Option SyncKey
 sync_by (values.Sync sync) = Some sync
 sync_by _ = None
 
--- who replicates synchronously, by the entry of the sync key
-abbrev pub sync_of_entry : Option KeyEntry → Option SyncKey
-sync_of_entry None = None
-sync_of_entry (Some found) = sync_by found.value
-
 -- who replicates synchronously, where the sync key is there
 abbrev pub sync_in : SnapshotFacts → Option SyncKey
-sync_in snapshot = sync_of_entry (entry_in keys.Sync snapshot)
+sync_in snapshot = value_by sync_by (entry_in keys.Sync snapshot)
 
 -- where the leader's log ends, by a value of the status key
 abbrev pub status_by : Value → Option Lsn
 status_by (values.Status end) = Some end
 status_by _ = None
 
--- where the leader's log ends, by the entry of the status key
-abbrev pub status_of_entry : Option KeyEntry → Option Lsn
-status_of_entry None = None
-status_of_entry (Some found) = status_by found.value
-
 -- where the leader's log ends, as it told last, if it did
 abbrev pub status_in : SnapshotFacts → Option Lsn
-status_in snapshot = status_of_entry (entry_in keys.Status snapshot)
+status_in snapshot = value_by status_by (entry_in keys.Status snapshot)
 
 -- the sync key, where the synchronous mode is on
 abbrev pub active_sync_where : Bool → Option SyncKey → Option SyncKey

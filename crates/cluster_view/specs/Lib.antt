@@ -1,3 +1,4 @@
 pub mod KeyValues
 pub mod Naming
+pub mod Roles
 pub mod Snapshots

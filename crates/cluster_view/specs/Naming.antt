@@ -5,11 +5,17 @@ use Rattle.pat_base.specs.declared.member_id.MemberId.{MemberId}
 use Rattle.pat_base.specs.declared.member_set.MemberSet.{MemberSet}
 use Rattle.store_keys.specs.declared.value.FailoverKey.{FailoverKey}
 use Rattle.store_keys.specs.declared.value.SyncKey.{SyncKey}
+use Rattle.cluster_view.specs.declared.snapshot.LeaderEntry.{LeaderEntry}
 
 -- this is the member, if there is one
 abbrev pub is_member : MemberId → Option MemberId → Bool
 is_member member None = false
 is_member member (Some other) = other.number == member.number
+
+-- the leader key names the member
+abbrev pub leads : MemberId → Option LeaderEntry → Bool
+leads member None = false
+leads member (Some leader) = leader.holder.number == member.number
 
 -- the member is in the set
 abbrev pub is_one_of : MemberId → MemberSet → Bool

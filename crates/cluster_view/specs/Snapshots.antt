@@ -31,19 +31,24 @@ pub record IsRead (entries : List (Key × KeyEntry)) : Type 0 where
 abbrev pub entry_in : Key → SnapshotFacts → Option KeyEntry
 entry_in key snapshot = find key_cmp key snapshot.entries
 
+-- what is read of a value, by the entry that has it, if there is one
+abbrev pub value_by : {X : Type 0} → (Value → Option X) → Option KeyEntry → Option X
+value_by read None = None
+value_by read (Some found) = read found.value
+
+-- what is read of a value and of the revision at which it was written
+abbrev pub found_by : {X : Type 0} → (ℕ → Value → Option X) → Option KeyEntry → Option X
+found_by read None = None
+found_by read (Some found) = read found.revision found.value
+
 -- who leads, by a value that was written to the leader key at this revision
 abbrev pub leader_by : ℕ → Value → Option LeaderEntry
 leader_by revision (values.Leader member) = Some (record { holder = member; revision = revision })
 leader_by revision _ = None
 
--- who leads, by the entry of the leader key
-abbrev pub leader_of_entry : Option KeyEntry → Option LeaderEntry
-leader_of_entry None = None
-leader_of_entry (Some found) = leader_by found.revision found.value
-
 -- who leads, by which revision of the leader key
 abbrev pub leader_in : SnapshotFacts → Option LeaderEntry
-leader_in snapshot = leader_of_entry (entry_in keys.Leader snapshot)
+leader_in snapshot = found_by leader_by (entry_in keys.Leader snapshot)
 
 -- what a value of the configuration sets, or these settings where it is none
 abbrev pub settings_by : Config → Value → Config
@@ -64,14 +69,9 @@ abbrev pub failsafe_by : Value → Option MemberSet
 failsafe_by (values.Failsafe members) = Some members
 failsafe_by _ = None
 
--- the members listed by the entry of the failsafe key
-abbrev pub failsafe_of_entry : Option KeyEntry → Option MemberSet
-failsafe_of_entry None = None
-failsafe_of_entry (Some found) = failsafe_by found.value
-
 -- the members that its failsafe key lists
 abbrev pub failsafe_in : SnapshotFacts → Option MemberSet
-failsafe_in snapshot = failsafe_of_entry (entry_in keys.Failsafe snapshot)
+failsafe_in snapshot = value_by failsafe_by (entry_in keys.Failsafe snapshot)
 
 -- whether it has the row of this timeline
 abbrev pub has_row : ℕ → SnapshotFacts → Bool

@@ -1,17 +1,18 @@
 //! What single keys of a snapshot say.
-ghost use Rattle.std.specs.Prelude.{◌≡◌, option_copied};
-ghost use Rattle.cluster_view.specs.KeyValues.{info_by, info_of_entry, info_in, config_in, failover_by, failover_of_entry, failover_in, sync_by, sync_of_entry, sync_in, status_by, status_of_entry, status_in, active_sync_in};
+ghost use Rattle.std.specs.Prelude.{◌≡◌};
+ghost use Rattle.cluster_view.specs.KeyValues.{info_by, info_in, config_in, failover_by, failover_in, sync_by, sync_in, status_by, status_in, active_sync_in};
 
 use crate::Snapshot;
 use pat_base::{Lsn, MemberId};
-use store_keys::{Config, FailoverKey, Key, KeyEntry, MemberInfo, SyncKey, Value};
+use store_keys::{Config, FailoverKey, Key, MemberInfo, SyncKey, Value};
 
 impl Snapshot {
     /// What a member tells of itself. `None` exactly where its key is absent.
     pub fn info(&self, member: MemberId) -> Option<MemberInfo>
         ensures { result ≡ info_in self.now member }
     {
-        info_of_entry(self.entry(Key::Member(member)))
+        let found = self.entry(Key::Member(member))?;
+        info_by(&found.value)
     }
 
     /// What the configuration sets.
@@ -25,21 +26,24 @@ impl Snapshot {
     pub fn failover(&self) -> Option<FailoverKey>
         ensures { result ≡ failover_in self.now }
     {
-        failover_of_entry(self.entry(Key::Failover))
+        let found = self.entry(Key::Failover)?;
+        failover_by(&found.value)
     }
 
     /// Who replicates synchronously. `None` exactly where the sync key was absent.
     pub fn sync(&self) -> Option<SyncKey>
         ensures { result ≡ sync_in self.now }
     {
-        sync_of_entry(self.entry(Key::Sync))
+        let found = self.entry(Key::Sync)?;
+        sync_by(&found.value)
     }
 
     /// Where the leader's log ends, as it told last. `None` exactly where the status key was absent.
     pub fn status(&self) -> Option<Lsn>
         ensures { result ≡ status_in self.now }
     {
-        status_of_entry(self.entry(Key::Status))
+        let found = self.entry(Key::Status)?;
+        status_by(&found.value)
     }
 
     /// Who replicates synchronously, where the synchronous mode is active. `None` exactly where it is off or the sync key
@@ -55,13 +59,6 @@ impl Snapshot {
     }
 }
 
-fn info_of_entry(found: Option<&KeyEntry>) -> Option<MemberInfo>
-    ensures { result ≡ info_of_entry (option_copied found.entry) }
-{
-    let found = found?;
-    info_by(&found.value)
-}
-
 /// What a member tells of itself by this value. `None` exactly where it is none of a member's key.
 pub fn info_by(value: &Value) -> Option<MemberInfo>
     ensures { result ≡ info_by value.now }
@@ -70,13 +67,6 @@ pub fn info_by(value: &Value) -> Option<MemberInfo>
         Value::Member(info) => Some(*info),
         _ => None,
     }
-}
-
-fn failover_of_entry(found: Option<&KeyEntry>) -> Option<FailoverKey>
-    ensures { result ≡ failover_of_entry (option_copied found.entry) }
-{
-    let found = found?;
-    failover_by(&found.value)
 }
 
 fn failover_by(value: &Value) -> Option<FailoverKey>
@@ -88,13 +78,6 @@ fn failover_by(value: &Value) -> Option<FailoverKey>
     }
 }
 
-fn sync_of_entry(found: Option<&KeyEntry>) -> Option<SyncKey>
-    ensures { result ≡ sync_of_entry (option_copied found.entry) }
-{
-    let found = found?;
-    sync_by(&found.value)
-}
-
 fn sync_by(value: &Value) -> Option<SyncKey>
     ensures { result ≡ sync_by value.now }
 {
@@ -102,13 +85,6 @@ fn sync_by(value: &Value) -> Option<SyncKey>
         Value::Sync(sync) => Some(*sync),
         _ => None,
     }
-}
-
-fn status_of_entry(found: Option<&KeyEntry>) -> Option<Lsn>
-    ensures { result ≡ status_of_entry (option_copied found.entry) }
-{
-    let found = found?;
-    status_by(&found.value)
 }
 
 fn status_by(value: &Value) -> Option<Lsn>

@@ -1,7 +1,8 @@
 //! Which member a failover or a sync key names.
 ghost use Rattle.std.specs.Prelude.{◌≡◌};
-ghost use Rattle.cluster_view.specs.Naming.{is_member, candidate_of, is_candidate, is_failover_to, is_standby, is_named};
+ghost use Rattle.cluster_view.specs.Naming.{is_member, candidate_of, is_candidate, is_failover_to, is_standby, is_named, leads};
 
+use crate::LeaderEntry;
 use pat_base::MemberId;
 use store_keys::{FailoverKey, SyncKey};
 
@@ -29,6 +30,16 @@ pub fn is_failover_to(member: MemberId, failover: Option<FailoverKey>) -> bool
     match failover {
         None => false,
         Some(failover) => failover.leader.is_none() && is_member(member, failover.candidate),
+    }
+}
+
+/// Whether the leader key names the member.
+pub fn leads(member: MemberId, leader: Option<LeaderEntry>) -> bool
+    ensures { result ≡ leads member leader }
+{
+    match leader {
+        None => false,
+        Some(leader) => leader.holder.number == member.number,
     }
 }
 

@@ -5,7 +5,7 @@ ghost use Rattle.lease_store.specs.Kept.{AreOfKind};
 ghost use Rattle.lease_store.specs.InKeyOrder.{in_key_order};
 ghost use Rattle.lease_store.specs.KeyOrder.{key_cmp};
 ghost use Rattle.store_keys.specs.declared.key.Key.TheVariants as keys;
-ghost use Rattle.cluster_view.specs.Snapshots.{IsRead, entry_in, leader_by, leader_of_entry, leader_in, settings_by, settings_of_entry, settings_in, failsafe_by, failsafe_of_entry, failsafe_in, has_row};
+ghost use Rattle.cluster_view.specs.Snapshots.{IsRead, entry_in, leader_by, leader_in, settings_by, settings_of_entry, settings_in, failsafe_by, failsafe_in, has_row};
 
 use lease_store::{Copies, in_key_order, key_entry_at};
 use pat_base::{Host, MemberId, MemberSet, Name, Shared};
@@ -110,7 +110,8 @@ impl Snapshot {
     pub fn leader(&self) -> Option<LeaderEntry>
         ensures { result ≡ leader_in self.now }
     {
-        leader_of_entry(self.entry(Key::Leader))
+        let found = self.entry(Key::Leader)?;
+        leader_by(found.revision, &found.value)
     }
 
     /// What the configuration sets; these settings where there is none.
@@ -124,7 +125,8 @@ impl Snapshot {
     pub fn failsafe(&self) -> Option<MemberSet>
         ensures { result ≡ failsafe_in self.now }
     {
-        failsafe_of_entry(self.entry(Key::Failsafe))
+        let found = self.entry(Key::Failsafe)?;
+        failsafe_by(&found.value)
     }
 
     /// Whether the history has the row of this timeline.
@@ -133,13 +135,6 @@ impl Snapshot {
     {
         self.entry(Key::History(timeline)).is_some()
     }
-}
-
-fn leader_of_entry(found: Option<&KeyEntry>) -> Option<LeaderEntry>
-    ensures { result ≡ leader_of_entry (option_copied found.entry) }
-{
-    let found = found?;
-    leader_by(found.revision, &found.value)
 }
 
 fn leader_by(revision: u64, value: &Value) -> Option<LeaderEntry>
@@ -170,13 +165,6 @@ fn settings_by(settings: Config, value: &Value) -> Config
         Value::Config(config) => config.config(),
         _ => settings,
     }
-}
-
-fn failsafe_of_entry(found: Option<&KeyEntry>) -> Option<MemberSet>
-    ensures { result ≡ failsafe_of_entry (option_copied found.entry) }
-{
-    let found = found?;
-    failsafe_by(&found.value)
 }
 
 fn failsafe_by(value: &Value) -> Option<MemberSet>

@@ -1,4 +1,6 @@
 //! What agents show of themselves.
+ghost use Rattle.std.specs.Prelude.{◌≡◌};
+ghost use Rattle.cluster_view.specs.Roles.{has_key};
 
 use crate::Snapshot;
 use pat_base::{Lsn, MOST_MEMBERS, MemberId, Name, Required, State, Tags, Ticks};
@@ -18,6 +20,18 @@ pub enum RoleWord {
     Ending,
     /// Its server accepts writes, or will, while it has no lease.
     Unleased,
+}
+
+impl RoleWord {
+    /// Whether an agent in this role has the leader key.
+    pub fn has_key(self) -> bool
+        ensures { result ≡ has_key self }
+    {
+        match self {
+            RoleWord::Holder | RoleWord::Ready | RoleWord::Leader | RoleWord::Ending => true,
+            RoleWord::Follower | RoleWord::Unleased => false,
+        }
+    }
 }
 
 /// What an agent shows of itself and of its server at a moment: to operators, to other members, and to those who ask about

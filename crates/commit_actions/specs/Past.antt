@@ -7,7 +7,11 @@ use Rattle.pat_base.specs.declared.server_state.Required.TheVariants as needs
 use Rattle.store_keys.specs.declared.txn.Expected.{Expected}
 use Rattle.store_keys.specs.declared.txn.Expected.TheVariants.{Absent, Revision}
 use Rattle.store_keys.specs.declared.txn.Txn.{Txn}
+use Rattle.store_keys.specs.declared.txn.LeaseTxn.{LeaseTxn}
+use Rattle.store_keys.specs.declared.txn.SyncTxn.{SyncTxn}
 use Rattle.store_keys.specs.declared.txn.Txn.TheVariants as txns
+use Rattle.store_keys.specs.declared.txn.LeaseTxn.TheVariants as lease_txns
+use Rattle.store_keys.specs.declared.txn.SyncTxn.TheVariants as sync_txns
 use Rattle.wal_model.specs.declared.entry.Entry.{Entry}
 use Rattle.pg_model.specs.Facts.{entries_of}
 use Rattle.event_book.specs.declared.event.Event.{Event}
@@ -58,20 +62,21 @@ claim_request member incarnation sequence revision sync = record {
   aim = ClaimSync;
 }
 
--- what a write of the sync key that publishes these standbys aims at
-abbrev pub published_aim : ℕ → Expected → MemberSet → Aim
-published_aim revision sync standbys =
-    PublishStandbys (set_members standbys) (quorum_written (txns.SetSync revision sync standbys))
+-- what a write of the sync key that publishes these standbys, and how many may lack a commit, aims at
+abbrev pub published_aim : ℕ → Expected → MemberSet → Option ℕ → Aim
+published_aim revision sync standbys may_lack =
+    PublishStandbys (set_members standbys)
+    (quorum_written (txns.Sync (sync_txns.SetSync revision sync standbys may_lack)))
 
 -- such a write
-abbrev pub publish_request : ℕ → ℕ → ℕ → ℕ → Expected → MemberSet → SyncRequest
-publish_request member incarnation sequence revision sync standbys = record {
+abbrev pub publish_request : ℕ → ℕ → ℕ → ℕ → Expected → MemberSet → Option ℕ → SyncRequest
+publish_request member incarnation sequence revision sync standbys may_lack = record {
   member = member;
   incarnation = incarnation;
   sequence = sequence;
   leader = revision;
   sync = revision_in sync;
-  aim = published_aim revision sync standbys;
+  aim = published_aim revision sync standbys may_lack;
 }
 
 -- a create that compares the sync key
@@ -95,16 +100,26 @@ abbrev pub renew_query : ℕ → ℕ → Option MemberSet → Query
 renew_query member revision None = LeaseQuery
 renew_query member revision (Some members) = CarryQuery member revision
 
--- what commits read of a transaction
-abbrev pub query_of : ℕ → ℕ → ℕ → Txn → Query
-query_of member incarnation sequence (txns.Create info ttl failsafe sync) =
+-- what commits read of a transaction on the leader key
+abbrev pub lease_query : ℕ → ℕ → ℕ → LeaseTxn → Query
+lease_query member incarnation sequence (lease_txns.Create info ttl failsafe sync) =
     create_query member incarnation sequence sync
-query_of member incarnation sequence (txns.Renew revision info ttl status row failsafe) =
+lease_query member incarnation sequence (lease_txns.Renew revision info ttl status row failsafe) =
     renew_query member revision failsafe
-query_of member incarnation sequence (txns.Claim revision sync) =
+lease_query member incarnation sequence (lease_txns.Release revision) = OtherQuery
+
+-- of one on the sync key, of which a removal publishes nothing
+abbrev pub sync_query : ℕ → ℕ → ℕ → SyncTxn → Query
+sync_query member incarnation sequence (sync_txns.Claim revision sync) =
     SyncQuery (claim_request member incarnation sequence revision sync)
-query_of member incarnation sequence (txns.SetSync revision sync standbys) =
-    SyncQuery (publish_request member incarnation sequence revision sync standbys)
+sync_query member incarnation sequence (sync_txns.SetSync revision sync standbys may_lack) =
+    SyncQuery (publish_request member incarnation sequence revision sync standbys may_lack)
+sync_query member incarnation sequence (sync_txns.DropSync revision sync) = OtherQuery
+
+-- of any
+abbrev pub query_of : ℕ → ℕ → ℕ → Txn → Query
+query_of member incarnation sequence (txns.Lease txn) = lease_query member incarnation sequence txn
+query_of member incarnation sequence (txns.Sync txn) = sync_query member incarnation sequence txn
 query_of member incarnation sequence _ = OtherQuery
 
 -- what a book determines
@@ -125,12 +140,16 @@ pub record Past : Type 0 where
   pub acknowledged_log : List Entry
   pub acknowledged : List ℕ
 
--- the sync key after a granted transaction of this member, under this revision
+-- the sync key after a granted transaction of this member on it, under this revision
+abbrev pub sync_written : ℕ → ℕ → SyncTxn → Option SyncKey
+sync_written by revision (sync_txns.Claim leader expected) = Some (sync_key_by by revision ClaimSync)
+sync_written by revision (sync_txns.SetSync leader expected standbys may_lack) =
+    Some (sync_key_by by revision (published_aim leader expected standbys may_lack))
+sync_written by revision (sync_txns.DropSync leader expected) = None
+
+-- the sync key after any
 abbrev pub sync_after_grant : ℕ → ℕ → Option SyncKey → Txn → Option SyncKey
-sync_after_grant by revision sync (txns.Claim leader expected) = Some (sync_key_by by revision ClaimSync)
-sync_after_grant by revision sync (txns.SetSync leader expected standbys) =
-    Some (sync_key_by by revision (published_aim leader expected standbys))
-sync_after_grant by revision sync (txns.DropSync leader expected) = None
+sync_after_grant by revision sync (txns.Sync txn) = sync_written by revision txn
 sync_after_grant by revision sync _ = sync
 
 -- the sync key after an event
@@ -166,7 +185,7 @@ failsafe_revision_of (Some key) = Some key.revision
 
 -- the holder of the leader key asks for a renewal that carries a set for the failsafe key; a create begins anew
 abbrev pub was_live_by_txn : Bool → Option LeaderKey → ℕ → Txn → Bool
-was_live_by_txn holder_was_live leader m (txns.Renew revision info ttl status row (Some members)) =
+was_live_by_txn holder_was_live leader m (txns.Lease (lease_txns.Renew revision info ttl status row (Some members))) =
     holder_was_live || is_holder leader m
 was_live_by_txn holder_was_live leader m _ = holder_was_live
 
@@ -179,7 +198,7 @@ was_live_by_message holder_was_live leader _ _ = holder_was_live
 
 -- a create that is granted begins anew; any other grant changes nothing
 abbrev pub was_live_by_grant : Bool → Txn → Bool
-was_live_by_grant holder_was_live (txns.Create info ttl failsafe sync) = false
+was_live_by_grant holder_was_live (txns.Lease (lease_txns.Create info ttl failsafe sync)) = false
 was_live_by_grant holder_was_live _ = holder_was_live
 
 -- whether the holder was live when it asked for a renewal that carries a set, after an event
@@ -368,11 +387,13 @@ abbrev pub leader_revision : Option LeaderKey → Option ℕ
 leader_revision None = None
 leader_revision (Some key) = Some key.revision
 
--- whom a required list has commits wait for; that of a server, if there is one
+-- whom a required list has commits wait for, each of them: nobody where any
+-- one, or any so many of a set, will do; that of a server, if there is one
 abbrev pub confirmers_in : Required → Confirmers
 confirmers_in needs.Nobody = Nobody
 confirmers_in needs.AnyOne = Nobody
 confirmers_in (needs.All members) = All (set_members members)
+confirmers_in (needs.AtLeast number of) = Nobody
 
 -- whom the commits of a server wait for; nobody where there is no such server
 abbrev pub confirmers_of : Option Required → Confirmers

@@ -6,11 +6,12 @@ use Rattle.store_keys.specs.declared.value.SyncKey.{SyncKey as StoredKey}
 use Rattle.event_book.specs.Functions.{set_members}
 use Rattle.commit_actions.specs.Keys.{SyncKey, strict_quorum}
 
--- how many of a stored sync key's standbys may lack an acknowledged commit: none, as no key in the store says a number
+-- how many of a stored sync key's standbys may lack an acknowledged
+-- commit: none, whatever number it says: no agent says one yet
 unfoldable pub quorum_of : StoredKey → ℕ
 quorum_of key = strict_quorum
 
--- how many of the standbys in the sync key that a transaction writes may lack one: none, as none says a number
+-- how many of the standbys in the sync key that a transaction writes may lack one: none, whatever number it says
 unfoldable pub quorum_written : Txn → ℕ
 quorum_written txn = strict_quorum
 

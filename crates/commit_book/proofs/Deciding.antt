@@ -48,6 +48,7 @@ leader-value-read compared revision (values.Sync key) expiry kind leased = absur
 leader-value-read compared revision (values.Status end) expiry kind leased = absurd kind
 leader-value-read compared revision (values.History row) expiry kind leased = absurd kind
 leader-value-read compared revision (values.Failsafe members) expiry kind leased = absurd kind
+leader-value-read compared revision (values.Scheduled planned) expiry kind leased = absurd kind
 
 leader-read : (compared : ℕ) (found : Option KeyEntry) → OfKind keys.Leader found → IsLeased found
     → is_as_expected (Revision compared) (found_in found) ≡ at_revision (leader_revision (leader_key_of found)) compared
@@ -92,6 +93,7 @@ sync-value-read expected revision (values.Failover key) expiry kind = absurd kin
 sync-value-read expected revision (values.Status end) expiry kind = absurd kind
 sync-value-read expected revision (values.History row) expiry kind = absurd kind
 sync-value-read expected revision (values.Failsafe members) expiry kind = absurd kind
+sync-value-read expected revision (values.Scheduled planned) expiry kind = absurd kind
 
 sync-read : (expected : Expected) (found : Option KeyEntry) → OfKind keys.Sync found
     → is_as_expected expected (found_in found) ≡ is_as_read (sync_key_of found) (revision_in expected)

@@ -11,6 +11,8 @@ use Rattle.store_keys.specs.declared.key.Key.{Key}
 use Rattle.store_keys.specs.declared.txn.Expected.{Expected}
 use Rattle.store_keys.specs.declared.txn.Txn.{Txn}
 use Rattle.store_keys.specs.declared.txn.Txn.TheVariants as txns
+use Rattle.store_keys.specs.declared.txn.LeaseTxn.TheVariants as lease_txns
+use Rattle.store_keys.specs.declared.txn.SyncTxn.TheVariants as sync_txns
 use Rattle.store_keys.specs.declared.txn_kind.TxnKind.{TxnKind}
 use Rattle.store_keys.specs.declared.value.HistoryRow.{HistoryRow}
 use Rattle.store_keys.specs.declared.value.MemberInfo.{MemberInfo}
@@ -40,16 +42,16 @@ use Rattle.commit_book.proofs.Groups.{book-after, granted-causal, refused-causal
 -- ---- decisions
 pub claim-decided : (past : Past) (facts : Facts) (m incarnation sequence revision : ℕ) (sync : Expected)
     → IsSameKeys past facts
-    → is_grant (decision_on facts.keys facts.clock (txns.Claim revision sync))
+    → is_grant (decision_on facts.keys facts.clock (txns.Sync (sync_txns.Claim revision sync)))
     ≡ is_granted (leader_revision past.lease.leader) past.sync (claim_request m incarnation sequence revision sync)
 claim-decided past facts m incarnation sequence revision sync same = decision-is past facts revision sync same
 
 pub publish-decided : (past : Past) (facts : Facts) (m incarnation sequence revision : ℕ) (sync : Expected)
-    (standbys : MemberSet) → IsSameKeys past facts
-    → is_grant (decision_on facts.keys facts.clock (txns.SetSync revision sync standbys))
+    (standbys : MemberSet) (may_lack : Option ℕ) → IsSameKeys past facts
+    → is_grant (decision_on facts.keys facts.clock (txns.Sync (sync_txns.SetSync revision sync standbys may_lack)))
     ≡ is_granted (leader_revision past.lease.leader) past.sync
-    (publish_request m incarnation sequence revision sync standbys)
-publish-decided past facts m incarnation sequence revision sync standbys same =
+    (publish_request m incarnation sequence revision sync standbys may_lack)
+publish-decided past facts m incarnation sequence revision sync standbys may_lack same =
     decision-is past facts revision sync same
 
 -- ---- messages
@@ -70,7 +72,9 @@ none-above past facts j same above =
 
 renew-flying : (m incarnation sequence revision : ℕ) (info : MemberInfo) (ttl : Ticks) (status : Option Lsn)
     (row : Option HistoryRow) (failsafe : Option MemberSet)
-    → query_in_flight_of (query_of m incarnation sequence (txns.Renew revision info ttl status row failsafe)) ≡ None
+    → query_in_flight_of (query_of m incarnation sequence
+    (txns.Lease (lease_txns.Renew revision info ttl status row failsafe)))
+    ≡ None
 renew-flying m incarnation sequence revision info ttl status row None = refl
 renew-flying m incarnation sequence revision info ttl status row (Some members) = refl
 
@@ -128,14 +132,16 @@ other-allowed setup past volatile_states tick i j by incarnation sequence txn st
 create-allowed : (setup : Setup) (past : Past) (volatile_states : ℕ → VolatileState) (tick : Ticks) (i j : ℕ)
     (by : Member) (incarnation sequence : ℕ) (info : MemberInfo) (ttl : Ticks)
     (failsafe sync : Option Expected) (standbys : List Name)
-    → IsAsked past i by incarnation sequence (txns.Create info ttl failsafe sync) → setup.creates_compare ≡ false
+    → IsAsked past i by incarnation sequence (txns.Lease (lease_txns.Create info ttl failsafe sync))
+    → setup.creates_compare ≡ false
     → MayBeGranted (state_of setup past volatile_states) by.id.number incarnation sequence
-    (txns.Create info ttl failsafe sync)
+    (txns.Lease (lease_txns.Create info ttl failsafe sync))
     → AreAllowed setup past volatile_states
-    (granted_actions volatile_states tick i j by incarnation sequence (txns.Create info ttl failsafe sync) standbys)
+    (granted_actions volatile_states tick i j by incarnation sequence
+    (txns.Lease (lease_txns.Create info ttl failsafe sync)) standbys)
 create-allowed setup past volatile_states tick i j by incarnation sequence info ttl failsafe None standbys is none may =
     allowed-one setup past volatile_states (Create by.id.number incarnation sequence j) tick i j by incarnation sequence
-    (txns.Create info ttl failsafe None) standbys (may, none)
+    (txns.Lease (lease_txns.Create info ttl failsafe None)) standbys (may, none)
     (create-shown setup past volatile_states tick i j by incarnation sequence info ttl failsafe standbys
     is.flying is.asked)
 create-allowed setup past volatile_states tick i j by incarnation sequence info ttl failsafe (Some sync) standbys is
@@ -145,7 +151,7 @@ create-allowed setup past volatile_states tick i j by incarnation sequence info 
 renew-allowed : (setup : Setup) (past : Past) (facts : Facts) (volatile_states : ℕ → VolatileState)
     (tick : Ticks) (i j : ℕ) (by : Member) (incarnation sequence revision : ℕ) (info : MemberInfo) (ttl : Ticks)
     (status : Option Lsn) (row : Option HistoryRow) (failsafe : Option MemberSet) (standbys : List Name)
-    → let txn = txns.Renew revision info ttl status row failsafe in
+    → let txn = txns.Lease (lease_txns.Renew revision info ttl status row failsafe) in
     IsAsked past i by incarnation sequence txn → IsSameKeys past facts
     → decision_on facts.keys facts.clock txn ≡ Granting → setup.creates_compare ≡ false
     → IsNumbered ((state_of setup past volatile_states).members by.id.number) incarnation sequence
@@ -157,7 +163,7 @@ renew-allowed setup past facts volatile_states tick i j by incarnation sequence 
     let key = granted-leader past facts revision same granted in
     let carries : Bool = carries_set failsafe in
     allowed-one setup past volatile_states (Renew by.id.number incarnation sequence j carries) tick i j by
-    incarnation sequence (txns.Renew revision info ttl status row failsafe) standbys
+    incarnation sequence (txns.Lease (lease_txns.Renew revision info ttl status row failsafe)) standbys
     (may, never-compared (state_of setup past volatile_states) carries none)
     (renew-shown setup past volatile_states tick i j by incarnation sequence revision info ttl status row
     failsafe standbys key.0 key.1
@@ -170,62 +176,68 @@ granted-allowed : (setup : Setup) (past : Past) (facts : Facts) (volatile_states
     → MayBeGranted (state_of setup past volatile_states) by.id.number incarnation sequence txn
     → AreAllowed setup past volatile_states
     (granted_actions volatile_states tick i j by incarnation sequence txn standbys)
-granted-allowed setup past facts volatile_states tick i j by incarnation sequence (txns.Create info ttl failsafe sync)
+granted-allowed setup past facts volatile_states tick i j by incarnation sequence
+    (txns.Lease (lease_txns.Create info ttl failsafe sync))
     standbys is same granted none may =
     create-allowed setup past volatile_states tick i j by incarnation sequence info ttl failsafe sync standbys
     is none may
 granted-allowed setup past facts volatile_states tick i j by incarnation sequence
-    (txns.Renew revision info ttl status row failsafe) standbys is same granted none may =
+    (txns.Lease (lease_txns.Renew revision info ttl status row failsafe)) standbys is same granted none may =
     renew-allowed setup past facts volatile_states tick i j by incarnation sequence revision info ttl status
     row failsafe standbys is same granted none may
-granted-allowed setup past facts volatile_states tick i j by incarnation sequence (txns.Claim revision sync) standbys is
+granted-allowed setup past facts volatile_states tick i j by incarnation sequence
+    (txns.Sync (sync_txns.Claim revision sync)) standbys is
     same granted none may =
     allowed-one setup past volatile_states (Decide i j) tick i j by incarnation sequence
-    (txns.Claim revision sync) standbys tt
+    (txns.Sync (sync_txns.Claim revision sync)) standbys tt
     (claim-shown setup past volatile_states tick i j by incarnation sequence revision sync standbys is.flying is.asked
     (sym (claim-decided past facts by.id.number incarnation sequence revision sync same) ∙ ap is_grant granted))
-granted-allowed setup past facts volatile_states tick i j by incarnation sequence (txns.SetSync revision sync set)
+granted-allowed setup past facts volatile_states tick i j by incarnation sequence
+    (txns.Sync (sync_txns.SetSync revision sync set may_lack))
     standbys is same granted none may =
     allowed-one setup past volatile_states (Decide i j) tick i j by incarnation sequence
-    (txns.SetSync revision sync set) standbys tt
-    (publish-shown setup past volatile_states tick i j by incarnation sequence revision sync set standbys
+    (txns.Sync (sync_txns.SetSync revision sync set may_lack)) standbys tt
+    (publish-shown setup past volatile_states tick i j by incarnation sequence revision sync set may_lack standbys
     is.flying is.asked
-    (sym (publish-decided past facts by.id.number incarnation sequence revision sync set same) ∙ ap is_grant granted))
-granted-allowed setup past facts volatile_states tick i j by incarnation sequence (txns.Release revision) standbys is
+    (sym (publish-decided past facts by.id.number incarnation sequence revision sync set may_lack same)
+    ∙ ap is_grant granted))
+granted-allowed setup past facts volatile_states tick i j by incarnation sequence
+    (txns.Lease (lease_txns.Release revision)) standbys is
     same granted none may =
-    allowed-two setup past volatile_states Release tick i j by incarnation sequence (txns.Release revision) standbys tt
+    allowed-two setup past volatile_states Release tick i j by incarnation sequence
+    (txns.Lease (lease_txns.Release revision)) standbys tt
     (release-shown setup past volatile_states tick i by revision standbys is.flying) is.asked
-granted-allowed setup past facts volatile_states tick i j by incarnation sequence (txns.DropSync revision sync) standbys
+granted-allowed setup past facts volatile_states tick i j by incarnation sequence
+    (txns.Sync (sync_txns.DropSync revision sync)) standbys
     is same granted none may =
     absurd may
 granted-allowed setup past facts volatile_states tick i j by incarnation sequence (txns.Touch info ttl) standbys is same
     granted none may =
     other-allowed setup past volatile_states tick i j by incarnation sequence
     (txns.Touch info ttl) standbys is.flying is.asked tt
-granted-allowed setup past facts volatile_states tick i j by incarnation sequence (txns.SetFailover failover ttl)
-    standbys is same granted none may =
+granted-allowed setup past facts volatile_states tick i j by incarnation sequence (txns.Operators txn) standbys is same
+    granted none may =
     other-allowed setup past volatile_states tick i j by incarnation sequence
-    (txns.SetFailover failover ttl) standbys is.flying is.asked tt
-granted-allowed setup past facts volatile_states tick i j by incarnation sequence (txns.DropFailover revision) standbys
-    is same granted none may =
-    other-allowed setup past volatile_states tick i j by incarnation sequence
-    (txns.DropFailover revision) standbys is.flying is.asked tt
-granted-allowed setup past facts volatile_states tick i j by incarnation sequence (txns.SetConfig revision config)
-    standbys is same granted none may =
-    other-allowed setup past volatile_states tick i j by incarnation sequence
-    (txns.SetConfig revision config) standbys is.flying is.asked tt
+    (txns.Operators txn) standbys is.flying is.asked tt
 
 -- its events are those of the delivery
 granted-whole : (volatile_states : ℕ → VolatileState) (tick : Ticks) (i j : ℕ) (by : Member)
     (incarnation sequence : ℕ) (txn : Txn) (standbys : List Name)
     → book_of (granted_actions volatile_states tick i j by incarnation sequence txn standbys)
     ≡ granted_events tick i j by incarnation sequence txn standbys
-granted-whole volatile_states tick i j by incarnation sequence (txns.Create info ttl failsafe sync) standbys = refl
-granted-whole volatile_states tick i j by incarnation sequence (txns.Renew revision info ttl status row failsafe)
+granted-whole volatile_states tick i j by incarnation sequence (txns.Lease (lease_txns.Create info ttl failsafe sync))
     standbys =
     refl
-granted-whole volatile_states tick i j by incarnation sequence (txns.Claim revision sync) standbys = refl
-granted-whole volatile_states tick i j by incarnation sequence (txns.SetSync revision sync set) standbys = refl
+granted-whole volatile_states tick i j by incarnation sequence
+    (txns.Lease (lease_txns.Renew revision info ttl status row failsafe))
+    standbys =
+    refl
+granted-whole volatile_states tick i j by incarnation sequence (txns.Sync (sync_txns.Claim revision sync)) standbys =
+    refl
+granted-whole volatile_states tick i j by incarnation sequence
+    (txns.Sync (sync_txns.SetSync revision sync set may_lack))
+    standbys =
+    refl
 granted-whole volatile_states tick i j by incarnation sequence _ standbys = refl
 
 pub granted-delivery : (setup : Setup) (past : Past) (facts : Facts) (volatile_states : ℕ → VolatileState)
@@ -279,8 +291,8 @@ unread-shown setup past volatile_states tick i j by incarnation sequence request
 create-unread : (setup : Setup) (past : Past) (volatile_states : ℕ → VolatileState) (tick : Ticks) (i j : ℕ)
     (by : Member) (incarnation sequence : ℕ) (info : MemberInfo) (ttl : Ticks)
     (failsafe sync : Option Expected) (request : TxnKind) (key : Key) (found : Expected)
-    → IsAsked past i by incarnation sequence (txns.Create info ttl failsafe sync)
-    → ComparesNoSync (txns.Create info ttl failsafe sync) → past.flight j ≡ None
+    → IsAsked past i by incarnation sequence (txns.Lease (lease_txns.Create info ttl failsafe sync))
+    → ComparesNoSync (txns.Lease (lease_txns.Create info ttl failsafe sync)) → past.flight j ≡ None
     → RefusedShown setup past volatile_states Note tick i j by incarnation sequence request key found
 create-unread setup past volatile_states tick i j by incarnation sequence info ttl failsafe None request key found is
     none new =
@@ -295,23 +307,27 @@ refused-is : (setup : Setup) (past : Past) (facts : Facts) (volatile_states : �
     → decision_on facts.keys facts.clock txn ≡ Refusing key found → ComparesNoSync txn → past.flight j ≡ None
     → RefusedShown setup past volatile_states
     (refused_action i j txn) tick i j by incarnation sequence request key found
-refused-is setup past facts volatile_states tick i j by incarnation sequence (txns.Claim revision sync) request key
+refused-is setup past facts volatile_states tick i j by incarnation sequence
+    (txns.Sync (sync_txns.Claim revision sync)) request key
     found is same refused none new =
     refused-shown setup past volatile_states tick i j by incarnation sequence request key found
     (claim_request by.id.number incarnation sequence revision sync) is.flying
     (sym (claim-decided past facts by.id.number incarnation sequence revision sync same) ∙ ap is_grant refused) new
-refused-is setup past facts volatile_states tick i j by incarnation sequence (txns.SetSync revision sync set) request
+refused-is setup past facts volatile_states tick i j by incarnation sequence
+    (txns.Sync (sync_txns.SetSync revision sync set may_lack)) request
     key found is same refused none new =
     refused-shown setup past volatile_states tick i j by incarnation sequence request key found
-    (publish_request by.id.number incarnation sequence revision sync set) is.flying
-    (sym (publish-decided past facts by.id.number incarnation sequence revision sync set same) ∙ ap is_grant refused)
+    (publish_request by.id.number incarnation sequence revision sync set may_lack) is.flying
+    (sym (publish-decided past facts by.id.number incarnation sequence revision sync set may_lack same)
+    ∙ ap is_grant refused)
     new
-refused-is setup past facts volatile_states tick i j by incarnation sequence (txns.Create info ttl failsafe sync)
+refused-is setup past facts volatile_states tick i j by incarnation sequence
+    (txns.Lease (lease_txns.Create info ttl failsafe sync))
     request key found is same refused none new =
     create-unread setup past volatile_states tick i j by incarnation sequence info ttl failsafe sync request
     key found is none new
 refused-is setup past facts volatile_states tick i j by incarnation sequence
-    (txns.Renew revision info ttl status row failsafe) request key found is same refused none new =
+    (txns.Lease (lease_txns.Renew revision info ttl status row failsafe)) request key found is same refused none new =
     unread-shown setup past volatile_states tick i j by incarnation sequence request key found
     (is.flying ∙ renew-flying by.id.number incarnation sequence revision info ttl status row failsafe) new
 refused-is setup past facts volatile_states tick i j by incarnation sequence _ request key found is same refused none
@@ -319,8 +335,8 @@ refused-is setup past facts volatile_states tick i j by incarnation sequence _ r
     unread-shown setup past volatile_states tick i j by incarnation sequence request key found is.flying new
 
 refused-may : (s : State) (i j : ℕ) (txn : Txn) → IsAllowed s (refused_action i j txn)
-refused-may s i j (txns.Claim revision sync) = tt
-refused-may s i j (txns.SetSync revision sync set) = tt
+refused-may s i j (txns.Sync (sync_txns.Claim revision sync)) = tt
+refused-may s i j (txns.Sync (sync_txns.SetSync revision sync set may_lack)) = tt
 refused-may s i j _ = tt
 
 pub refused-delivery : (setup : Setup) (past : Past) (facts : Facts) (volatile_states : ℕ → VolatileState)

@@ -12,6 +12,8 @@ use Rattle.store_keys.specs.declared.key.Key.{Key}
 use Rattle.store_keys.specs.declared.txn.Expected.{Expected}
 use Rattle.store_keys.specs.declared.txn.Txn.{Txn}
 use Rattle.store_keys.specs.declared.txn.Txn.TheVariants as txns
+use Rattle.store_keys.specs.declared.txn.LeaseTxn.TheVariants as lease_txns
+use Rattle.store_keys.specs.declared.txn.SyncTxn.TheVariants as sync_txns
 use Rattle.store_keys.specs.declared.txn_kind.TxnKind.{TxnKind}
 use Rattle.store_keys.specs.declared.value.HistoryRow.{HistoryRow}
 use Rattle.store_keys.specs.declared.value.MemberInfo.{MemberInfo}
@@ -79,44 +81,48 @@ causal-front past facts front rest causal =
 -- ---- a delivery to the key store
 -- what a request asks has its name, and is for the lease where the key store says so
 create-leasing : (member incarnation sequence : ℕ) (info : MemberInfo) (ttl : Ticks) (failsafe sync : Option Expected)
-    → is_leasing (query_of member incarnation sequence (txns.Create info ttl failsafe sync)) ≡ true
+    → is_leasing (query_of member incarnation sequence (txns.Lease (lease_txns.Create info ttl failsafe sync))) ≡ true
 create-leasing member incarnation sequence info ttl failsafe None = refl
 create-leasing member incarnation sequence info ttl failsafe (Some sync) = refl
 
 renew-leasing : (member incarnation sequence revision : ℕ) (info : MemberInfo) (ttl : Ticks)
     (status : Option Lsn) (row : Option HistoryRow) (failsafe : Option MemberSet)
-    → is_leasing (query_of member incarnation sequence (txns.Renew revision info ttl status row failsafe)) ≡ true
+    → is_leasing (query_of member incarnation sequence
+    (txns.Lease (lease_txns.Renew revision info ttl status row failsafe)))
+    ≡ true
 renew-leasing member incarnation sequence revision info ttl status row None = refl
 renew-leasing member incarnation sequence revision info ttl status row (Some members) = refl
 
 leasing-is : (member incarnation sequence : ℕ) (txn : Txn)
     → is_leasing (query_of member incarnation sequence txn) ≡ is_lease txn
-leasing-is member incarnation sequence (txns.Create info ttl failsafe sync) =
+leasing-is member incarnation sequence (txns.Lease (lease_txns.Create info ttl failsafe sync)) =
     create-leasing member incarnation sequence info ttl failsafe sync
-leasing-is member incarnation sequence (txns.Renew revision info ttl status row failsafe) =
+leasing-is member incarnation sequence (txns.Lease (lease_txns.Renew revision info ttl status row failsafe)) =
     renew-leasing member incarnation sequence revision info ttl status row failsafe
 leasing-is member incarnation sequence _ = refl
 
 create-named : (member incarnation sequence : ℕ) (info : MemberInfo) (ttl : Ticks) (failsafe sync : Option Expected)
-    → IsNamed member incarnation sequence (query_of member incarnation sequence (txns.Create info ttl failsafe sync))
+    → IsNamed member incarnation sequence
+    (query_of member incarnation sequence (txns.Lease (lease_txns.Create info ttl failsafe sync)))
 create-named member incarnation sequence info ttl failsafe None = tt
 create-named member incarnation sequence info ttl failsafe (Some sync) = (refl, (refl, refl))
 
 renew-named : (member incarnation sequence revision : ℕ) (info : MemberInfo) (ttl : Ticks)
     (status : Option Lsn) (row : Option HistoryRow) (failsafe : Option MemberSet)
     → IsNamed member incarnation sequence
-    (query_of member incarnation sequence (txns.Renew revision info ttl status row failsafe))
+    (query_of member incarnation sequence (txns.Lease (lease_txns.Renew revision info ttl status row failsafe)))
 renew-named member incarnation sequence revision info ttl status row None = tt
 renew-named member incarnation sequence revision info ttl status row (Some members) = refl
 
 named-is : (member incarnation sequence : ℕ) (txn : Txn)
     → IsNamed member incarnation sequence (query_of member incarnation sequence txn)
-named-is member incarnation sequence (txns.Create info ttl failsafe sync) =
+named-is member incarnation sequence (txns.Lease (lease_txns.Create info ttl failsafe sync)) =
     create-named member incarnation sequence info ttl failsafe sync
-named-is member incarnation sequence (txns.Renew revision info ttl status row failsafe) =
+named-is member incarnation sequence (txns.Lease (lease_txns.Renew revision info ttl status row failsafe)) =
     renew-named member incarnation sequence revision info ttl status row failsafe
-named-is member incarnation sequence (txns.Claim revision sync) = (refl, (refl, refl))
-named-is member incarnation sequence (txns.SetSync revision sync standbys) = (refl, (refl, refl))
+named-is member incarnation sequence (txns.Sync (sync_txns.Claim revision sync)) = (refl, (refl, refl))
+named-is member incarnation sequence (txns.Sync (sync_txns.SetSync revision sync standbys may_lack)) =
+    (refl, (refl, refl))
 named-is member incarnation sequence _ = tt
 
 -- what is granted is written
@@ -125,16 +131,16 @@ Granted past i by txn standbys = past_after past (kinds.Store (stores.Granted i 
 
 create-written : (past : Past) (i : ℕ) (by : Member) (incarnation sequence : ℕ) (info : MemberInfo)
     (ttl : Ticks) (failsafe sync : Option Expected) (standbys : List Name)
-    → IsWritten (Granted past i by (txns.Create info ttl failsafe sync) standbys)
-    (query_of by.id.number incarnation sequence (txns.Create info ttl failsafe sync))
+    → IsWritten (Granted past i by (txns.Lease (lease_txns.Create info ttl failsafe sync)) standbys)
+    (query_of by.id.number incarnation sequence (txns.Lease (lease_txns.Create info ttl failsafe sync)))
 create-written past i by incarnation sequence info ttl failsafe None standbys = refl
 create-written past i by incarnation sequence info ttl failsafe (Some sync) standbys = refl
 
 renew-written : (past : Past) (i : ℕ) (by : Member) (incarnation sequence revision : ℕ) (info : MemberInfo)
     (ttl : Ticks) (status : Option Lsn) (row : Option HistoryRow) (failsafe : Option MemberSet)
     (standbys : List Name) (key : LeaderKey) → past.lease.leader ≡ Some key
-    → IsWritten (Granted past i by (txns.Renew revision info ttl status row failsafe) standbys)
-    (query_of by.id.number incarnation sequence (txns.Renew revision info ttl status row failsafe))
+    → IsWritten (Granted past i by (txns.Lease (lease_txns.Renew revision info ttl status row failsafe)) standbys)
+    (query_of by.id.number incarnation sequence (txns.Lease (lease_txns.Renew revision info ttl status row failsafe)))
 renew-written past i by incarnation sequence revision info ttl status row None standbys key is =
     ap (λ (l : Option LeaderKey). leader_revision (extended_by past.lease.clock (past.lease.revision + 1) ttl.0 l)) is
 renew-written past i by incarnation sequence revision info ttl status row (Some members) standbys key is =
@@ -143,14 +149,19 @@ renew-written past i by incarnation sequence revision info ttl status row (Some 
 written-is : (past : Past) (facts : Facts) (i : ℕ) (by : Member) (incarnation sequence : ℕ) (txn : Txn)
     (standbys : List Name) → IsSameKeys past facts → decision_on facts.keys facts.clock txn ≡ Granting
     → IsWritten (Granted past i by txn standbys) (query_of by.id.number incarnation sequence txn)
-written-is past facts i by incarnation sequence (txns.Create info ttl failsafe sync) standbys same granted =
+written-is past facts i by incarnation sequence (txns.Lease (lease_txns.Create info ttl failsafe sync)) standbys same
+    granted =
     create-written past i by incarnation sequence info ttl failsafe sync standbys
-written-is past facts i by incarnation sequence (txns.Renew revision info ttl status row failsafe) standbys same
+written-is past facts i by incarnation sequence
+    (txns.Lease (lease_txns.Renew revision info ttl status row failsafe)) standbys same
     granted =
     let key = granted-leader past facts revision same granted in
     renew-written past i by incarnation sequence revision info ttl status row failsafe standbys key.0 key.1
-written-is past facts i by incarnation sequence (txns.Claim revision sync) standbys same granted = refl
-written-is past facts i by incarnation sequence (txns.SetSync revision sync members) standbys same granted = refl
+written-is past facts i by incarnation sequence (txns.Sync (sync_txns.Claim revision sync)) standbys same granted = refl
+written-is past facts i by incarnation sequence
+    (txns.Sync (sync_txns.SetSync revision sync members may_lack)) standbys same
+    granted =
+    refl
 written-is past facts i by incarnation sequence _ standbys same granted = tt
 
 pub granted-causal : (past : Past) (facts : Facts) (tick : Ticks) (i j : ℕ) (carried : InFlightFacts)

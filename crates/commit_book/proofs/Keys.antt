@@ -12,6 +12,7 @@ use Rattle.store_keys.specs.Settings.{Settings}
 use Rattle.store_keys.specs.declared.key.Key.TheVariants as keys
 use Rattle.store_keys.specs.declared.txn.Txn.{Txn}
 use Rattle.store_keys.specs.declared.txn.Txn.TheVariants as txns
+use Rattle.store_keys.specs.declared.txn.SyncTxn.TheVariants as sync_txns
 use Rattle.store_keys.specs.declared.value.KeyEntry.{KeyEntry}
 use Rattle.lease_store.specs.KeyOrder.{key_cmp}
 use Rattle.lease_store.specs.Writes.{nobody}
@@ -45,18 +46,18 @@ pub granted-sync : (revision : ℕ) (by : MemberId) (txn : Txn) (found : Option 
     → sync_after_grant by.number revision (sync_key_of found) txn
     ≡ sync_key_of (one_key.sync_after revision by txn found)
 unfolding quorum_of quorum_written
-granted-sync revision by (txns.Claim compared sync) found = ap
+granted-sync revision by (txns.Sync (sync_txns.Claim compared sync)) found = ap
     (λ (s : ℕ → Bool). Some (record { leader = by.number; standbys = s; quorum = strict_quorum; revision = revision }))
     nobody-is
-granted-sync revision by (txns.SetSync compared sync standbys) found = refl
-granted-sync revision by (txns.DropSync compared sync) found = refl
+granted-sync revision by (txns.Sync (sync_txns.SetSync compared sync standbys may_lack)) found = refl
+granted-sync revision by (txns.Sync (sync_txns.DropSync compared sync)) found = refl
 granted-sync revision by _ found = refl
 
 pub granted-endless : (revision : ℕ) (by : MemberId) (txn : Txn) (found : Option KeyEntry) → IsEndless found
     → IsEndless (one_key.sync_after revision by txn found)
-granted-endless revision by (txns.Claim compared sync) found e = refl
-granted-endless revision by (txns.SetSync compared sync standbys) found e = refl
-granted-endless revision by (txns.DropSync compared sync) found e = tt
+granted-endless revision by (txns.Sync (sync_txns.Claim compared sync)) found e = refl
+granted-endless revision by (txns.Sync (sync_txns.SetSync compared sync standbys may_lack)) found e = refl
+granted-endless revision by (txns.Sync (sync_txns.DropSync compared sync)) found e = tt
 granted-endless revision by _ found e = e
 
 keys-granted : (past : Past) (facts : Facts) (number : ℕ) (by : Member) (txn : Txn) (standbys : List Name) → let kind =

@@ -5,6 +5,8 @@ use Rattle.pat_base.specs.declared.name.Name.{Name}
 use Rattle.pat_base.specs.declared.ticks.Ticks.{Ticks}
 use Rattle.store_keys.specs.declared.txn.Txn.{Txn}
 use Rattle.store_keys.specs.declared.txn.Txn.TheVariants as txns
+use Rattle.store_keys.specs.declared.txn.LeaseTxn.TheVariants as lease_txns
+use Rattle.store_keys.specs.declared.txn.SyncTxn.TheVariants as sync_txns
 use Rattle.lease_store.specs.Writes.{is_lease}
 use Rattle.event_book.specs.declared.event.Event.{Event}
 use Rattle.event_book.specs.declared.event.EventKind.TheVariants as kinds
@@ -39,21 +41,25 @@ told_events tick number answer by incarnation sequence txn =
 
 -- what the grant of a request is, with the answer under this number where it tells more than the keys
 abbrev pub granted_action : ℕ → ℕ → ℕ → ℕ → ℕ → Txn → Action
-granted_action number answer member incarnation sequence (txns.Create info ttl failsafe sync) =
+granted_action number answer member incarnation sequence (txns.Lease (lease_txns.Create info ttl failsafe sync)) =
     Create member incarnation sequence answer
-granted_action number answer member incarnation sequence (txns.Renew revision info ttl status row failsafe) =
+granted_action number answer member incarnation sequence
+    (txns.Lease (lease_txns.Renew revision info ttl status row failsafe)) =
     Renew member incarnation sequence answer (carries_set failsafe)
-granted_action number answer member incarnation sequence (txns.Claim revision sync) = Decide number answer
-granted_action number answer member incarnation sequence (txns.SetSync revision sync standbys) = Decide number answer
-granted_action number answer member incarnation sequence (txns.Release revision) = Release
+granted_action number answer member incarnation sequence (txns.Sync (sync_txns.Claim revision sync)) =
+    Decide number answer
+granted_action number answer member incarnation sequence
+    (txns.Sync (sync_txns.SetSync revision sync standbys may_lack)) =
+    Decide number answer
+granted_action number answer member incarnation sequence (txns.Lease (lease_txns.Release revision)) = Release
 granted_action number answer member incarnation sequence _ = OtherWrite
 
 -- its answer tells more than the keys: the lease, or the sync key that it wrote
 abbrev pub is_told : Txn → Bool
-is_told (txns.Create info ttl failsafe sync) = true
-is_told (txns.Renew revision info ttl status row failsafe) = true
-is_told (txns.Claim revision sync) = true
-is_told (txns.SetSync revision sync standbys) = true
+is_told (txns.Lease (lease_txns.Create info ttl failsafe sync)) = true
+is_told (txns.Lease (lease_txns.Renew revision info ttl status row failsafe)) = true
+is_told (txns.Sync (sync_txns.Claim revision sync)) = true
+is_told (txns.Sync (sync_txns.SetSync revision sync standbys may_lack)) = true
 is_told _ = false
 
 -- a request is granted and answered in one action; or in two, where the answer shows the keys alone
@@ -75,24 +81,24 @@ granted_actions volatile_states tick number answer by incarnation sequence txn s
 
 -- what a refusal is: a decision on a request that compares the sync key; of another one commits read nothing
 abbrev pub refused_action : ℕ → ℕ → Txn → Action
-refused_action number answer (txns.Claim revision sync) = Decide number answer
-refused_action number answer (txns.SetSync revision sync standbys) = Decide number answer
+refused_action number answer (txns.Sync (sync_txns.Claim revision sync)) = Decide number answer
+refused_action number answer (txns.Sync (sync_txns.SetSync revision sync standbys may_lack)) = Decide number answer
 refused_action number answer txn = Note
 
 -- a create compares no sync key
 abbrev pub ComparesNoSync : Txn → Type 0
-ComparesNoSync (txns.Create info ttl failsafe (Some sync)) = ⊥
+ComparesNoSync (txns.Lease (lease_txns.Create info ttl failsafe (Some sync))) = ⊥
 ComparesNoSync _ = Unit {0}
 
 -- what is asked of a request beside that it is granted: a create or a renewal is of an incarnation and
 -- a number that its sender's agents gave; a create compares no sync key, and nobody removes that key
 abbrev pub MayBeGranted : State → ℕ → ℕ → ℕ → Txn → Type 0
-MayBeGranted s member incarnation sequence (txns.Create info ttl failsafe None) =
+MayBeGranted s member incarnation sequence (txns.Lease (lease_txns.Create info ttl failsafe None)) =
     IsNumbered (s.members member) incarnation sequence
-MayBeGranted s member incarnation sequence (txns.Create info ttl failsafe (Some sync)) = ⊥
-MayBeGranted s member incarnation sequence (txns.Renew revision info ttl status row failsafe) =
+MayBeGranted s member incarnation sequence (txns.Lease (lease_txns.Create info ttl failsafe (Some sync))) = ⊥
+MayBeGranted s member incarnation sequence (txns.Lease (lease_txns.Renew revision info ttl status row failsafe)) =
     IsNumbered (s.members member) incarnation sequence
-MayBeGranted s member incarnation sequence (txns.DropSync revision sync) = ⊥
+MayBeGranted s member incarnation sequence (txns.Sync (sync_txns.DropSync revision sync)) = ⊥
 MayBeGranted s member incarnation sequence _ = Unit {0}
 
 -- these events are those of these actions, which are allowed one after the

@@ -3,6 +3,7 @@ use Rattle.std.specs.Prelude.{false, List, [], ◌∷◌, ◌++◌}
 use Rattle.store_keys.specs.declared.txn.Expected.TheVariants.{Absent}
 use Rattle.store_keys.specs.declared.txn.Txn.{Txn}
 use Rattle.store_keys.specs.declared.txn.Txn.TheVariants as txns
+use Rattle.store_keys.specs.declared.txn.SyncTxn.TheVariants as sync_txns
 use Rattle.store_keys.specs.declared.value.MemberInfo.{MemberInfo}
 use Rattle.event_book.specs.declared.event.Event.{Event}
 use Rattle.event_book.specs.declared.event.EventKind.TheVariants as kinds
@@ -17,7 +18,7 @@ use Rattle.commit_actions.specs.Flights.{SyncGrant}
 
 -- a claim of who holds the leader key of revision 2, where there is no sync key
 abbrev pub claim_of : Txn
-claim_of = txns.Claim 2 Absent
+claim_of = txns.Sync (sync_txns.Claim 2 Absent)
 
 -- this member claims the sync key, and the key store grants it
 abbrev pub claimed : Member → List Event

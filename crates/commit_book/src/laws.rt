@@ -13,7 +13,8 @@ ghost use Rattle.store_keys.specs.declared.key.Key.{Key};
 ghost use Rattle.store_keys.specs.declared.key.Key.TheVariants.{Leader, Failsafe};
 ghost use Rattle.store_keys.specs.declared.txn.Expected.{Expected};
 ghost use Rattle.store_keys.specs.declared.txn.Txn.{Txn};
-ghost use Rattle.store_keys.specs.declared.txn.Txn.TheVariants.{Claim, SetSync};
+ghost use Rattle.store_keys.specs.declared.txn.SyncTxn.TheVariants.{Claim, SetSync};
+ghost use Rattle.store_keys.specs.declared.txn.Txn.TheVariants.{Sync};
 ghost use Rattle.store_keys.specs.declared.txn_kind.TxnKind.{TxnKind};
 ghost use Rattle.store_keys.specs.declared.value.MemberInfo.{MemberInfo};
 ghost use Rattle.event_book.specs.declared.event.Event.{Event};
@@ -71,9 +72,9 @@ pub fn same_book()
 /// The key store's decision on a claim, or on a write of the sync key, is the law's: it grants what the law grants, and nothing else.
 pub fn decisions()
     ensures claim { (past : Past) (facts : Facts) (m incarnation sequence revision : ℕ) (sync : Expected) → IsSameKeys past facts
-        → is_grant (decision_on facts.keys facts.clock (Claim revision sync)) ≡ is_granted (leader_revision past.lease.leader) past.sync (claim_request m incarnation sequence revision sync) }
-    ensures publish { (past : Past) (facts : Facts) (m incarnation sequence revision : ℕ) (sync : Expected) (standbys : MemberSet) → IsSameKeys past facts
-        → is_grant (decision_on facts.keys facts.clock (SetSync revision sync standbys)) ≡ is_granted (leader_revision past.lease.leader) past.sync (publish_request m incarnation sequence revision sync standbys) }
+        → is_grant (decision_on facts.keys facts.clock (Sync (Claim revision sync))) ≡ is_granted (leader_revision past.lease.leader) past.sync (claim_request m incarnation sequence revision sync) }
+    ensures publish { (past : Past) (facts : Facts) (m incarnation sequence revision : ℕ) (sync : Expected) (standbys : MemberSet) (may_lack : Option ℕ) → IsSameKeys past facts
+        → is_grant (decision_on facts.keys facts.clock (Sync (SetSync revision sync standbys may_lack))) ≡ is_granted (leader_revision past.lease.leader) past.sync (publish_request m incarnation sequence revision sync standbys may_lack) }
 {}
 
 /// A delivery to the key store of a message that the book has in flight is an action, which is allowed and shown by its events, or such an

@@ -6,6 +6,7 @@ use Rattle.pat_base.specs.declared.ticks.Ticks.{Ticks}
 use Rattle.pat_base.specs.Changes.{with_changed}
 use Rattle.store_keys.specs.declared.txn.Txn.{Txn}
 use Rattle.store_keys.specs.declared.txn.Txn.TheVariants as txns
+use Rattle.store_keys.specs.declared.txn.SyncTxn.TheVariants as sync_txns
 use Rattle.event_book.specs.declared.event.AgentEvent.TheVariants as agents
 use Rattle.event_book.specs.declared.event.Event.{Event}
 use Rattle.event_book.specs.declared.event.EventKind.{EventKind}
@@ -28,6 +29,7 @@ use Rattle.agent_model.specs.declared.knowledge.PendingQuestion.{PendingQuestion
 use Rattle.agent_model.specs.declared.machine.Machine.{Machine}
 use Rattle.agent_model.specs.declared.output.Output.{Output}
 use Rattle.agent_model.specs.declared.output.Output.TheVariants as outputs
+use Rattle.agent_model.specs.declared.output.Outgoing.TheVariants as outgoing
 use Rattle.agent_model.specs.declared.output.Target.TheVariants as targets
 use Rattle.agent_model.specs.Agents.{AgentFacts, Outcome, outcome_from}
 use Rattle.agent_commit_law.specs.Committing.{AsksInSynchronousMode, FollowsSynchronousMode}
@@ -87,19 +89,22 @@ IsPut member incarnation sequence question body = (request : SyncRequest)
 put-by : (member : Member) (incarnation sequence : ℕ) (on : Bool) (question : Question) (txn : Txn)
     → IsPutBy question txn → FollowsSynchronousMode on question
     → IsPut member incarnation sequence question (bodies.Request txn)
-put-by member incarnation sequence on Claiming (txns.Claim revision sync) puts follows = (
+put-by member incarnation sequence on Claiming (txns.Sync (sync_txns.Claim revision sync)) puts follows = (
   claim_request member.id.number incarnation sequence revision sync,
   refl,
   record { writes = refl; standbys = λ r n. refl },
 )
-put-by member incarnation sequence on (Syncing KeepsList) (txns.SetSync revision sync standbys) puts follows = (
-  publish_request member.id.number incarnation sequence revision sync standbys,
-  refl,
-  record { writes = refl; standbys = λ r. tt },
-)
-put-by member incarnation sequence on (Syncing (NamesStandbys set)) (txns.SetSync revision sync standbys) puts
+put-by member incarnation sequence on (Syncing KeepsList)
+    (txns.Sync (sync_txns.SetSync revision sync standbys may_lack)) puts
     follows = (
-      publish_request member.id.number incarnation sequence revision sync standbys,
+      publish_request member.id.number incarnation sequence revision sync standbys may_lack,
+      refl,
+      record { writes = refl; standbys = λ r. tt },
+    )
+put-by member incarnation sequence on (Syncing (NamesStandbys set))
+    (txns.Sync (sync_txns.SetSync revision sync standbys may_lack)) puts
+    follows = (
+      publish_request member.id.number incarnation sequence revision sync standbys may_lack,
       refl,
       record { writes = refl; standbys = λ r n. ap (λ (names : MemberSet). set_members names n) puts },
     )
@@ -145,7 +150,7 @@ module _ (member : Member) (clock : ℕ) (now : Ticks) (agent : AgentFacts) (out
     | inl was ↦ absurd (omega (arith, sound.last i q was.0 by (incarnation ∙ anew.incarnation), sequence, above))
     | inr new ↦
         let says = All-contains (AsksFor waited) outcome.outputs
-        (outputs.Send targets.Store new.new.sequence new.new.body) asks new.new.among
+        (outputs.Message (outgoing.Send targets.Store new.new.sequence new.new.body)) asks new.new.among
         (sym (ap (λ (x : Asked). x.sequence) new.new.is) ∙ sequence) in
         let put = put-body member agent.knows.incarnation new.new.sequence outcome.knows.turn_settings.synchronous_mode
         waited.question new.new.body (says.write writes) (on waited is) in
@@ -222,8 +227,8 @@ unasked-peer named by m incarnation sequence (bodies.FailsafeAnswer false) q e =
 unasked-peer named by m incarnation sequence _ q e = none-requested q e
 
 module _ (member : Member) (incarnation heard : ℕ) (outs : List Output) (Q : Output → Type 0)
-    (within : (sequence : ℕ) (body : Body) → Q (outputs.Send targets.Store sequence body) →
-    Contains outs (outputs.Send targets.Store sequence body)) where
+    (within : (sequence : ℕ) (body : Body) → Q (outputs.Message (outgoing.Send targets.Store sequence body)) →
+    Contains outs (outputs.Message (outgoing.Send targets.Store sequence body))) where
   abbrev Mine : EventKind → Type 0
   Mine kind = IsOfInput member incarnation heard Q kind
 
@@ -231,7 +236,7 @@ module _ (member : Member) (incarnation heard : ℕ) (outs : List Output) (Q : O
   AreLow named last = (i : ℕ) (q : Asked) → named i ≡ Some q → i ≤ last
 
   question-new : (named : lease_past.Past) (sequence : ℕ) (body : Body) (q : Asked) (query : Query)
-      → Contains outs (outputs.Send targets.Store sequence body)
+      → Contains outs (outputs.Message (outgoing.Send targets.Store sequence body))
       → query ≡ query_sent (ends.Member member) incarnation sequence body
       → lease_past.question_in_flight_of named member.id.number incarnation sequence body ≡ Some (Requested q)
       → IsNewlyAsked member incarnation named.clock outs q query

@@ -8,6 +8,8 @@ use Rattle.script_model.specs.Script.{HeadText}
 use Rattle.agent_model.specs.declared.machine.Machine.{Machine}
 use Rattle.agent_model.specs.declared.output.Output.{Output}
 use Rattle.agent_model.specs.declared.output.Output.TheVariants as outputs
+use Rattle.agent_model.specs.declared.output.Outgoing.TheVariants as outgoing
+use Rattle.agent_model.specs.declared.output.ServerOrder.TheVariants as orders
 use Rattle.agent_commit_law.specs.Committing.{GrowsByConnected, IsCovered, IsLawfulAs, IsSent, StandsAlone, is_carrying, requests_of}
 use Rattle.agent_model.specs.Outputs.{has_one}
 use Rattle.agent_outputs.specs.Orders.{IsOfTable, machine_after_outputs}
@@ -77,8 +79,9 @@ all-back P xs ys outs is all = by xs (subst (λ (l : List Output). All P l) (sym
 
 -- ---- no request that the law knows
 pub carried-unasking : (output : Output) → IsCarried output → IsUnasking false output
-carried-unasking (outputs.Send to sequence body) is = alone-unasking (outputs.Send to sequence body) is
-carried-unasking outputs.Begin is = absurd is
+carried-unasking (outputs.Message (outgoing.Send to sequence body)) is =
+    alone-unasking (outputs.Message (outgoing.Send to sequence body)) is
+carried-unasking (outputs.Server orders.Begin) is = absurd is
 carried-unasking _ is = tt
 
 pub sent-none : (m incarnation : ℕ) (outs : List Output) → All (IsUnasking false) outs

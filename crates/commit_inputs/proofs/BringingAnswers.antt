@@ -13,6 +13,7 @@ use Rattle.script_model.specs.Script.{HeadText}
 use Rattle.agent_model.specs.declared.heard.Heard.TheVariants.{Asked}
 use Rattle.agent_model.specs.declared.output.Output.{Output}
 use Rattle.agent_model.specs.declared.output.Output.TheVariants as outputs
+use Rattle.agent_model.specs.declared.output.Outgoing.TheVariants as outgoing
 use Rattle.agent_model.specs.Agents.{Outcome}
 use Rattle.agent_model.specs.Answers.{peer_answer_of}
 use Rattle.agent_model.specs.Reconciling.{reconciled}
@@ -89,7 +90,7 @@ module _ (head : HeadText) (book : List Event) (cluster : Cluster) (good : Commi
   Reply = peer_answer_of Stood.knows.who Stood.machine.server
 
   abbrev Answer : Output
-  Answer = outputs.Answer from incarnation sequence Reply
+  Answer = outputs.Message (outgoing.Answer from incarnation sequence Reply)
 
   abbrev whole : Stood.outputs ++ Answer ∷ [] ≡ Outs
   whole = ap

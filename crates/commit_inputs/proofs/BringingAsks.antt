@@ -11,6 +11,8 @@ use Rattle.store_keys.specs.declared.txn.Expected.{Expected}
 use Rattle.store_keys.specs.declared.txn.Txn.{Txn}
 use Rattle.pat_base.specs.declared.server_state.Required.{Required}
 use Rattle.store_keys.specs.declared.txn.Txn.TheVariants as txns
+use Rattle.store_keys.specs.declared.txn.LeaseTxn.TheVariants as lease_txns
+use Rattle.store_keys.specs.declared.txn.SyncTxn.TheVariants as sync_txns
 use Rattle.store_keys.specs.declared.value.HistoryRow.{HistoryRow}
 use Rattle.store_keys.specs.declared.value.MemberInfo.{MemberInfo}
 use Rattle.event_book.specs.declared.agent_process.AgentProcess.{AgentProcess}
@@ -27,6 +29,7 @@ use Rattle.event_book.specs.Functions.{put_at, set_members}
 use Rattle.script_model.specs.Script.{HeadText}
 use Rattle.agent_model.specs.declared.output.Output.{Output}
 use Rattle.agent_model.specs.declared.output.Output.TheVariants as outputs
+use Rattle.agent_model.specs.declared.output.Outgoing.TheVariants as outgoing
 use Rattle.agent_model.specs.declared.output.Target.TheVariants as targets
 use Rattle.agent_commit_law.specs.Committing.{IsSent, IsSynchronousBody, IsSynchronousOutput, IsSynchronousTxn, KnowsBelow, is_carrying, is_claim_outside_sync, request_in, request_of_body, requests_of}
 use Rattle.agent_model.specs.Agents.{AgentFacts}
@@ -95,18 +98,20 @@ body-flying member incarnation sequence _ = refl
 
 -- whether it asks that the renewal carry a set for the failsafe key
 abbrev carries_in : Body → Bool
-carries_in body = is_carrying (outputs.Send targets.Store 0 body)
+carries_in body = is_carrying (outputs.Message (outgoing.Send targets.Store 0 body))
 
 live-renew : (was : Bool) (leader : Option LeaderKey) (m revision : ℕ) (info : MemberInfo) (ttl : Ticks)
     (status : Option Lsn) (row : Option HistoryRow) (failsafe : Option MemberSet)
-    → was_live_by_txn was leader m (txns.Renew revision info ttl status row failsafe)
-    ≡ (was || (carries_in (bodies.Request (txns.Renew revision info ttl status row failsafe)) && is_holder leader m))
+    → was_live_by_txn was leader m (txns.Lease (lease_txns.Renew revision info ttl status row failsafe))
+    ≡ (was
+    || (carries_in (bodies.Request (txns.Lease (lease_txns.Renew revision info ttl status row failsafe)))
+    && is_holder leader m))
 live-renew was leader m revision info ttl status row None = sym (or-false was)
 live-renew was leader m revision info ttl status row (Some members) = refl
 
 live-txn : (was : Bool) (leader : Option LeaderKey) (m : ℕ) (txn : Txn)
     → was_live_by_txn was leader m txn ≡ (was || (carries_in (bodies.Request txn) && is_holder leader m))
-live-txn was leader m (txns.Renew revision info ttl status row failsafe) =
+live-txn was leader m (txns.Lease (lease_txns.Renew revision info ttl status row failsafe)) =
     live-renew was leader m revision info ttl status row failsafe
 live-txn was leader m _ = sym (or-false was)
 
@@ -117,12 +122,15 @@ live-body was leader by _ = sym (or-false was)
 
 -- under whatever number, behind outputs that ask for none
 carries-last : (front : List Output) (sequence : ℕ) (body : Body) → All (IsUnasking false) front
-    → has_one is_carrying (front ++ outputs.Send targets.Store sequence body ∷ []) ≡ carries_in body
-carries-last [] sequence (bodies.Request (txns.Renew revision info ttl status row None)) all = refl
-carries-last [] sequence (bodies.Request (txns.Renew revision info ttl status row (Some members))) all = refl
+    → has_one is_carrying (front ++ outputs.Message (outgoing.Send targets.Store sequence body) ∷ []) ≡ carries_in body
+carries-last [] sequence (bodies.Request (txns.Lease (lease_txns.Renew revision info ttl status row None))) all = refl
+carries-last [] sequence (bodies.Request (txns.Lease (lease_txns.Renew revision info ttl status row (Some members))))
+    all =
+    refl
 carries-last [] sequence _ all = refl
 carries-last (output ∷ front) sequence body all =
-    ap (λ (b : Bool). b || has_one is_carrying (front ++ outputs.Send targets.Store sequence body ∷ []))
+    ap (λ (b : Bool).
+    b || has_one is_carrying (front ++ outputs.Message (outgoing.Send targets.Store sequence body) ∷ []))
     (uncarried output (All-head (IsUnasking false) output front all))
     ∙ carries-last front sequence body (All-tail (IsUnasking false) output front all)
 
@@ -166,7 +174,8 @@ lost-leave cluster false number = tt
 module _ (head : HeadText) (book : List Event) (cluster : Cluster) (good : CommitsBridged head book cluster)
     (few : member_count head ≤ MOST_MEMBERS) (a : Acting head book cluster)
     (front : List Output) (sequence : ℕ) (body : Body) (all : All IsCarried front)
-    (whole : front ++ outputs.Send targets.Store sequence body ∷ [] ≡ (After head book cluster good a).outputs) where
+    (whole : front ++ outputs.Message (outgoing.Send targets.Store sequence body) ∷ []
+    ≡ (After head book cluster good a).outputs) where
   abbrev M : ℕ
   M = a.member.id.number
 
@@ -180,7 +189,7 @@ module _ (head : HeadText) (book : List Event) (cluster : Cluster) (good : Commi
   Outs = (After head book cluster good a).outputs
 
   abbrev Question : Output
-  Question = outputs.Send targets.Store sequence body
+  Question = outputs.Message (outgoing.Send targets.Store sequence body)
 
   abbrev of_table : All IsOfTable front
   of_table = all-front IsOfTable front (Question ∷ []) Outs whole (table head book cluster good a)
@@ -345,14 +354,16 @@ module _ (head : HeadText) (book : List Event) (cluster : Cluster) (good : Commi
   seen-same = all-aside P Upto (front-aside head book cluster good a front all of_table)
 
   publishes-as : has_one is_claim_outside_sync Outs ≡ false → (revision : ℕ) (sync : Expected) (standbys : MemberSet)
-      → bodies.Request (txns.SetSync revision sync standbys) ≡ body
+      (may_lack : Option ℕ) → bodies.Request (txns.Sync (sync_txns.SetSync revision sync standbys may_lack)) ≡ body
       → PublishesAwaited P M (noted_position (After head book cluster good a).knows.noted)
-      (publish_request M a.agent.knows.incarnation sequence revision sync standbys) (set_members standbys)
-  publishes-as inside revision sync standbys is =
-      let written : ℕ = quorum_written (txns.SetSync revision sync standbys) in
+      (publish_request M a.agent.knows.incarnation sequence revision sync standbys may_lack) (set_members standbys)
+  publishes-as inside revision sync standbys may_lack is =
+      let written : ℕ = quorum_written (txns.Sync (sync_txns.SetSync revision sync standbys may_lack)) in
       let noted : ℕ = noted_position (After head book cluster good a).knows.noted in
-      let request : SyncRequest = publish_request M a.agent.knows.incarnation sequence revision sync standbys in
-      let on : IsSynchronousTxn (member_count head) strict_quorum (txns.SetSync revision sync standbys) =
+      let request : SyncRequest =
+      publish_request M a.agent.knows.incarnation sequence revision sync standbys may_lack in
+      let on : IsSynchronousTxn (member_count head) strict_quorum
+      (txns.Sync (sync_txns.SetSync revision sync standbys may_lack)) =
       subst (λ (b : Body). IsSynchronousBody (member_count head) strict_quorum b) (sym is) synchronous in
       strict-publication (member_count head) P M noted request (set_members standbys)
       (subst (λ (quorum : ℕ). MayBePublished (member_count head) P M noted request (set_members standbys) quorum)
@@ -365,8 +376,8 @@ module _ (head : HeadText) (book : List Event) (cluster : Cluster) (good : Commi
 
   asked-ordered : has_one is_claim_outside_sync Outs ≡ false → (b : Body) → b ≡ body
       → AsksInOrder (past_over P Upto) Reached (ends.Member a.member) a.agent.knows.incarnation sequence b
-  asked-ordered inside (bodies.Request (txns.SetSync revision sync standbys)) is =
-      let at-first = publishes-as inside revision sync standbys is in
+  asked-ordered inside (bodies.Request (txns.Sync (sync_txns.SetSync revision sync standbys may_lack))) is =
+      let at-first = publishes-as inside revision sync standbys may_lack is in
       record {
         key = at-first.key;
         is = ap (λ (seen : Seen). seen.sync) seen-same ∙ at-first.is;

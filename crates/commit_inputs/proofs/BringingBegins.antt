@@ -13,6 +13,11 @@ use Rattle.script_model.specs.Script.{HeadText}
 use Rattle.agent_model.specs.declared.machine.Machine.{Machine}
 use Rattle.agent_model.specs.declared.output.Output.{Output}
 use Rattle.agent_model.specs.declared.output.Output.TheVariants as outputs
+use Rattle.agent_model.specs.declared.output.Feeding.TheVariants as feedings
+use Rattle.agent_model.specs.declared.output.Noting.TheVariants as notings
+use Rattle.agent_model.specs.declared.output.Outgoing.TheVariants as outgoing
+use Rattle.agent_model.specs.declared.output.ServerOrder.TheVariants as orders
+use Rattle.agent_model.specs.declared.output.Telling.TheVariants as tellings
 use Rattle.agent_model.specs.Acting.{status_begun}
 use Rattle.pg_model.specs.Status.{status_primary_started, status_started, status_starting}
 use Rattle.agent_model.specs.Claiming.{can_begin_on_claim}
@@ -49,16 +54,17 @@ use Rattle.pat_base.specs.declared.member_id.TheConstants.{MOST_MEMBERS}
 -- ---- the server of the machine, by the outputs
 kept-by : (now : Ticks) (machine : Machine) (output : Output) → IsCovered output
     → (machine_after_output now machine output).server ≡ machine.server
-kept-by now machine (outputs.Send to sequence body) covered = refl
-kept-by now machine (outputs.Armed until) covered = refl
-kept-by now machine (outputs.Fed until) covered = refl
-kept-by now machine outputs.Disarmed covered = refl
-kept-by now machine (outputs.Note note) covered = refl
-kept-by now machine (outputs.Told request told) covered = refl
+kept-by now machine (outputs.Message (outgoing.Send to sequence body)) covered = refl
+kept-by now machine (outputs.Watchdog (feedings.Armed until)) covered = refl
+kept-by now machine (outputs.Watchdog (feedings.Fed until)) covered = refl
+kept-by now machine (outputs.Watchdog feedings.Disarmed) covered = refl
+kept-by now machine (outputs.Note (notings.Agent note)) covered = refl
+kept-by now machine (outputs.Tell (tellings.Told request told)) covered = refl
 kept-by now machine _ covered = absurd covered
 
 begun-by : (now : Ticks) (machine : Machine) (front : List Output) (required : Required) → All IsCovered front
-    → (machine_after_outputs now machine (front ++ outputs.Require required ∷ outputs.Begin ∷ [])).server
+    → (machine_after_outputs now machine
+    (front ++ outputs.Require required ∷ (outputs.Server orders.Begin) ∷ [])).server
     ≡ status_begun now machine.server
 begun-by now machine [] required covered = refl
 begun-by now machine (output ∷ front) required covered =
@@ -111,7 +117,7 @@ live-same None = refl
 live-same (Some s) = refl
 
 one-begins : (front : List Output) (required : Required)
-    → has_one is_begin (front ++ outputs.Require required ∷ outputs.Begin ∷ []) ≡ true
+    → has_one is_begin (front ++ outputs.Require required ∷ (outputs.Server orders.Begin) ∷ []) ≡ true
 one-begins [] required = refl
 one-begins (output ∷ front) required =
     ap (λ (b : Bool). is_begin output || b) (one-begins front required) ∙ or-true (is_begin output)
@@ -123,7 +129,8 @@ one-begins (output ∷ front) required =
 module _ (head : HeadText) (book : List Event) (cluster : Cluster) (good : CommitsBridged head book cluster)
     (few : member_count head ≤ MOST_MEMBERS) (a : Acting head book cluster)
     (front : List Output) (required : Required) (covered : All IsCovered front)
-    (whole : front ++ outputs.Require required ∷ outputs.Begin ∷ [] ≡ (After head book cluster good a).outputs) where
+    (whole : front ++ outputs.Require required ∷ (outputs.Server orders.Begin) ∷ []
+    ≡ (After head book cluster good a).outputs) where
   abbrev M : ℕ
   M = a.member.id.number
 
@@ -140,24 +147,24 @@ module _ (head : HeadText) (book : List Event) (cluster : Cluster) (good : Commi
   unasking-front = All-push (IsUnasking false) front (outputs.Require required)
       (unasking false front (covered-quiet false front covered)) tt
 
-  passes-none : All PassesNone (front ++ outputs.Require required ∷ outputs.Begin ∷ [])
-  passes-none = All-append PassesNone front (outputs.Require required ∷ outputs.Begin ∷ [])
+  passes-none : All PassesNone (front ++ outputs.Require required ∷ (outputs.Server orders.Begin) ∷ [])
+  passes-none = All-append PassesNone front (outputs.Require required ∷ (outputs.Server orders.Begin) ∷ [])
       (All-weaker IsCovered PassesNone covered-passes front covered)
-      (All-cons PassesNone (outputs.Require required) (outputs.Begin ∷ []) tt
-      (All-cons PassesNone outputs.Begin [] tt (All-nil PassesNone)))
+      (All-cons PassesNone (outputs.Require required) ((outputs.Server orders.Begin) ∷ []) tt
+      (All-cons PassesNone (outputs.Server orders.Begin) [] tt (All-nil PassesNone)))
 
   sends-none : IsSent (requests_of M a.agent.knows.incarnation Outs) None
   sends-none = subst (λ (l : List Output). IsSent (requests_of M a.agent.knows.incarnation l) None)
-      (append_assoc front (outputs.Require required ∷ []) (outputs.Begin ∷ []) ∙ whole)
+      (append_assoc front (outputs.Require required ∷ []) ((outputs.Server orders.Begin) ∷ []) ∙ whole)
       (subst (λ (l : List _). IsSent l None)
       (sym (asks-last false M a.agent.knows.incarnation
-      (front ++ outputs.Require required ∷ []) outputs.Begin unasking-front))
+      (front ++ outputs.Require required ∷ []) (outputs.Server orders.Begin) unasking-front))
       refl)
 
   uncarried : has_one is_carrying Outs ≡ false
   uncarried = subst (λ (l : List Output). has_one is_carrying l ≡ false)
-      (append_assoc front (outputs.Require required ∷ []) (outputs.Begin ∷ []) ∙ whole)
-      (carried-last (front ++ outputs.Require required ∷ []) outputs.Begin unasking-front refl)
+      (append_assoc front (outputs.Require required ∷ []) ((outputs.Server orders.Begin) ∷ []) ∙ whole)
+      (carried-last (front ++ outputs.Require required ∷ []) (outputs.Server orders.Begin) unasking-front refl)
 
   sent : SendsInside head book cluster good a None
   sent = record {
@@ -165,14 +172,15 @@ module _ (head : HeadText) (book : List Event) (cluster : Cluster) (good : Commi
     inside = none-passes Outs (subst (λ (l : List Output). All PassesNone l) whole passes-none);
   }
 
-  begin-quiet : All RequiresNone (outputs.Begin ∷ [])
-  begin-quiet = All-cons RequiresNone outputs.Begin [] tt (All-nil RequiresNone)
+  begin-quiet : All RequiresNone ((outputs.Server orders.Begin) ∷ [])
+  begin-quiet = All-cons RequiresNone (outputs.Server orders.Begin) [] tt (All-nil RequiresNone)
 
   abbrev Kept : All IsOfTable front
-  Kept = of_table head book cluster good few a front required (outputs.Begin ∷ []) covered whole begin-quiet
+  Kept = of_table head book cluster good few a front required
+      ((outputs.Server orders.Begin) ∷ []) covered whole begin-quiet
 
   abbrev Upto : List Event
-  Upto = Up head book cluster good few a front required (outputs.Begin ∷ []) covered whole begin-quiet
+  Upto = Up head book cluster good few a front required ((outputs.Server orders.Begin) ∷ []) covered whole begin-quiet
 
   abbrev Set : List Event
   Set = Part head book cluster good a (cluster_over cluster Upto) (outputs.Require required)
@@ -184,7 +192,8 @@ module _ (head : HeadText) (book : List Event) (cluster : Cluster) (good : Commi
   Ready = cluster_over cluster Covered
 
   page : PageOf head book cluster good a Covered None
-  page = required-page head book cluster good few a front required (outputs.Begin ∷ []) covered whole begin-quiet
+  page = required-page head book cluster good few a front required
+      ((outputs.Server orders.Begin) ∷ []) covered whole begin-quiet
       sent uncarried (server-found head book cluster good few a).0 (server-found head book cluster good few a).1
 
   abbrev Begun : List Event
@@ -193,7 +202,7 @@ module _ (head : HeadText) (book : List Event) (cluster : Cluster) (good : Commi
   -- all its events
   whole-events : Events head book cluster good a ≡ Covered ++ Begun
   whole-events =
-      requires-whole head book cluster good few a front (outputs.Begin ∷ []) required covered Kept whole
+      requires-whole head book cluster good few a front ((outputs.Server orders.Begin) ∷ []) required covered Kept whole
       ∙ ap (λ (c : Cluster). Covered ++ (begin_events c a.member ++ [])) (sym (over-append cluster Upto Set))
       ∙ ap (λ (l : List Event). Covered ++ l) (append-nil Begun)
 
@@ -241,7 +250,8 @@ module _ (head : HeadText) (book : List Event) (cluster : Cluster) (good : Commi
   -- the server is there, and has data
   server-ready : (s : ServerFacts) × (slice_get Ready.facts.servers M ≡ Some s) × (has_data s.state ≡ true)
   server-ready =
-      let set = now-set head book cluster good few a front required (outputs.Begin ∷ []) covered whole begin-quiet sent
+      let set = now-set head book cluster good few a front required
+      ((outputs.Server orders.Begin) ∷ []) covered whole begin-quiet sent
       uncarried (server-found head book cluster good few a).0 (server-found head book cluster good few a).1 in (
         set.server,
         ap (λ (c : Cluster). slice_get c.facts.servers M) (over-append cluster Upto Set) ∙ set.server_is,

@@ -89,6 +89,7 @@ module _ (head : HeadText) (book : List Event) (cluster : Cluster) (good : Commi
       → ListsMember (confirmers_in required) n → n < MOST_MEMBERS
   needs-few requireds.Nobody waits n needs = absurd needs
   needs-few requireds.AnyOne waits n needs = absurd needs
+  needs-few (requireds.AtLeast number of) waits n needs = absurd needs
   needs-few (requireds.All set) waits n needs = waits n (is-one (bit_at set.bits n) needs)
 
   module _ (agent : AgentFacts) (s : ServerFacts)
@@ -113,5 +114,6 @@ module _ (head : HeadText) (book : List Event) (cluster : Cluster) (good : Commi
         → WaitsForMembers required
     grown-waits requireds.Nobody grows = tt
     grown-waits requireds.AnyOne grows = tt
+    grown-waits (requireds.AtLeast number of) grows = tt
     grown-waits (requireds.All set) grows =
         λ n on. grown-few (requireds.All set) grows n (one-is (bit_at set.bits n) on)

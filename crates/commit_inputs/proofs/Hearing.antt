@@ -14,8 +14,8 @@ use Rattle.store_keys.specs.declared.value.Value.{Value}
 use Rattle.store_keys.specs.declared.value.Value.TheVariants as values
 use Rattle.store_keys.specs.Defaults.{default_config}
 use Rattle.lease_store.specs.KeyOrder.{key_cmp}
-use Rattle.cluster_view.specs.KeyValues.{sync_by, sync_of_entry}
-use Rattle.cluster_view.specs.Snapshots.{SnapshotFacts, settings_by, settings_of_entry}
+use Rattle.cluster_view.specs.KeyValues.{sync_by}
+use Rattle.cluster_view.specs.Snapshots.{SnapshotFacts, settings_by, settings_of_entry, found_by, value_by}
 use Rattle.event_book.specs.declared.event.Event.{Event}
 use Rattle.event_book.specs.declared.link.LinkEnd.{LinkEnd}
 use Rattle.event_book.specs.declared.link.LinkEnd.TheVariants as ends
@@ -34,7 +34,7 @@ use Rattle.agent_model.specs.declared.machine.Machine.{Machine}
 use Rattle.agent_model.specs.Agents.{AgentFacts, outcome_from}
 use Rattle.agent_commit_law.specs.Committing.{HearsBelow, HearsGranted, HearsLease, HearsSynchronousMode, HearsToCommit, HearsWrite, IsAskedBy, sync_seen}
 use Rattle.agent_model.specs.Decisions.{asks_sync, is_sync_decision}
-use Rattle.agent_model.specs.Synchronous.{sync_read_by, sync_read_in, sync_read_of_entry}
+use Rattle.agent_model.specs.Synchronous.{sync_read_by, sync_read_in, sync_read_at}
 use Rattle.agent_commit_law.proofs.CommitTools.{no-members}
 use Rattle.agent_roles.proofs.Granting.{both-true}
 use Rattle.cluster_model.specs.Hearing.{heard_from, heard_in, member_at_end, snapshot_in}
@@ -67,7 +67,7 @@ sync-by : (revision : ℕ) (value : Value) → sync_seen (sync_read_by revision 
 sync-by revision (values.Sync key) = refl
 sync-by revision _ = refl
 
-sync-is : (found : Option KeyEntry) → sync_seen (sync_read_of_entry found) ≡ sync_key_of found
+sync-is : (found : Option KeyEntry) → sync_seen (found_by sync_read_at found) ≡ sync_key_of found
 sync-is None = refl
 sync-is (Some found) = sync-by found.revision found.value
 
@@ -89,7 +89,7 @@ below-by count quorum revision (values.Sync key) names n is = (names _ refl).mem
 below-by count quorum revision _ names n is = nobody-below count n is
 
 below-is : (count quorum : ℕ) (found : Option KeyEntry) → NamesMembers count quorum (sync_key_of found)
-    → (n : ℕ) → set_members (standbys_of (sync_of_entry found)) n ≡ true → n < count
+    → (n : ℕ) → set_members (standbys_of (value_by sync_by found)) n ≡ true → n < count
 below-is count quorum None names n is = nobody-below count n is
 below-is count quorum (Some found) names n is = below-by count quorum found.revision found.value names n is
 

@@ -11,6 +11,7 @@ use Rattle.event_book.specs.declared.message.Body.TheVariants as bodies
 use Rattle.event_book.specs.declared.message.Message.{Message}
 use Rattle.agent_model.specs.declared.output.Output.{Output}
 use Rattle.agent_model.specs.declared.output.Output.TheVariants as outputs
+use Rattle.agent_model.specs.declared.output.Outgoing.TheVariants as outgoing
 use Rattle.agent_commit_law.specs.Committing.{IsCovered, IsQuietBody}
 use Rattle.agent_commit_law.proofs.CommitQuiet.{IsUnasking, plain-body}
 use Rattle.cluster_model.specs.Cluster.{cluster_after}
@@ -24,15 +25,15 @@ use Rattle.commit_outputs.proofs.Covering.{quiet-ordered}
 
 -- an output that asks for no write of the sync key
 abbrev pub AsksQuietly : Output → Type 0
-AsksQuietly (outputs.Send to sequence body) = IsQuietBody body
+AsksQuietly (outputs.Message (outgoing.Send to sequence body)) = IsQuietBody body
 AsksQuietly _ = Unit {0}
 
 pub unasking-quietly : (output : Output) → IsUnasking false output → AsksQuietly output
-unasking-quietly (outputs.Send to sequence body) quiet = plain-body body quiet
+unasking-quietly (outputs.Message (outgoing.Send to sequence body)) quiet = plain-body body quiet
 unasking-quietly _ quiet = tt
 
 pub covered-quietly : (output : Output) → IsCovered output → AsksQuietly output
-covered-quietly (outputs.Send to sequence body) covered = covered
+covered-quietly (outputs.Message (outgoing.Send to sequence body)) covered = covered
 covered-quietly _ covered = tt
 
 -- what members ask one another asks for none

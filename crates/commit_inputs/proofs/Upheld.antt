@@ -23,10 +23,14 @@ use Rattle.cluster_view.specs.Snapshots.{SnapshotFacts}
 use Rattle.script_model.specs.Script.{HeadText}
 use Rattle.store_keys.specs.declared.action.OperatorAction.{OperatorAction}
 use Rattle.store_keys.specs.declared.txn.Txn.TheVariants as txns
+use Rattle.store_keys.specs.declared.txn.SyncTxn.TheVariants as sync_txns
 use Rattle.agent_model.specs.declared.heard.Heard.{Heard}
 use Rattle.agent_model.specs.declared.heard.Heard.TheVariants as heards
 use Rattle.agent_model.specs.declared.output.Output.{Output}
 use Rattle.agent_model.specs.declared.output.Output.TheVariants as outputs
+use Rattle.agent_model.specs.declared.output.Outgoing.TheVariants as outgoing
+use Rattle.agent_model.specs.declared.output.ServerOrder.TheVariants as orders
+use Rattle.agent_model.specs.declared.output.Telling.TheVariants as tellings
 use Rattle.agent_model.specs.declared.output.Target.TheVariants as targets
 use Rattle.agent_model.specs.Agents.{AgentFacts}
 use Rattle.agent_commit_law.specs.Committing.{Asks as AsksLast, HasForm, IsCovered, NoMore, Ordered, ClaimsOutsideSync, StandsAlone, IsSynchronousBody, IsSynchronousOutput, KnowsBelow, Requires, committer_seen, is_claim_outside_sync}
@@ -135,21 +139,31 @@ upheld-aside head book cluster events good leave leave_order ordered upheld = re
 answer-none : (heard : Heard)
     → ((from : MemberId) (incarnation sequence : ℕ) → heard ≡ heards.Asked from incarnation sequence → ⊥)
     → (output : Output) → RepliesTo heard output → AnswersNone output
-answer-none (heards.Asked from asked number) other (outputs.Answer to incarnation sequence answer) replies =
+answer-none (heards.Asked from asked number) other (outputs.Message (outgoing.Answer to incarnation sequence answer))
+    replies =
     absurd (other from asked number refl)
-answer-none heards.Wake other (outputs.Answer to incarnation sequence answer) replies = replies
-answer-none (heards.ReadAnswered number snapshot) other (outputs.Answer to incarnation sequence answer) replies =
+answer-none heards.Wake other (outputs.Message (outgoing.Answer to incarnation sequence answer)) replies = replies
+answer-none (heards.ReadAnswered number snapshot) other
+    (outputs.Message (outgoing.Answer to incarnation sequence answer)) replies =
     replies
-answer-none (heards.Granted number grant snapshot) other (outputs.Answer to incarnation sequence answer) replies =
+answer-none (heards.Granted number grant snapshot) other
+    (outputs.Message (outgoing.Answer to incarnation sequence answer)) replies =
     replies
-answer-none (heards.Mismatch number key found) other (outputs.Answer to incarnation sequence answer) replies = replies
-answer-none (heards.Answered number given) other (outputs.Answer to incarnation sequence answer) replies = replies
-answer-none (heards.FailsafeAsked from asked number ttl) other (outputs.Answer to incarnation sequence answer) replies =
-    replies
-answer-none (heards.FailsafeAnswered from number accepted sent) other (outputs.Answer to incarnation sequence answer)
+answer-none (heards.Mismatch number key found) other (outputs.Message (outgoing.Answer to incarnation sequence answer))
     replies =
     replies
-answer-none (heards.Operated action) other (outputs.Answer to incarnation sequence answer) replies = replies
+answer-none (heards.Answered number given) other (outputs.Message (outgoing.Answer to incarnation sequence answer))
+    replies =
+    replies
+answer-none (heards.FailsafeAsked from asked number ttl) other
+    (outputs.Message (outgoing.Answer to incarnation sequence answer)) replies =
+    replies
+answer-none (heards.FailsafeAnswered from number accepted sent) other
+    (outputs.Message (outgoing.Answer to incarnation sequence answer))
+    replies =
+    replies
+answer-none (heards.Operated action) other (outputs.Message (outgoing.Answer to incarnation sequence answer)) replies =
+    replies
 answer-none heard other _ replies = tt
 
 wake-asks : (from : MemberId) (incarnation sequence : ℕ)
@@ -231,13 +245,16 @@ at-most a b e = omega (arith, e)
 
 -- who takes the leader key past the sync key breaks the premise
 passing-breaks : (member : Member) (message : HeardMessage) (cluster : Cluster) (front behind : List Output)
-    → KeepMode true (each (output_events member message) cluster (front ++ outputs.ClaimsOutsideSync ∷ behind)) → ⊥
+    → KeepMode true
+    (each (output_events member message) cluster (front ++ (outputs.Tell tellings.ClaimsOutsideSync) ∷ behind))
+    → ⊥
 passing-breaks member message cluster [] behind mode = mode.0
 passing-breaks member message cluster (output ∷ front) behind mode =
     let events : List Event = output_events member message cluster output in
     passing-breaks member message (cluster_over cluster events) front behind
     (mode-back events
-    (each (output_events member message) (cluster_over cluster events) (front ++ outputs.ClaimsOutsideSync ∷ behind))
+    (each (output_events member message) (cluster_over cluster events)
+    (front ++ (outputs.Tell tellings.ClaimsOutsideSync) ∷ behind))
     mode)
 
 module _ (head : HeadText) (book : List Event) (cluster : Cluster) (good : CommitsBridged head book cluster)
@@ -337,7 +354,7 @@ module _ (head : HeadText) (book : List Event) (cluster : Cluster) (good : Commi
       subst (λ (x : Message). IsSynchronousBody (member_count head) strict_quorum x.body ×
       IsAskNumbered Behind x.from x.incarnation x.sequence x.body)
       (sym question.is) (
-        sent-on (outputs.Send targets.Store question.sequence question.body) question.from.0,
+        sent-on (outputs.Message (outgoing.Send targets.Store question.sequence question.body)) question.from.0,
         question-numbered Behind a.member a.agent.knows.incarnation question.sequence question.body question.from.1.0.2,
       )
   message-on message (AsksPeer peer id sequence body asks is from) =
@@ -406,21 +423,23 @@ module _ (head : HeadText) (book : List Event) (cluster : Cluster) (good : Commi
       (requires-moves head book cluster good few a front required behind covered alone whole none)
 
   begins-upheld : IsKept head book cluster All_ → (front : List Output) (required : Required) → All IsCovered front
-      → front ++ outputs.Require required ∷ outputs.Begin ∷ [] ≡ Outs → Upholds (kept_commits head) book cluster All_
+      → front ++ outputs.Require required ∷ (outputs.Server orders.Begin) ∷ [] ≡ Outs
+      → Upholds (kept_commits head) book cluster All_
   begins-upheld kept front required covered whole =
       upheld-by-moves kept
-      (ordered-by (quietly-up-to front (outputs.Require required ∷ outputs.Begin ∷ []) covered
-      (All-cons AsksQuietly (outputs.Require required) (outputs.Begin ∷ []) tt
-      (All-cons AsksQuietly outputs.Begin [] tt (All-nil AsksQuietly)))
+      (ordered-by (quietly-up-to front (outputs.Require required ∷ (outputs.Server orders.Begin) ∷ []) covered
+      (All-cons AsksQuietly (outputs.Require required) ((outputs.Server orders.Begin) ∷ []) tt
+      (All-cons AsksQuietly (outputs.Server orders.Begin) [] tt (All-nil AsksQuietly)))
       whole))
       (begins-moves head book cluster good few a front required covered whole)
 
   asks-upheld : IsKept head book cluster All_ → (front : List Output) (sequence : ℕ) (body : Body) → All IsCovered front
-      → front ++ outputs.Send targets.Store sequence body ∷ [] ≡ Outs → Upholds (kept_commits head) book cluster All_
+      → front ++ outputs.Message (outgoing.Send targets.Store sequence body) ∷ [] ≡ Outs
+      → Upholds (kept_commits head) book cluster All_
   asks-upheld kept front sequence body covered whole =
       let all : All IsCarried front = carried front covered in
-      let passes-none : All PassesNone (front ++ outputs.Send targets.Store sequence body ∷ []) =
-      All-push PassesNone front (outputs.Send targets.Store sequence body)
+      let passes-none : All PassesNone (front ++ outputs.Message (outgoing.Send targets.Store sequence body) ∷ []) =
+      All-push PassesNone front (outputs.Message (outgoing.Send targets.Store sequence body))
       (All-weaker IsCovered PassesNone covered-passes front covered) tt in
       let inside : has_one is_claim_outside_sync Outs ≡ false =
       none-passes Outs (subst (λ (l : List Output). All PassesNone l) whole passes-none) in
@@ -451,19 +470,22 @@ module _ (head : HeadText) (book : List Event) (cluster : Cluster) (good : Commi
       (subst (λ (l : List Output). front ++ outputs.Require required ∷ l ≡ Outs) begins whole)
   form-upheld kept none (Ordered front (AsksLast sequence body) behind covered last whole) =
       asks-upheld kept front sequence body covered
-      (subst (λ (l : List Output). front ++ outputs.Send targets.Store sequence body ∷ l ≡ Outs) last whole)
+      (subst (λ (l : List Output). front ++ outputs.Message (outgoing.Send targets.Store sequence body) ∷ l ≡ Outs)
+      last whole)
   form-upheld kept none (ClaimsOutsideSync front sequence revision sync covered whole) =
-      let claim : Body = bodies.Request (txns.Claim revision sync) in
-      let noted : List Output = front ++ outputs.ClaimsOutsideSync ∷ [] in
-      let all : All IsCarried noted = All-push IsCarried front outputs.ClaimsOutsideSync (carried front covered) tt in
-      let upto : noted ++ outputs.Send targets.Store sequence claim ∷ [] ≡ Outs =
-      append_assoc front (outputs.ClaimsOutsideSync ∷ []) (outputs.Send targets.Store sequence claim ∷ []) ∙ whole in
+      let claim : Body = bodies.Request (txns.Sync (sync_txns.Claim revision sync)) in
+      let noted : List Output = front ++ (outputs.Tell tellings.ClaimsOutsideSync) ∷ [] in
+      let all : All IsCarried noted =
+      All-push IsCarried front (outputs.Tell tellings.ClaimsOutsideSync) (carried front covered) tt in
+      let upto : noted ++ outputs.Message (outgoing.Send targets.Store sequence claim) ∷ [] ≡ Outs =
+      append_assoc front ((outputs.Tell tellings.ClaimsOutsideSync) ∷ [])
+      (outputs.Message (outgoing.Send targets.Store sequence claim) ∷ []) ∙ whole in
       upheld-aside head book cluster All_ good (asks-leave head book cluster good few a noted sequence claim all upto)
       (asks-aside head book cluster good few a noted sequence claim all upto)
       (asks-ordered head book cluster good few a noted sequence claim all upto tt)
       (λ meets.
       absurd (passing-breaks a.member a.message (First head book cluster good a) front
-      (outputs.Send targets.Store sequence claim ∷ [])
+      (outputs.Message (outgoing.Send targets.Store sequence claim) ∷ [])
       (subst (λ (l : List Output).
       KeepMode true (each (Part head book cluster good a) (First head book cluster good a) l))
       (sym whole) (mode-back book All_ meets.mode).1)))

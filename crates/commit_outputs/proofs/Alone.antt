@@ -1,9 +1,8 @@
 -- Outputs of an agent that are actions of their own.
-use Rattle.std.proofs.Common.{ℕ, ◌≡◌, ◌||◌, Bool, true, false, cond, List, [], ◌∷◌, All, slice_get, Option, Some, None, option_and_then, option_map, refl}
+use Rattle.std.proofs.Common.{◌≡◌, ◌||◌, Bool, true, false, cond, List, [], ◌∷◌, All, slice_get, Option, Some, None, option_and_then, refl}
 use Rattle.std.proofs.lemmas.List.Elements.{All-head, All-tail}
-use Rattle.pat_base.specs.declared.ticks.Ticks.{Ticks}
 use Rattle.pat_base.specs.ServerState.{live}
-use Rattle.pg_model.specs.Facts.{ServerFacts, is_creating, is_down, is_replica}
+use Rattle.pg_model.specs.Facts.{ServerFacts, is_creating}
 use Rattle.event_book.specs.declared.event.EventKind.{EventKind}
 use Rattle.event_book.specs.declared.event.EventKind.TheVariants as kinds
 use Rattle.event_book.specs.declared.event.LogEvent.TheVariants as logs
@@ -13,34 +12,36 @@ use Rattle.event_book.specs.declared.event.ServerEvent.TheVariants as servers
 use Rattle.event_book.specs.declared.event.WatchdogEvent.TheVariants as watchdogs
 use Rattle.event_book.specs.declared.member.Member.{Member}
 use Rattle.event_book.specs.declared.reason.Reason.{Reason}
-use Rattle.event_book.specs.Facts.{Facts}
+use Rattle.event_book.specs.Facts.{Facts, facts_after}
 use Rattle.event_book.specs.Members.{server_of}
-use Rattle.agent_model.specs.declared.operating.Told.{Told}
-use Rattle.agent_model.specs.declared.operating.Told.TheVariants as tolds
+use Rattle.event_book.specs.declared.event.Event.{Event}
+use Rattle.event_book.specs.Kinds.{AllAre}
 use Rattle.agent_model.specs.declared.output.Output.{Output}
 use Rattle.agent_model.specs.declared.output.Output.TheVariants as outputs
+use Rattle.agent_model.specs.declared.output.Outgoing.TheVariants as outgoing
+use Rattle.agent_model.specs.declared.output.ServerOrder.TheVariants as orders
+use Rattle.agent_model.specs.declared.output.Telling.TheVariants as tellings
 use Rattle.agent_model.specs.declared.output.Repair.{Repair}
 use Rattle.agent_model.specs.declared.output.Target.TheVariants as targets
-use Rattle.agent_model.specs.Agents.{AgentFacts}
+use Rattle.agent_model.specs.declared.output.ServerOrder.{ServerOrder}
+use Rattle.agent_model.specs.declared.output.Telling.{Telling}
 use Rattle.agent_commit_law.specs.Committing.{StandsAlone}
-use Rattle.operator_answers.specs.Statuses.{ok}
 use Rattle.agent_outputs.specs.Orders.{IsOfTable}
 use Rattle.cluster_model.specs.declared.heard_message.HeardMessage.{HeardMessage}
 use Rattle.cluster_model.specs.Beginnings.{server_restart_kinds}
 use Rattle.cluster_model.specs.Cluster.{cluster_after, cluster_over}
 use Rattle.cluster_model.specs.Commands.{kinds_of}
-use Rattle.cluster_model.specs.Inputs.{agent_at}
-use Rattle.cluster_model.specs.Messages.{output_events, repair_events}
-use Rattle.cluster_model.specs.Orders.{failsafe_feeding, hold_taken, agent_noting, arming, declared_member, feed_kinds, feeding, following_of, repair_over, replica_start_kinds, server_at, stop_kinds, stop_of, upstream_of, wipe_of}
+use Rattle.cluster_model.specs.Messages.{output_events, repair_events, feeding_kinds, noting_kind, order_events, telling_kind}
+use Rattle.cluster_model.specs.Orders.{repair_over, server_at, stop_kinds, stop_of, wipe_of}
 use Rattle.cluster_model.specs.Parts.{each, event_of, events_of, for_some}
-use Rattle.cluster_model.specs.Requests.{config_text_of, told_kind}
 use Rattle.cluster_model.specs.State.{Cluster}
 use Rattle.commit_actions.specs.Past.{Past, Setup, past_over}
 use Rattle.commit_servers.specs.Acting.{Fits}
 use Rattle.commit_servers.specs.Happening.{MayFollow, MayHappen}
 use Rattle.commit_servers.proofs.Repairing.{repair-follow, wipe-follow}
-use Rattle.cluster_model.proofs.Founds.{holds-then, repaired-holds}
-use Rattle.cluster_model.proofs.Lists.{AllKinds, HoldsIf, all-kinds, all-more, one-kind}
+use Rattle.cluster_model.proofs.Founds.{repaired-holds}
+use Rattle.cluster_model.proofs.Lists.{HoldsIf, all-kinds, all-more, one-kind}
+use Rattle.cluster_model.proofs.Outputs.{HoldsOfFeedings, HoldsOfOrder, HoldsOfTelling, IsPassing, LetsBegin, LetsEnd, LetsRepair, feeding-holds, kind-holds, noting-holds, order-holds, telling-holds}
 use Rattle.commit_parts.specs.Reading.{volatile_of}
 use Rattle.commit_parts.proofs.Moving.{moves-none, moves-then}
 use Rattle.commit_parts.specs.Moving.{Moves}
@@ -85,40 +86,45 @@ free-may facts (kinds.Watchdog (watchdogs.HoldTaken member until from incarnatio
 free-may facts (kinds.Note note) free = tt
 free-may facts _ free = absurd free
 
-free-follow : (cluster : Cluster) (list : List EventKind) → AllKinds IsFree list
-    → MayFollow cluster.facts (events_of cluster list)
-free-follow cluster [] all = tt
-free-follow cluster (kind ∷ more) all =
-    (free-may cluster.facts kind all.0, free-follow (cluster_after cluster kind) more all.1)
+free-follow : (facts : Facts) (events : List Event) → AllAre IsFree events → MayFollow facts events
+free-follow facts [] all = tt
+free-follow facts (event ∷ more) all =
+    (free-may facts event.kind all.0, free-follow (facts_after facts event.kind) more all.1)
 
-following-free : (member : Member) (leader : Option Member) → HoldsIf IsFree (following_of member leader)
-following-free member None = tt
-following-free member (Some leader) = tt
+free-order : (member : Member) (order : ServerOrder) → (LetsBegin order → ⊥) → (LetsEnd order → ⊥)
+    → (LetsRepair order → ⊥) → HoldsOfOrder IsFree member order
+free-order member order begins ends repairs = record {
+  begins = λ lets timeline. begins lets;
+  lacks = begins;
+  starts_as_primary = begins;
+  starts_as_replica = tt;
+  follows = λ leader. tt;
+  says = λ reason. tt;
+  ends = ends;
+  stops = ends;
+  wiped = repairs;
+  rewound = λ lets leader r. repairs lets;
+  copied = λ lets leader. repairs lets;
+}
 
-upstream-free : (member : Member) (leader : Option Member) (test : Bool)
-    → HoldsIf IsFree (cond test (following_of member leader) None)
-upstream-free member leader true = following-free member leader
-upstream-free member leader false = tt
+free-telling : (member : Member) (telling : Telling) → (IsPassing telling → ⊥) → HoldsOfTelling IsFree member telling
+free-telling member telling passes = record {
+  answers = λ is reply. tt;
+  holds = λ until incarnation sequence from. tt;
+  passes = passes;
+}
 
-noted-free : {X : Type 0} (note : X → Note) (found : Option X)
-    → HoldsIf IsFree (option_map (λ x. kinds.Note (note x)) found)
-noted-free note None = tt
-noted-free note (Some x) = tt
+free-feedings : (member : Member) → HoldsOfFeedings IsFree member
+free-feedings member = record {
+  measured = λ since. tt;
+  armed = λ until answer. tt;
+  fed = λ until basis. tt;
+  disarmed = tt;
+}
 
-told-free : (member : Member) (agent : Option AgentFacts) (told : Told) → HoldsIf IsFree (told_kind member agent told)
-told-free member agent (tolds.Text status text) = tt
-told-free member agent tolds.Written = noted-free (λ body. notes.Answered member ok true body) (config_text_of agent)
-
-held-free : (member : Member) (until : Ticks) (incarnation sequence : ℕ) (from : Option Member)
-    → HoldsIf IsFree (option_map (hold_taken member until incarnation sequence) from)
-held-free member until incarnation sequence None = tt
-held-free member until incarnation sequence (Some other) = tt
-
-starts-free : (member : Member) (leader : Option Member) (test : Bool)
-    → AllKinds IsFree
-    (cond test (kinds.Server (servers.StartsAsReplica (server_of member)) ∷ kinds_of (following_of member leader)) [])
-starts-free member leader true = (tt, one-kind IsFree (following_of member leader) (following-free member leader))
-starts-free member leader false = tt
+passes-alone : (telling : Telling) → StandsAlone (outputs.Tell telling) → IsPassing telling → ⊥
+passes-alone tellings.ClaimsOutsideSync alone passes = alone
+passes-alone _ alone passes = passes
 
 wipe-still : (member : Member) (stays : Bool)
     → HoldsIf IsStill (cond stays None (Some (kinds.Log (logs.Wiped (server_of member)))))
@@ -127,19 +133,11 @@ wipe-still member false = tt
 
 -- ---- the outputs
 module _ (setup : Setup) (member : Member) where
-  free-moves : (past : Past) (cluster : Cluster) (list : List EventKind) → Fits past cluster.facts (volatile_of cluster)
-      → AllKinds IsFree list → Moves setup past cluster (events_of cluster list)
-  free-moves past cluster list fits free =
-      moves-follow setup past cluster (events_of cluster list) fits
-      (all-more IsFree IsStill (events_of cluster list) free-still (all-kinds IsFree cluster list free))
-      (free-follow cluster list free)
-
-  starts-moves : (past : Past) (cluster : Cluster) (leader : Option Member) (found : Option ServerFacts)
-      → Fits past cluster.facts (volatile_of cluster)
-      → Moves setup past cluster (for_some found (λ s. events_of cluster (replica_start_kinds member leader s)))
-  starts-moves past cluster leader None fits = moves-none setup past cluster fits
-  starts-moves past cluster leader (Some s) fits =
-      free-moves past cluster (replica_start_kinds member leader s) fits (starts-free member leader (is_down s.state))
+  free-moves : (past : Past) (cluster : Cluster) (events : List Event) → Fits past cluster.facts (volatile_of cluster)
+      → AllAre IsFree events → Moves setup past cluster events
+  free-moves past cluster events fits free =
+      moves-follow setup past cluster events fits (all-more IsFree IsStill events free-still free)
+      (free-follow cluster.facts events free)
 
   -- the agent says why it ends its server, and does
   stops-moves : (past : Past) (cluster : Cluster) (reason : Reason) (found : Option ServerFacts)
@@ -150,7 +148,7 @@ module _ (setup : Setup) (member : Member) where
       let note : EventKind = kinds.Note (notes.EndsServer member reason) in
       let later : Cluster = cluster_after cluster note in
       moves-then setup past cluster (event_of cluster note) (events_of later (kinds_of (stop_of member s)))
-      (free-moves past cluster (note ∷ []) fits (tt, tt))
+      (free-moves past cluster (event_of cluster note) fits (tt, tt))
       (λ told. stop-moves setup (past_over past (event_of cluster note)) later told member s is)
 
   shuts-moves : (past : Past) (cluster : Cluster) (found : Option ServerFacts)
@@ -190,66 +188,56 @@ module _ (setup : Setup) (member : Member) where
       (λ other. tt))))
       (repair-follow cluster member repair leader)
 
+  order-moves : (past : Past) (cluster : Cluster) (order : ServerOrder)
+      → Fits past cluster.facts (volatile_of cluster) → StandsAlone (outputs.Server order)
+      → Moves setup past cluster (order_events cluster member order)
+  order-moves past cluster orders.Begin fits alone = absurd alone
+  order-moves past cluster (orders.Stop reason) fits alone =
+      stops-moves past cluster reason (server_at cluster member) refl fits
+  order-moves past cluster orders.ShutDown fits alone = shuts-moves past cluster (server_at cluster member) refl fits
+  order-moves past cluster (orders.Restart as_primary) fits alone =
+      restarts-moves past cluster (server_at cluster member) refl fits
+  order-moves past cluster orders.Wipe fits alone = wipes-moves past cluster (server_at cluster member) refl fits
+  order-moves past cluster (orders.Repair leader repair) fits alone =
+      repair-moves past cluster repair (slice_get cluster.facts.members leader.number) fits
+  order-moves past cluster order fits alone =
+      free-moves past cluster (order_events cluster member order) fits
+      (order-holds IsFree cluster member order (free-order member order (λ lets. lets) (λ lets. lets) (λ lets. lets)))
+
   module _ (message : HeardMessage) where
     output-moves : (past : Past) (cluster : Cluster) (output : Output)
         → Fits past cluster.facts (volatile_of cluster) → IsOfTable output → StandsAlone output → AnswersNone output
         → Moves setup past cluster (output_events member message cluster output)
-    output-moves past cluster (outputs.Send targets.Store sequence body) fits table alone answers =
+    output-moves past cluster (outputs.Message (outgoing.Send targets.Store sequence body)) fits table alone answers =
         question-moves setup member past cluster
         (slice_get cluster.facts.processes member.id.number) sequence body fits alone
-    output-moves past cluster (outputs.Send (targets.Member id) sequence body) fits table alone answers =
+    output-moves past cluster (outputs.Message (outgoing.Send (targets.Member id) sequence body)) fits table alone
+        answers =
         member-moves setup member past cluster (slice_get cluster.facts.processes member.id.number)
         (slice_get cluster.facts.members id.number) sequence body fits table
-    output-moves past cluster (outputs.Answer to incarnation sequence answer) fits table alone answers = absurd answers
-    output-moves past cluster outputs.Begin fits table alone answers = absurd alone
-    output-moves past cluster (outputs.StartReplica leader) fits table alone answers =
-        starts-moves past cluster (declared_member cluster.facts.members leader) (server_at cluster member) fits
-    output-moves past cluster (outputs.Stop reason) fits table alone answers =
-        stops-moves past cluster reason (server_at cluster member) refl fits
-    output-moves past cluster (outputs.Follow leader) fits table alone answers =
-        let kind : Option EventKind = option_and_then
-        (upstream_of member (slice_get cluster.facts.members leader.number)) (server_at cluster member) in
-        free-moves past cluster (kinds_of kind) fits
-        (one-kind IsFree kind
-        (holds-then IsFree (upstream_of member (slice_get cluster.facts.members leader.number))
-        (server_at cluster member)
-        (λ s. upstream-free member (slice_get cluster.facts.members leader.number) (is_replica s.state))))
-    output-moves past cluster (outputs.Require required) fits table alone answers = absurd alone
-    output-moves past cluster (outputs.Armed until) fits table alone answers =
-        free-moves past cluster (feed_kinds member message.sent (arming member until message)) fits (tt, (tt, tt))
-    output-moves past cluster (outputs.Fed until) fits table alone answers =
-        free-moves past cluster (feed_kinds member message.sent (feeding member until message)) fits (tt, (tt, tt))
-    output-moves past cluster outputs.Disarmed fits table alone answers =
-        free-moves past cluster (kinds.Watchdog (watchdogs.Disarmed member) ∷ []) fits (tt, tt)
-    output-moves past cluster (outputs.Note note) fits table alone answers =
-        free-moves past cluster (agent_noting cluster.facts.members member note ∷ []) fits (tt, tt)
-    output-moves past cluster outputs.ClaimsOutsideSync fits table alone answers = absurd alone
-    output-moves past cluster outputs.ShutDown fits table alone answers =
-        shuts-moves past cluster (server_at cluster member) refl fits
-    output-moves past cluster (outputs.Repair leader repair) fits table alone answers =
-        repair-moves past cluster repair (slice_get cluster.facts.members leader.number) fits
-    output-moves past cluster (outputs.HoldTaken until from sequence) fits table alone answers =
-        let kind : Option EventKind = option_map (hold_taken member until message.incarnation sequence)
-        (slice_get cluster.facts.members from.number) in
-        free-moves past cluster (kinds_of kind) fits
-        (one-kind IsFree kind
-        (held-free member until message.incarnation sequence (slice_get cluster.facts.members from.number)))
-    output-moves past cluster (outputs.FailsafeAnswer to incarnation sequence accepted) fits table alone answers =
+    output-moves past cluster (outputs.Message (outgoing.Answer to incarnation sequence answer)) fits table alone
+        answers =
+        absurd answers
+    output-moves past cluster (outputs.Message (outgoing.FailsafeAnswer to incarnation sequence accepted)) fits table
+        alone answers =
         failsafe-moves setup member past cluster
         (slice_get cluster.facts.members to.number) incarnation sequence accepted fits
-    output-moves past cluster (outputs.FedByFailsafe until members sequence since) fits table alone answers =
-        free-moves past cluster
-        (feed_kinds member since (failsafe_feeding member until members sequence)) fits (tt, (tt, tt))
-    output-moves past cluster outputs.StaysByFailsafe fits table alone answers =
-        free-moves past cluster (kinds.Note (notes.StaysByFailsafe member) ∷ []) fits (tt, tt)
-    output-moves past cluster (outputs.Restart as_primary) fits table alone answers =
-        restarts-moves past cluster (server_at cluster member) refl fits
-    output-moves past cluster outputs.Wipe fits table alone answers =
-        wipes-moves past cluster (server_at cluster member) refl fits
-    output-moves past cluster (outputs.Told request told) fits table alone answers =
-        let kind : Option EventKind = told_kind member (agent_at cluster.agents member.id.number) told in
-        free-moves past cluster (kinds_of kind) fits
-        (one-kind IsFree kind (told-free member (agent_at cluster.agents member.id.number) told))
+    output-moves past cluster (outputs.Server order) fits table alone answers =
+        order-moves past cluster order fits alone
+    output-moves past cluster (outputs.Require required) fits table alone answers = absurd alone
+    output-moves past cluster (outputs.Watchdog fed) fits table alone answers =
+        free-moves past cluster (events_of cluster (feeding_kinds member message fed)) fits
+        (all-kinds IsFree cluster (feeding_kinds member message fed)
+        (feeding-holds IsFree cluster member message (free-feedings member) fed))
+    output-moves past cluster (outputs.Tell telling) fits table alone answers =
+        let kind : Option EventKind = telling_kind cluster member message telling in
+        free-moves past cluster (events_of cluster (kinds_of kind)) fits
+        (kind-holds IsFree cluster member kind
+        (telling-holds IsFree cluster member message telling
+        (free-telling member telling (passes-alone telling alone))))
+    output-moves past cluster (outputs.Note noting) fits table alone answers =
+        free-moves past cluster (event_of cluster (noting_kind cluster.facts.members member noting)) fits
+        (noting-holds IsFree cluster member (record { agent = λ note about. tt; stays = tt }) noting, tt)
 
     -- outputs that stand alone, of which none answers a member, are actions one after another, wherever servers fit
     pub alone-moves : (past : Past) (cluster : Cluster) (outs : List Output)

@@ -8,6 +8,8 @@ use Rattle.pat_base.specs.declared.ticks.Ticks.{Ticks}
 use Rattle.store_keys.specs.declared.txn.Expected.{Expected}
 use Rattle.store_keys.specs.declared.txn.Txn.{Txn}
 use Rattle.store_keys.specs.declared.txn.Txn.TheVariants as txns
+use Rattle.store_keys.specs.declared.txn.LeaseTxn.TheVariants as lease_txns
+use Rattle.store_keys.specs.declared.txn.SyncTxn.TheVariants as sync_txns
 use Rattle.pg_model.specs.Facts.{ServerFacts}
 use Rattle.event_book.specs.declared.agent_process.AgentProcess.{AgentProcess}
 use Rattle.event_book.specs.declared.event.Event.{Event}
@@ -27,6 +29,10 @@ use Rattle.agent_model.specs.declared.operating.Told.{Told as OperatorTold}
 use Rattle.agent_model.specs.declared.operating.Told.TheVariants as tolds
 use Rattle.agent_model.specs.declared.output.Output.{Output}
 use Rattle.agent_model.specs.declared.output.Output.TheVariants as outputs
+use Rattle.agent_model.specs.declared.output.Feeding.TheVariants as feedings
+use Rattle.agent_model.specs.declared.output.Noting.TheVariants as notings
+use Rattle.agent_model.specs.declared.output.Outgoing.TheVariants as outgoing
+use Rattle.agent_model.specs.declared.output.Telling.TheVariants as tellings
 use Rattle.agent_model.specs.declared.output.Target.TheVariants as targets
 use Rattle.agent_model.specs.Agents.{AgentFacts}
 use Rattle.agent_commit_law.specs.Committing.{IsCovered, IsQuietBody, IsQuietTxn}
@@ -177,12 +183,13 @@ quiet-renew member revision (Some members) = refl
 
 quiet-txn : (member incarnation sequence : ℕ) (txn : Txn) → IsQuietTxn txn
     → query_in_flight_of (query_of member incarnation sequence txn) ≡ None
-quiet-txn member incarnation sequence (txns.Create info ttl failsafe sync) quiet =
+quiet-txn member incarnation sequence (txns.Lease (lease_txns.Create info ttl failsafe sync)) quiet =
     quiet-create member incarnation sequence sync quiet
-quiet-txn member incarnation sequence (txns.Renew revision info ttl status row failsafe) quiet =
+quiet-txn member incarnation sequence (txns.Lease (lease_txns.Renew revision info ttl status row failsafe)) quiet =
     quiet-renew member revision failsafe
-quiet-txn member incarnation sequence (txns.Claim revision sync) quiet = absurd quiet
-quiet-txn member incarnation sequence (txns.SetSync revision sync standbys) quiet = absurd quiet
+quiet-txn member incarnation sequence (txns.Sync (sync_txns.Claim revision sync)) quiet = absurd quiet
+quiet-txn member incarnation sequence (txns.Sync (sync_txns.SetSync revision sync standbys may_lack)) quiet =
+    absurd quiet
 quiet-txn member incarnation sequence _ quiet = refl
 
 quiet-body : (member incarnation sequence : ℕ) (body : Body) → IsQuietBody body
@@ -192,13 +199,13 @@ quiet-body member incarnation sequence _ quiet = refl
 
 live-renew : (was : Bool) (leader : Option LeaderKey) (m : ℕ) (revision : ℕ) (info : _) (ttl : Ticks)
     (status : _) (row : _) (failsafe : Option MemberSet) → failsafe ≡ None
-    → was_live_by_txn was leader m (txns.Renew revision info ttl status row failsafe) ≡ was
+    → was_live_by_txn was leader m (txns.Lease (lease_txns.Renew revision info ttl status row failsafe)) ≡ was
 live-renew was leader m revision info ttl status row None is = refl
 live-renew was leader m revision info ttl status row (Some members) is = absurd (none-some members (sym is))
 
 live-txn : (was : Bool) (leader : Option LeaderKey) (m : ℕ) (txn : Txn) → IsQuietTxn txn
     → was_live_by_txn was leader m txn ≡ was
-live-txn was leader m (txns.Renew revision info ttl status row failsafe) quiet =
+live-txn was leader m (txns.Lease (lease_txns.Renew revision info ttl status row failsafe)) quiet =
     live-renew was leader m revision info ttl status row failsafe quiet
 live-txn was leader m _ quiet = refl
 
@@ -216,7 +223,9 @@ pub record SaysNothing (past : Past) (message : Message) : Type 0 where
 
 quiet-txn-ordered : (past : Past) (cluster : Cluster) (by : Member) (incarnation sequence : ℕ) (txn : Txn)
     → IsQuietTxn txn → AsksInOrder past cluster (ends.Member by) incarnation sequence (bodies.Request txn)
-quiet-txn-ordered past cluster by incarnation sequence (txns.SetSync revision sync standbys) quiet = absurd quiet
+quiet-txn-ordered past cluster by incarnation sequence (txns.Sync (sync_txns.SetSync revision sync standbys may_lack))
+    quiet =
+    absurd quiet
 quiet-txn-ordered past cluster by incarnation sequence _ quiet = tt
 
 pub quiet-ordered : (past : Past) (cluster : Cluster) (by : Member) (incarnation sequence : ℕ) (body : Body)
@@ -300,11 +309,11 @@ module _ (m : ℕ) (past : Past) (cluster : Cluster) (none : NoneAbove past clus
 -- ---- the outputs
 -- an output that the law's input covers, or the note that the sync key doesn't name the member
 abbrev pub IsCarried : Output → Type 0
-IsCarried outputs.ClaimsOutsideSync = Unit {0}
+IsCarried (outputs.Tell tellings.ClaimsOutsideSync) = Unit {0}
 IsCarried output = IsCovered output
 
 carried-one : (output : Output) → IsCovered output → IsCarried output
-carried-one outputs.ClaimsOutsideSync covered = tt
+carried-one (outputs.Tell tellings.ClaimsOutsideSync) covered = tt
 carried-one _ covered = covered
 
 pub carried : (outs : List Output) → All IsCovered outs → All IsCarried outs
@@ -368,11 +377,12 @@ module _ (member : Member) (message : HeardMessage) where
 
   pub output-covers : (past : Past) (cluster : Cluster) → NoneAbove past cluster → (output : Output)
       → IsCarried output → IsOfTable output → Covers M past cluster (output_events member message cluster output)
-  output-covers past cluster none (outputs.Send targets.Store sequence body) is table =
+  output-covers past cluster none (outputs.Message (outgoing.Send targets.Store sequence body)) is table =
       question-covers past cluster none (slice_get cluster.facts.processes M) sequence body is
-  output-covers past cluster none (outputs.Send (targets.Member id) sequence body) is table = member-covers past cluster
+  output-covers past cluster none (outputs.Message (outgoing.Send (targets.Member id) sequence body)) is table =
+      member-covers past cluster
       none (slice_get cluster.facts.processes M) (slice_get cluster.facts.members id.number) sequence body table
-  output-covers past cluster none (outputs.Armed until) is table = record {
+  output-covers past cluster none (outputs.Watchdog (feedings.Armed until)) is table = record {
     own = (tt, (tt, tt));
     leaves = (tt, (tt, tt));
     aside = (tt, (tt, tt));
@@ -384,7 +394,7 @@ module _ (member : Member) (message : HeardMessage) where
     held = refl;
     later = omega arith;
   }
-  output-covers past cluster none (outputs.Fed until) is table = record {
+  output-covers past cluster none (outputs.Watchdog (feedings.Fed until)) is table = record {
     own = (tt, (tt, tt));
     leaves = (tt, (tt, tt));
     aside = (tt, (tt, tt));
@@ -396,7 +406,7 @@ module _ (member : Member) (message : HeardMessage) where
     held = refl;
     later = omega arith;
   }
-  output-covers past cluster none outputs.Disarmed is table = record {
+  output-covers past cluster none (outputs.Watchdog feedings.Disarmed) is table = record {
     own = (tt, tt);
     leaves = (tt, tt);
     aside = (tt, tt);
@@ -408,7 +418,7 @@ module _ (member : Member) (message : HeardMessage) where
     held = refl;
     later = omega arith;
   }
-  output-covers past cluster none (outputs.Note note) is table = record {
+  output-covers past cluster none (outputs.Note (notings.Agent note)) is table = record {
     own = (tt, tt);
     leaves = (tt, tt);
     aside = (tt, tt);
@@ -420,7 +430,7 @@ module _ (member : Member) (message : HeardMessage) where
     held = refl;
     later = omega arith;
   }
-  output-covers past cluster none outputs.ClaimsOutsideSync is table = record {
+  output-covers past cluster none (outputs.Tell tellings.ClaimsOutsideSync) is table = record {
     own = (tt, tt);
     leaves = (tt, tt);
     aside = (tt, tt);
@@ -432,7 +442,7 @@ module _ (member : Member) (message : HeardMessage) where
     held = refl;
     later = omega arith;
   }
-  output-covers past cluster none (outputs.Told request told) is table =
+  output-covers past cluster none (outputs.Tell (tellings.Told request told)) is table =
       told-covers past cluster (agent_at cluster.agents M) told
   output-covers past cluster none _ is table = absurd is
 

@@ -18,6 +18,9 @@ use Rattle.event_book.specs.Members.{server_of}
 use Rattle.agent_model.specs.declared.machine.Machine.{Machine}
 use Rattle.agent_model.specs.declared.output.Output.{Output}
 use Rattle.agent_model.specs.declared.output.Output.TheVariants as outputs
+use Rattle.agent_model.specs.declared.output.ServerOrder.TheVariants as orders
+use Rattle.agent_model.specs.declared.output.Telling.TheVariants as tellings
+use Rattle.agent_model.specs.declared.output.Feeding.TheVariants as feedings
 use Rattle.agent_commit_law.specs.Committing.{IsCovered, StandsAlone, is_begin, is_claim_outside_sync}
 use Rattle.agent_outputs.specs.Orders.{machine_after_output, machine_after_outputs}
 use Rattle.agent_model.specs.Outputs.{has_one}
@@ -67,11 +70,11 @@ RequiresNone (outputs.Require required) = ⊥
 RequiresNone _ = Unit {0}
 
 abbrev pub BeginsNone : Output → Type 0
-BeginsNone outputs.Begin = ⊥
+BeginsNone (outputs.Server orders.Begin) = ⊥
 BeginsNone _ = Unit {0}
 
 abbrev pub PassesNone : Output → Type 0
-PassesNone outputs.ClaimsOutsideSync = ⊥
+PassesNone (outputs.Tell tellings.ClaimsOutsideSync) = ⊥
 PassesNone _ = Unit {0}
 
 pub carried-requires : (output : Output) → IsCarried output → RequiresNone output
@@ -79,11 +82,11 @@ carried-requires (outputs.Require required) is = is
 carried-requires _ is = tt
 
 pub carried-begins : (output : Output) → IsCarried output → BeginsNone output
-carried-begins outputs.Begin is = is
+carried-begins (outputs.Server orders.Begin) is = is
 carried-begins _ is = tt
 
 pub covered-passes : (output : Output) → IsCovered output → PassesNone output
-covered-passes outputs.ClaimsOutsideSync covered = covered
+covered-passes (outputs.Tell tellings.ClaimsOutsideSync) covered = covered
 covered-passes _ covered = tt
 
 pub alone-requires : (output : Output) → StandsAlone output → RequiresNone output
@@ -91,16 +94,19 @@ alone-requires (outputs.Require required) alone = alone
 alone-requires _ alone = tt
 
 pub alone-begins : (output : Output) → StandsAlone output → BeginsNone output
-alone-begins outputs.Begin alone = alone
+alone-begins (outputs.Server orders.Begin) alone = alone
 alone-begins _ alone = tt
 
 pub alone-passes : (output : Output) → StandsAlone output → PassesNone output
-alone-passes outputs.ClaimsOutsideSync alone = alone
+alone-passes (outputs.Tell tellings.ClaimsOutsideSync) alone = alone
 alone-passes _ alone = tt
 
 stays-by : (now : Ticks) (machine : Machine) (output : Output) → RequiresNone output
     → (machine_after_output now machine output).replication ≡ machine.replication
 stays-by now machine (outputs.Require required) none = absurd none
+stays-by now machine (outputs.Server orders.Begin) none = refl
+stays-by now machine (outputs.Watchdog feedings.Disarmed) none = refl
+stays-by now machine (outputs.Tell tellings.ClaimsOutsideSync) none = refl
 stays-by now machine _ none = refl
 
 pub required-stays : (now : Ticks) (machine : Machine) (outs : List Output) → All RequiresNone outs
@@ -120,11 +126,11 @@ required-set now machine (output ∷ front) required behind none =
     required-set now (machine_after_output now machine output) front required behind none
 
 unbegun : (output : Output) → BeginsNone output → is_begin output ≡ false
-unbegun outputs.Begin none = absurd none
+unbegun (outputs.Server orders.Begin) none = absurd none
 unbegun _ none = refl
 
 unpassed : (output : Output) → PassesNone output → is_claim_outside_sync output ≡ false
-unpassed outputs.ClaimsOutsideSync none = absurd none
+unpassed (outputs.Tell tellings.ClaimsOutsideSync) none = absurd none
 unpassed _ none = refl
 
 none-meets : (test : Output → Bool) (P : Output → Type 0) → ((output : Output) → P output → test output ≡ false)
@@ -260,6 +266,13 @@ module _ (past : Past) (cluster : Cluster) (member : Member) (states : ℕ → V
   same-confirmers (requireds.All first) (requireds.All second) e =
       ap (λ (bits : ℕ). let set : MemberSet = record { bits = bits } in confirmers_in (requireds.All set))
       (same-bits first.bits second.bits e)
+  same-confirmers (requireds.AtLeast number first) (requireds.AtLeast other second) e = refl
+  same-confirmers (requireds.AtLeast number first) requireds.Nobody e = absurd (both e)
+  same-confirmers (requireds.AtLeast number first) requireds.AnyOne e = absurd (both e)
+  same-confirmers (requireds.AtLeast number first) (requireds.All second) e = absurd (both e)
+  same-confirmers requireds.Nobody (requireds.AtLeast number second) e = absurd (both e)
+  same-confirmers requireds.AnyOne (requireds.AtLeast number second) e = absurd (both e)
+  same-confirmers (requireds.All first) (requireds.AtLeast number second) e = absurd (both e)
   same-confirmers requireds.Nobody requireds.AnyOne e = absurd (both e)
   same-confirmers requireds.Nobody (requireds.All second) e = absurd (both e)
   same-confirmers requireds.AnyOne requireds.Nobody e = absurd (both e)

@@ -4,11 +4,12 @@ use Rattle.pat_base.specs.declared.lsn.Lsn.{Lsn}
 use Rattle.wal_model.specs.Log.{end_of}
 use Rattle.agent_model.specs.declared.output.Output.{Output}
 use Rattle.agent_model.specs.declared.output.Output.TheVariants as outputs
+use Rattle.agent_model.specs.declared.output.Outgoing.TheVariants as outgoing
 use Rattle.commit_actions.specs.States.{HasLog, State}
 
 -- an output that answers no other member
 abbrev pub AnswersNone : Output → Type 0
-AnswersNone (outputs.Answer to incarnation sequence answer) = ⊥
+AnswersNone (outputs.Message (outgoing.Answer to incarnation sequence answer)) = ⊥
 AnswersNone _ = Unit {0}
 
 -- the log of this member is there, and ends at this position

@@ -5,6 +5,8 @@ use Rattle.pat_base.specs.declared.ticks.Ticks.{Ticks}
 use Rattle.lease_store.specs.Decision.{Decision, Grant, Refusal, decision_on}
 use Rattle.store_keys.specs.declared.txn.Txn.{Txn}
 use Rattle.store_keys.specs.declared.txn.Txn.TheVariants as txns
+use Rattle.store_keys.specs.declared.txn.LeaseTxn.TheVariants as lease_txns
+use Rattle.store_keys.specs.declared.txn.SyncTxn.TheVariants as sync_txns
 use Rattle.store_keys.specs.TxnKinds.{txn_kind_of}
 use Rattle.event_book.specs.declared.event.Event.{Event}
 use Rattle.event_book.specs.declared.event.EventKind.TheVariants as kinds
@@ -156,33 +158,23 @@ once-granted states false tick number answer by incarnation sequence txn standby
     (inl (tt, inr tt), (inr tt, tt))
 
 compares-none : (count quorum : ℕ) (txn : Txn) → IsSynchronousTxn count quorum txn → ComparesNoSync txn
-compares-none count quorum (txns.Create info ttl failsafe None) is = tt
-compares-none count quorum (txns.Create info ttl failsafe (Some sync)) is = absurd is
-compares-none count quorum (txns.Touch info ttl) is = tt
-compares-none count quorum (txns.Renew revision info ttl status row failsafe) is = tt
-compares-none count quorum (txns.Release revision) is = tt
-compares-none count quorum (txns.Claim revision sync) is = tt
-compares-none count quorum (txns.SetSync revision sync standbys) is = tt
-compares-none count quorum (txns.DropSync revision sync) is = tt
-compares-none count quorum (txns.SetFailover failover ttl) is = tt
-compares-none count quorum (txns.DropFailover revision) is = tt
-compares-none count quorum (txns.SetConfig revision config) is = tt
+compares-none count quorum (txns.Lease (lease_txns.Create info ttl failsafe None)) is = tt
+compares-none count quorum (txns.Lease (lease_txns.Create info ttl failsafe (Some sync))) is = absurd is
+compares-none count quorum _ is = tt
 
 granted-may : (count quorum : ℕ) (s : State) (m incarnation sequence : ℕ) (txn : Txn)
     → IsSynchronousTxn count quorum txn → IsNumbered (s.members m) incarnation sequence
     → MayBeGranted s m incarnation sequence txn
-granted-may count quorum s m incarnation sequence (txns.Create info ttl failsafe None) is numbered = numbered
-granted-may count quorum s m incarnation sequence (txns.Create info ttl failsafe (Some sync)) is numbered = absurd is
-granted-may count quorum s m incarnation sequence (txns.Renew revision info ttl status row failsafe) is numbered =
+granted-may count quorum s m incarnation sequence (txns.Lease (lease_txns.Create info ttl failsafe None)) is numbered =
     numbered
-granted-may count quorum s m incarnation sequence (txns.DropSync revision sync) is numbered = absurd is
-granted-may count quorum s m incarnation sequence (txns.Touch info ttl) is numbered = tt
-granted-may count quorum s m incarnation sequence (txns.Release revision) is numbered = tt
-granted-may count quorum s m incarnation sequence (txns.Claim revision sync) is numbered = tt
-granted-may count quorum s m incarnation sequence (txns.SetSync revision sync standbys) is numbered = tt
-granted-may count quorum s m incarnation sequence (txns.SetFailover failover ttl) is numbered = tt
-granted-may count quorum s m incarnation sequence (txns.DropFailover revision) is numbered = tt
-granted-may count quorum s m incarnation sequence (txns.SetConfig revision config) is numbered = tt
+granted-may count quorum s m incarnation sequence (txns.Lease (lease_txns.Create info ttl failsafe (Some sync))) is
+    numbered =
+    absurd is
+granted-may count quorum s m incarnation sequence (txns.Lease (lease_txns.Renew revision info ttl status row failsafe))
+    is numbered =
+    numbered
+granted-may count quorum s m incarnation sequence (txns.Sync (sync_txns.DropSync revision sync)) is numbered = absurd is
+granted-may count quorum s m incarnation sequence _ is numbered = tt
 
 module _ (head : HeadText) (book : List Event) (cluster : Cluster) (number : ℕ) (message : InFlightFacts)
     (good : CommitsBridged head book cluster)
@@ -219,11 +211,11 @@ module _ (head : HeadText) (book : List Event) (cluster : Cluster) (number : ℕ
       → decision_on cluster.facts.keys cluster.facts.clock txn ≡ Grant
       → HappensInOrder (past_after (past_of head book) (kinds.Message (Delivered number))) Later
       (kinds.Store (stores.Granted number by txn (published_names cluster.facts.members txn)))
-  grant-ordered (txns.Claim revision sync) is decides =
+  grant-ordered (txns.Sync (sync_txns.Claim revision sync)) is decides =
       claim-named (state_of_run head book cluster) number
       (claim_request by.id.number incarnation sequence revision sync) good.sound
       (request-flying (past_of head book) cluster.facts number message by incarnation sequence
-      (txns.Claim revision sync) good.fits.store.flight found is)
+      (txns.Sync (sync_txns.Claim revision sync)) good.fits.store.flight found is)
       refl
       (sym (claim-decided (past_of head book) cluster.facts by.id.number incarnation sequence revision sync
       good.fits.store.store)

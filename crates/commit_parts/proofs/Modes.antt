@@ -8,6 +8,7 @@ use Rattle.store_keys.specs.declared.key.Key.{Key}
 use Rattle.store_keys.specs.declared.key.Key.TheVariants as keys
 use Rattle.store_keys.specs.declared.txn.Txn.{Txn}
 use Rattle.store_keys.specs.declared.txn.Txn.TheVariants as txns
+use Rattle.store_keys.specs.declared.txn.OperatorTxn.TheVariants as operator_txns
 use Rattle.store_keys.specs.declared.value.KeyEntry.{KeyEntry}
 use Rattle.lease_store.specs.Kept.{IsKept, IsLasting}
 use Rattle.lease_store.specs.KeyOrder.{key_cmp}
@@ -52,7 +53,7 @@ on-present now pairs kept on =
 
 on-set : (revision now : ℕ) (by : MemberId) (txn : Txn) (found : Option KeyEntry) → HasMode true txn
     → SetsConfig IsSynchronousEntry revision now by found txn
-on-set revision now by (txns.SetConfig compared config) found is = is
+on-set revision now by (txns.Operators (operator_txns.SetConfig compared config)) found is = is
 on-set revision now by _ found is = tt
 
 on-granted : (store : Keys) (now : ℕ) (by : MemberId) (txn : Txn) → HasMode true txn

@@ -13,6 +13,7 @@ use Rattle.store_keys.specs.declared.key.Key.{Key}
 use Rattle.store_keys.specs.declared.key.Key.TheVariants as keys
 use Rattle.store_keys.specs.declared.txn.Txn.{Txn}
 use Rattle.store_keys.specs.declared.txn.Txn.TheVariants as txns
+use Rattle.store_keys.specs.declared.txn.SyncTxn.TheVariants as sync_txns
 use Rattle.store_keys.specs.declared.value.KeyEntry.{KeyEntry}
 use Rattle.lease_store.specs.KeyOrder.{key_cmp}
 use Rattle.lease_law.proofs.Runs.{head-is, no-cons, tail-is}
@@ -88,12 +89,12 @@ none-below n = omega arith
 
 strict-granted : (count quorum by revision : ℕ) (sync : Option SyncKey) (txn : Txn) → IsSynchronousTxn count quorum txn
     → NamesMembers count quorum sync → NamesMembers count quorum (sync_after_grant by revision sync txn)
-strict-granted count quorum by revision sync (txns.Claim leader expected) on old =
+strict-granted count quorum by revision sync (txns.Sync (sync_txns.Claim leader expected)) on old =
     λ key is. subst (IsOfQuorum count quorum) (some-is _ key is)
     (record { few = none-below quorum; members = λ n named. absurd (both named) })
-strict-granted count quorum by revision sync (txns.SetSync leader expected standbys) on old =
+strict-granted count quorum by revision sync (txns.Sync (sync_txns.SetSync leader expected standbys may_lack)) on old =
     λ key is. subst (IsOfQuorum count quorum) (some-is _ key is) (record { few = on.1; members = on.0 })
-strict-granted count quorum by revision sync (txns.DropSync leader expected) on old = absurd on
+strict-granted count quorum by revision sync (txns.Sync (sync_txns.DropSync leader expected)) on old = absurd on
 strict-granted count quorum by revision sync _ on old = old
 
 strict-by : (s : State) (count quorum : ℕ) (past : Past) (kind : EventKind) → AsksSynchronously s count quorum kind

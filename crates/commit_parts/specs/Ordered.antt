@@ -2,6 +2,7 @@
 -- at each event that changes the sync key or asks to.
 use Rattle.std.specs.Prelude.{ℕ, List, [], ◌∷◌, Option, Some, slice_get}
 use Rattle.store_keys.specs.declared.txn.Txn.TheVariants as txns
+use Rattle.store_keys.specs.declared.txn.SyncTxn.TheVariants as sync_txns
 use Rattle.script_model.specs.Script.{HeadText}
 use Rattle.event_book.specs.declared.event.Event.{Event}
 use Rattle.event_book.specs.declared.event.EventKind.{EventKind}
@@ -33,9 +34,10 @@ noted_by _ = 0
 -- a member that asks to publish standbys does so in order: each that
 -- it adds is awaited, and has confirmed what it noted
 abbrev pub AsksInOrder : Past → Cluster → LinkEnd → ℕ → ℕ → Body → Type 0
-AsksInOrder past cluster (ends.Member by) incarnation sequence (bodies.Request (txns.SetSync leader sync standbys)) =
+AsksInOrder past cluster (ends.Member by) incarnation sequence
+    (bodies.Request (txns.Sync (sync_txns.SetSync leader sync standbys may_lack))) =
     PublishesAwaited past by.id.number (noted_by (slice_get cluster.agents by.id.number))
-    (publish_request by.id.number incarnation sequence leader sync standbys) (set_members standbys)
+    (publish_request by.id.number incarnation sequence leader sync standbys may_lack) (set_members standbys)
 AsksInOrder past cluster from incarnation sequence body = Unit {0}
 
 -- a claim that is granted found no sync key, or one that names its
@@ -43,7 +45,8 @@ AsksInOrder past cluster from incarnation sequence body = Unit {0}
 abbrev pub HappensInOrder : Past → Cluster → EventKind → Type 0
 HappensInOrder past cluster (kinds.Message (Sent number message)) =
     AsksInOrder past cluster message.from message.incarnation message.sequence message.body
-HappensInOrder past cluster (kinds.Store (stores.Granted number by (txns.Claim leader sync) standbys)) =
+HappensInOrder past cluster
+    (kinds.Store (stores.Granted number by (txns.Sync (sync_txns.Claim leader sync)) standbys)) =
     NamesMember past.sync by.id.number
 HappensInOrder past cluster _ = Unit {0}
 

@@ -11,6 +11,7 @@ use Rattle.store_keys.specs.declared.key.Key.TheVariants as keys
 use Rattle.store_keys.specs.declared.txn.Expected.{Expected}
 use Rattle.store_keys.specs.declared.txn.Expected.TheVariants.{Absent, Revision}
 use Rattle.store_keys.specs.declared.txn.Txn.TheVariants as txns
+use Rattle.store_keys.specs.declared.txn.SyncTxn.TheVariants as sync_txns
 use Rattle.store_keys.specs.declared.value.SyncKey.{SyncKey as StoredSync}
 use Rattle.store_keys.specs.declared.value.Value.{Value}
 use Rattle.lease_store.proofs.Fences.{kept_first}
@@ -118,6 +119,7 @@ awaits-by : (required : Option Required) (n : ℕ) → IsConfirmer (confirmers_o
 awaits-by None n awaited = awaited
 awaits-by (Some requireds.Nobody) n awaited = awaited
 awaits-by (Some requireds.AnyOne) n awaited = awaited
+awaits-by (Some (requireds.AtLeast number of)) n awaited = awaited
 awaits-by (Some (requireds.All members)) n awaited = awaited
 
 reaches-in : (position : ℕ) (found : Option (Option Lsn)) → ReachesSeen position (position_in found)
@@ -147,11 +149,11 @@ ordered-by head book seen = record {
 }
 
 publishes-by : (head : HeadText) (book : List Event) (member incarnation sequence leader noted : ℕ)
-    (sync : Expected) (standbys : MemberSet)
+    (sync : Expected) (standbys : MemberSet) (may_lack : Option ℕ)
     → PublishesAwaited (past_of head book) member noted
-    (publish_request member incarnation sequence leader sync standbys) (set_members standbys)
+    (publish_request member incarnation sequence leader sync standbys may_lack) (set_members standbys)
     → PublishesInOrder (start_in head) book member noted sync standbys
-publishes-by head book member incarnation sequence leader noted sync standbys seen =
+publishes-by head book member incarnation sequence leader noted sync standbys may_lack seen =
     let held = holds head book seen.key seen.is in
     let new = λ (standby : ℕ) (added : has held.held.standbys standby ≡ false).
     ap (λ (f : ℕ → Bool). f standby) (sym held.standbys) ∙ added in
@@ -197,9 +199,13 @@ order-by-book head book seen = record {
   claims = λ front back tick number leader by sync names whole.
       named-by head front by.id.number
       (at-event head book seen front back
-      (record { tick = tick; kind = kinds.Store (stores.Granted number by (txns.Claim leader sync) names) }) whole);
-  publishes = λ front back tick number incarnation sequence leader by to sync standbys whole.
-      publishes-by head front by.id.number incarnation sequence leader (noted_in head front by.id.number) sync standbys
+      (record {
+        tick = tick;
+        kind = kinds.Store (stores.Granted number by (txns.Sync (sync_txns.Claim leader sync)) names);
+      }) whole);
+  publishes = λ front back tick number incarnation sequence leader by to sync standbys may_lack whole.
+      publishes-by head front by.id.number incarnation sequence leader
+      (noted_in head front by.id.number) sync standbys may_lack
       (at-event head book seen front back
       (record {
         tick = tick;
@@ -208,7 +214,7 @@ order-by-book head book seen = record {
           to = to;
           incarnation = incarnation;
           sequence = sequence;
-          body = bodies.Request (txns.SetSync leader sync standbys);
+          body = bodies.Request (txns.Sync (sync_txns.SetSync leader sync standbys may_lack));
         }));
       }) whole);
 }

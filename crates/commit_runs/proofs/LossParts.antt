@@ -59,17 +59,17 @@ pub none-if : (cluster : Cluster) (found : Option EventKind) → HoldsIf LosesNo
     → AllAre LosesNone (events_of cluster (kinds_of found))
 none-if cluster found is = all-kinds LosesNone cluster (kinds_of found) (one-kind LosesNone found is)
 
-pub holds-cond : (test : Bool) (first second : Option EventKind) → HoldsIf LosesNone first
+holds-cond : (test : Bool) (first second : Option EventKind) → HoldsIf LosesNone first
     → HoldsIf LosesNone second → HoldsIf LosesNone (cond test first second)
 holds-cond true first second a b = a
 holds-cond false first second a b = b
 
-pub kind-cond : (test : Bool) (first second : EventKind) → LosesNone first → LosesNone second
+kind-cond : (test : Bool) (first second : EventKind) → LosesNone first → LosesNone second
     → LosesNone (cond test first second)
 kind-cond true first second a b = a
 kind-cond false first second a b = b
 
-pub holds-mapped : {X : Type 0} (found : Option X) (change : X → EventKind) → ((x : X) → LosesNone (change x))
+holds-mapped : {X : Type 0} (found : Option X) (change : X → EventKind) → ((x : X) → LosesNone (change x))
     → HoldsIf LosesNone (option_map change found)
 holds-mapped None change all = tt
 holds-mapped (Some x) change all = all x
@@ -79,7 +79,7 @@ lost-none : (cluster : Cluster) (test : Bool) (number : ℕ)
 lost-none cluster true number = (tt, tt)
 lost-none cluster false number = tt
 
-pub sends-none : (cluster : Cluster) (message : Message) → AllAre LosesNone (send_events cluster message)
+sends-none : (cluster : Cluster) (message : Message) → AllAre LosesNone (send_events cluster message)
 sends-none cluster message = (tt, lost-none _ _ _)
 
 -- ---- a tick

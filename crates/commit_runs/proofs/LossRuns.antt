@@ -1,15 +1,14 @@
 -- Each run tells the first loss of an acknowledged commit behind the event that brings it.
-use Rattle.std.proofs.Common.{ℕ, ◌≡◌, ◌≤◌, ◌++◌, ◌==◌, ◌&&◌, ◌||◌, Bool, true, false, cond, if◌then◌else◌, List, [], ◌∷◌, length, slice_get, Option, Some, None, option_and_then, option_map, refl, sym}
+use Rattle.std.proofs.Common.{◌≡◌, ◌≤◌, ◌++◌, ◌||◌, Bool, true, false, if◌then◌else◌, List, [], length, slice_get, Option, Some, None, option_and_then, refl, sym}
 use Rattle.std.proofs.lemmas.List.{length-replicate}
 use Rattle.pat_base.specs.declared.server_state.State.{State}
 use Rattle.pat_base.specs.declared.server_state.State.TheVariants as states
 use Rattle.pat_base.specs.ServerState.{live}
 use Rattle.store_keys.specs.declared.action.OperatorAction.{OperatorAction}
-use Rattle.pg_model.specs.Facts.{ServerFacts, is_creating, is_down, is_replica, is_up, fresh}
-use Rattle.pg_model.specs.Running.{is_primary, stopped}
+use Rattle.pg_model.specs.Facts.{ServerFacts, is_creating, fresh}
+use Rattle.pg_model.specs.Running.{stopped}
 use Rattle.cluster_model.specs.declared.step.Step.{Step}
 use Rattle.script_model.specs.Script.{HeadText, IsHead, names_of}
-use Rattle.event_book.specs.declared.agent_process.AgentProcess.{AgentProcess}
 use Rattle.event_book.specs.declared.event.AgentEvent.TheVariants.{Operated, Woken}
 use Rattle.event_book.specs.declared.event.Event.{Event}
 use Rattle.event_book.specs.declared.event.EventKind.{EventKind}
@@ -17,16 +16,14 @@ use Rattle.event_book.specs.declared.event.EventKind.TheVariants as kinds
 use Rattle.event_book.specs.declared.event.LogEvent.TheVariants as logs
 use Rattle.event_book.specs.declared.event.MessageEvent.TheVariants.{Delivered}
 use Rattle.event_book.specs.declared.event.ServerEvent.TheVariants as servers
-use Rattle.event_book.specs.declared.link.LinkEnd.{LinkEnd}
 use Rattle.event_book.specs.declared.member.Member.{Member}
-use Rattle.event_book.specs.declared.message.Body.{Body}
-use Rattle.event_book.specs.declared.message.Body.TheVariants as bodies
 use Rattle.event_book.specs.Members.{server_of}
 use Rattle.agent_model.specs.declared.heard.Heard.TheVariants.{Operated as HearsOperator, Wake}
 use Rattle.agent_model.specs.declared.output.Output.{Output}
 use Rattle.agent_model.specs.declared.output.Output.TheVariants as outputs
-use Rattle.agent_model.specs.declared.output.Target.TheVariants as targets
+use Rattle.agent_model.specs.declared.output.ServerOrder.TheVariants as orders
 use Rattle.agent_model.specs.Agents.{Outcome}
+use Rattle.agent_model.specs.declared.output.ServerOrder.{ServerOrder}
 use Rattle.cluster_model.specs.declared.beginning.Beginning.{Beginning}
 use Rattle.cluster_model.specs.declared.beginning.Beginning.TheVariants as beginnings
 use Rattle.cluster_model.specs.declared.heard_message.HeardMessage.{HeardMessage}
@@ -34,15 +31,14 @@ use Rattle.cluster_model.specs.Beginnings.{again_by, beginning_of, kinds_by, ser
 use Rattle.cluster_model.specs.Cluster.{cluster_after}
 use Rattle.cluster_model.specs.Commands.{kinds_of}
 use Rattle.cluster_model.specs.Hearing.{heard_from}
-use Rattle.cluster_model.specs.Inputs.{agent_at, outcome_of, outcome_of_heard, outputs_of}
-use Rattle.cluster_model.specs.Messages.{agent_message, heard_message, input_events, no_message, output_events, receiver_of, replying_events, sending_events, server_order_events}
+use Rattle.cluster_model.specs.Inputs.{outcome_of, outcome_of_heard, outputs_of}
+use Rattle.cluster_model.specs.Messages.{heard_message, input_events, no_message, output_events, feeding_kinds, order_events, telling_kind}
 use Rattle.cluster_model.specs.Next.{run_events}
-use Rattle.cluster_model.specs.Orders.{declared_member, following_of, hold_taken, is_same_required, repair_over, replica_start_kinds, require_of, server_at, stop_kind, stop_kinds, stop_of, upstream_of, wipe_of}
+use Rattle.cluster_model.specs.Orders.{repair_over, server_at, wipe_of}
 use Rattle.cluster_model.specs.Parts.{event_of, events_of}
 use Rattle.cluster_model.specs.Starting.{cluster_of}
-use Rattle.cluster_model.specs.Requests.{action_of, told_kind}
+use Rattle.cluster_model.specs.Requests.{action_of}
 use Rattle.cluster_model.specs.State.{Cluster}
-use Rattle.event_book.specs.Kinds.{AllAre}
 use Rattle.commit_servers.specs.Happening.{MayFollow}
 use Rattle.commit_servers.proofs.Matching.{same-first}
 use Rattle.commit_servers.proofs.Repairing.{repair-follow}
@@ -50,9 +46,10 @@ use Rattle.run_promise.specs.Members.{IsDeclared}
 use Rattle.run_promise.specs.Parts.{PartsUphold}
 use Rattle.run_promise.specs.Promise.{Upholds, UpholdsAlways}
 use Rattle.lease_model.proofs.Tools.{both}
-use Rattle.cluster_model.proofs.Founds.{holds-if, holds-then, repaired-holds, told-holds}
+use Rattle.cluster_model.proofs.Founds.{repaired-holds}
 use Rattle.lease_inputs.proofs.InputStays.{item-here}
-use Rattle.cluster_model.proofs.Lists.{HoldsIf}
+use Rattle.cluster_model.proofs.Lists.{HoldsIf, all-kinds}
+use Rattle.cluster_model.proofs.Outputs.{HoldsOfOrder, LetsBegin, LetsRepair, feeding-holds, kind-holds, message-holds, noting-holds, order-holds, required-holds, telling-holds}
 use Rattle.run_promise.proofs.Upholding.{upheld-for_some, upheld-none, upheld-then, upholds-all}
 use Rattle.run_promise.proofs.Walking.{upholds-run}
 use Rattle.summary_model.specs.Telling.{TellLosses}
@@ -60,7 +57,7 @@ use Rattle.commit_runs.specs.Runs.{first_logs}
 use Rattle.run_promise.proofs.Members.{few-names, declared-in}
 use Rattle.commit_runs.proofs.Losses.{LosesNone, TellsSoFar, composable, losses_told, upheld-loseless}
 use Rattle.commit_runs.proofs.LossGroups.{IsRepair, upheld-acknowledge, upheld-begun, upheld-repair}
-use Rattle.commit_runs.proofs.LossParts.{holds-cond, holds-mapped, kind-cond, none-if, sends-none, upheld-arrival, upholds-command, upholds-promote, upholds-receive, upholds-restart, upholds-tick}
+use Rattle.commit_runs.proofs.LossParts.{upheld-arrival, upholds-command, upholds-promote, upholds-receive, upholds-restart, upholds-tick}
 use Rattle.pat_base.specs.declared.member_id.TheConstants.{MOST_MEMBERS}
 
 not-or : (a b : Bool) → (a || b) ≡ false → b ≡ false
@@ -68,40 +65,22 @@ not-or true b e = absurd (both (sym e))
 not-or false b e = e
 
 -- ---- the orders of agents
-follow-none : (member : Member) (leader : Option Member) → HoldsIf LosesNone (following_of member leader)
-follow-none member None = tt
-follow-none member (Some leader) = tt
-
-stop-none : (member : Member) (s : ServerFacts) → HoldsIf LosesNone (stop_of member s)
-stop-none member s =
-    holds-if LosesNone (is_up s.state) (stop_kind member s.state s.stop_delay)
-    (kind-cond (is_primary s.state && s.stop_delay.0 == 0) (kinds.Server (servers.Ended (server_of member)))
-    (kinds.Server (servers.Stops (server_of member))) tt tt)
-
-order-none : (cluster : Cluster) (member : Member) (order : ServerFacts → Option EventKind)
-    → ((s : ServerFacts) → HoldsIf LosesNone (order s)) → AllAre LosesNone (server_order_events cluster member order)
-order-none cluster member order all = none-if cluster (option_and_then order (server_at cluster member))
-    (holds-then LosesNone order (server_at cluster member) all)
-
-sending-none : (cluster : Cluster) (member : Member) (found : Option AgentProcess) (to : Option LinkEnd)
-    (sequence : ℕ) (body : Body) → AllAre LosesNone (sending_events cluster member found to sequence body)
-sending-none cluster member None to sequence body = tt
-sending-none cluster member (Some process) None sequence body = tt
-sending-none cluster member (Some process) (Some to) sequence body =
-    sends-none cluster (agent_message member to process.incarnation sequence body)
-
-replying-none : (cluster : Cluster) (member : Member) (to : Option LinkEnd) (incarnation sequence : ℕ) (body : Body)
-    → AllAre LosesNone (replying_events cluster member to incarnation sequence body)
-replying-none cluster member None incarnation sequence body = tt
-replying-none cluster member (Some to) incarnation sequence body =
-    sends-none cluster (agent_message member to incarnation sequence body)
-
-started-none : (cluster : Cluster) (member : Member) (leader : Option Member) (test : Bool)
-    → AllAre LosesNone
-    (events_of cluster
-    (cond test (kinds.Server (servers.StartsAsReplica (server_of member)) ∷ kinds_of (following_of member leader)) []))
-started-none cluster member leader true = (tt, none-if _ (following_of member leader) (follow-none member leader))
-started-none cluster member leader false = tt
+-- none loses a commit that neither lets a server begin nor changes its log
+orders-none : (member : Member) (order : ServerOrder) → (LetsBegin order → ⊥) → (LetsRepair order → ⊥)
+    → HoldsOfOrder LosesNone member order
+orders-none member order never stays = record {
+  begins = λ is timeline. never is;
+  lacks = λ is. never is;
+  starts_as_primary = λ is. tt;
+  starts_as_replica = tt;
+  follows = λ leader. tt;
+  says = λ reason. tt;
+  ends = λ is. tt;
+  stops = λ is. tt;
+  wiped = λ is. stays is;
+  rewound = λ is leader r. stays is;
+  copied = λ is leader. stays is;
+}
 
 module _ (head : HeadText) where
   begins-upheld : (book : List Event) (cluster : Cluster) (member : Member) (s : ServerFacts) (found : Option Beginning)
@@ -157,72 +136,61 @@ module _ (head : HeadText) where
   again-upheld book cluster member s states.Replica good is = upheld-loseless head book cluster _ good (tt, tt)
   again-upheld book cluster member s _ good is = upheld-none (losses_told head) (composable head) book cluster good
 
-  -- an output
-  upholds-output : (member : Member) (heard : HeardMessage) (output : Output)
-      → UpholdsAlways (losses_told head) (λ cluster. output_events member heard cluster output)
-  upholds-output member heard (outputs.Send to sequence body) book cluster good =
-      upheld-loseless head book cluster _ good
-      (sending-none cluster member (slice_get cluster.facts.processes member.id.number)
-      (receiver_of cluster.facts.members to) sequence body)
-  upholds-output member heard (outputs.Answer to incarnation sequence answer) book cluster good =
-      upheld-loseless head book cluster _ good
-      (replying-none cluster member
-      (receiver_of cluster.facts.members (targets.Member to)) incarnation sequence (bodies.Answer answer))
-  upholds-output member heard (outputs.FailsafeAnswer to incarnation sequence accepted) book cluster good =
-      upheld-loseless head book cluster _ good
-      (replying-none cluster member (receiver_of cluster.facts.members (targets.Member to)) incarnation sequence
-      (bodies.FailsafeAnswer accepted))
-  upholds-output member heard outputs.Begin book cluster good =
+  -- an order, and any output
+  upholds-mild : (member : Member) (book : List Event) (cluster : Cluster) (order : ServerOrder)
+      → (LetsBegin order → ⊥) → (LetsRepair order → ⊥) → TellsSoFar head book cluster
+      → Upholds (losses_told head) book cluster (order_events cluster member order)
+  upholds-mild member book cluster order never stays good = upheld-loseless head book cluster _ good
+      (order-holds LosesNone cluster member order (orders-none member order never stays))
+
+  upholds-order : (member : Member) (book : List Event) (cluster : Cluster) (order : ServerOrder)
+      → TellsSoFar head book cluster → Upholds (losses_told head) book cluster (order_events cluster member order)
+  upholds-order member book cluster orders.Begin good =
       upheld-for_some (losses_told head) (composable head) book cluster (server_at cluster member) _ good
       (λ s is. begins-upheld book cluster member s (beginning_of s) good is)
-  upholds-output member heard (outputs.StartReplica leader) book cluster good =
-      upheld-for_some (losses_told head) (composable head) book cluster (server_at cluster member)
-      (λ s. events_of cluster (replica_start_kinds member (declared_member cluster.facts.members leader) s)) good
-      (λ s is. upheld-loseless head book cluster _ good
-      (started-none cluster member (declared_member cluster.facts.members leader) (is_down s.state)))
-  upholds-output member heard (outputs.Stop reason) book cluster good =
-      upheld-for_some (losses_told head) (composable head) book cluster (server_at cluster member)
-      (λ s. events_of cluster (stop_kinds member reason s)) good
-      (λ s is. upheld-loseless head book cluster _ good (tt, none-if _ (stop_of member s) (stop-none member s)))
-  upholds-output member heard outputs.ShutDown book cluster good =
-      upheld-loseless head book cluster _ good (order-none cluster member (stop_of member) (stop-none member))
-  upholds-output member heard (outputs.Restart as_primary) book cluster good =
+  upholds-order member book cluster (orders.Restart as_primary) good =
       upheld-for_some (losses_told head) (composable head) book cluster (server_at cluster member) _ good
       (λ s is. again-upheld book cluster member s s.state good is)
-  upholds-output member heard outputs.Wipe book cluster good =
+  upholds-order member book cluster orders.Wipe good =
       wiped-upheld book cluster member (server_at cluster member) good refl
-  upholds-output member heard (outputs.Follow leader) book cluster good =
-      let found = slice_get cluster.facts.members leader.number in
-      upheld-loseless head book cluster _ good
-      (order-none cluster member (upstream_of member found)
-      (λ s. holds-cond (is_replica s.state) (following_of member found) None (follow-none member found) tt))
-  upholds-output member heard (outputs.Repair leader repair) book cluster good =
+  upholds-order member book cluster (orders.Repair leader repair) good =
       let found = slice_get cluster.facts.members leader.number in
       repaired-upheld book cluster
       (option_and_then (repair_over cluster.facts.cuts cluster.facts.servers member repair) found) good
       (repaired-holds IsRepair cluster.facts.cuts cluster.facts.servers member repair found (λ other r. tt)
       (λ other. tt))
       (repair-follow cluster member repair found)
+  upholds-order member book cluster order good = upholds-mild member book cluster order (λ is. is) (λ is. is) good
+
+  upholds-output : (member : Member) (heard : HeardMessage) (output : Output)
+      → UpholdsAlways (losses_told head) (λ cluster. output_events member heard cluster output)
+  upholds-output member heard (outputs.Server order) book cluster good = upholds-order member book cluster order good
+  upholds-output member heard (outputs.Message written) book cluster good =
+      upheld-loseless head book cluster _ good
+      (message-holds LosesNone cluster member
+      (record { sent = λ target to found incarnation sequence body. tt; lost = tt }) written)
+  upholds-output member heard (outputs.Watchdog fed) book cluster good =
+      upheld-loseless head book cluster _ good
+      (all-kinds LosesNone cluster (feeding_kinds member heard fed)
+      (feeding-holds LosesNone cluster member heard (record {
+        measured = λ since. tt;
+        armed = λ until answer. tt;
+        fed = λ until basis. tt;
+        disarmed = tt;
+      }) fed))
   upholds-output member heard (outputs.Require required) book cluster good =
+      upheld-loseless head book cluster _ good (required-holds LosesNone cluster member required tt)
+  upholds-output member heard (outputs.Tell telling) book cluster good =
       upheld-loseless head book cluster _ good
-      (order-none cluster member (require_of cluster.facts.members member required)
-      (λ s. holds-cond (is_same_required s.required required) None _ tt tt))
-  upholds-output member heard (outputs.Armed until) book cluster good =
-      upheld-loseless head book cluster _ good (tt, (tt, tt))
-  upholds-output member heard (outputs.Fed until) book cluster good =
-      upheld-loseless head book cluster _ good (tt, (tt, tt))
-  upholds-output member heard (outputs.FedByFailsafe until members sequence since) book cluster good =
-      upheld-loseless head book cluster _ good (tt, (tt, tt))
-  upholds-output member heard (outputs.Told request told) book cluster good =
-      let agent = agent_at cluster.agents member.id.number in
+      (kind-holds LosesNone cluster member (telling_kind cluster member heard telling)
+      (telling-holds LosesNone cluster member heard telling (record {
+        answers = λ is reply. tt;
+        holds = λ until incarnation sequence from. tt;
+        passes = λ is. tt;
+      })))
+  upholds-output member heard (outputs.Note noting) book cluster good =
       upheld-loseless head book cluster _ good
-      (none-if cluster (told_kind member agent told) (told-holds LosesNone member agent told (λ reply. tt)))
-  upholds-output member heard (outputs.HoldTaken until from sequence) book cluster good =
-      let found = slice_get cluster.facts.members from.number in
-      let hold = hold_taken member until heard.incarnation sequence in
-      upheld-loseless head book cluster _ good
-      (none-if cluster (option_map hold found) (holds-mapped found hold (λ m. tt)))
-  upholds-output member heard _ book cluster good = upheld-loseless head book cluster _ good (tt, tt)
+      (noting-holds LosesNone cluster member (record { agent = λ note about. tt; stays = tt }) noting, tt)
 
   -- what an agent does behind an event
   input-upheld : (book : List Event) (cluster : Cluster) (kind : EventKind) (member : Member)

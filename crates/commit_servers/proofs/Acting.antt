@@ -94,6 +94,7 @@ met-by : (member_count : ℕ) (required : Required) (end : Lsn) (position : ℕ)
     → Meets member_count (confirmers_in required) (λ n. Reaches position (position_in (slice_get confirmed n)))
 met-by member_count requireds.Nobody end position confirmed long members is met = tt
 met-by member_count requireds.AnyOne end position confirmed long members is met = tt
+met-by member_count (requireds.AtLeast number of) end position confirmed long members is met = tt
 met-by member_count (requireds.All set) end position confirmed long members is met = λ n within.
     let bit : bit_at set.bits n ≡ 1 = in-set (bit_at set.bits n) within in
     let few : n < length confirmed = omega (arith, members n bit, long) in

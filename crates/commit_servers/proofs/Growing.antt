@@ -64,6 +64,7 @@ listed-is : (before : Required) (members : MemberSet)
     → set_members members n ≡ true → set_members (listed before) n ≡ true
 listed-is requireds.Nobody members inside n is = absurd (both (inside n is))
 listed-is requireds.AnyOne members inside n is = absurd (both (inside n is))
+listed-is (requireds.AtLeast number of) members inside n is = absurd (both (inside n is))
 listed-is (requireds.All before) members inside n is = inside n is
 
 not-nobody : (members : ℕ → Bool) → All members ≡ Nobody → ⊥
@@ -84,6 +85,7 @@ sets-by : (found : Option Required) (required : Required) (log later : Option (L
 sets-by None required log later end was is = Empties refl
 sets-by (Some before) requireds.Nobody log later end was is = Empties refl
 sets-by (Some before) requireds.AnyOne log later end was is = Empties refl
+sets-by (Some before) (requireds.AtLeast number of) log later end was is = Empties refl
 sets-by (Some before) (requireds.All members) log later end was is =
     names-by before members log later end was (is_within members (listed before)) is refl
 

@@ -43,6 +43,8 @@ confirmers-awaits member_count quorum standbys standby requireds.Nobody none sma
     absurd (none-counted member_count quorum standbys standby none small is overlaps)
 confirmers-awaits member_count quorum standbys standby requireds.AnyOne none small is overlaps =
     absurd (none-counted member_count quorum standbys standby none small is overlaps)
+confirmers-awaits member_count quorum standbys standby (requireds.AtLeast number of) none small is overlaps =
+    absurd (none-counted member_count quorum standbys standby none small is overlaps)
 confirmers-awaits member_count quorum standbys standby (requireds.All members) none small is overlaps =
     overlaps standby is
 

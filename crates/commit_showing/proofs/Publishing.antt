@@ -21,6 +21,7 @@ meets-in : (member_count : ℕ) (required : Required) (X : ℕ → Type 0) (stan
     → IsConfirmer (confirmers_in required) standby → Meets member_count (confirmers_in required) X → X standby
 meets-in member_count requireds.Nobody X standby awaited met = absurd awaited
 meets-in member_count requireds.AnyOne X standby awaited met = absurd awaited
+meets-in member_count (requireds.AtLeast number of) X standby awaited met = absurd awaited
 meets-in member_count (requireds.All members) X standby awaited met = met standby awaited
 
 meets-one : (member_count : ℕ) (required : Option Required) (X : ℕ → Type 0) (standby : ℕ)

@@ -5,6 +5,8 @@ use Rattle.pat_base.specs.declared.lsn.Lsn.{Lsn}
 use Rattle.pat_base.specs.declared.server_state.Required.{Required}
 use Rattle.store_keys.specs.declared.txn.Txn.{Txn}
 use Rattle.store_keys.specs.declared.txn.Txn.TheVariants as txns
+use Rattle.store_keys.specs.declared.txn.LeaseTxn.TheVariants as lease_txns
+use Rattle.store_keys.specs.declared.txn.SyncTxn.TheVariants as sync_txns
 use Rattle.event_book.specs.declared.event.EventKind.{EventKind}
 use Rattle.event_book.specs.declared.event.EventKind.TheVariants as kinds
 use Rattle.event_book.specs.declared.event.MessageEvent.TheVariants as messages
@@ -43,17 +45,24 @@ is-same m n e = grind (arith, nat_tests)
 txn-live : (live : Bool) (leader : Option LeaderKey) (by incarnation sequence : ℕ) (txn : Txn) (m r : ℕ)
     (key : LeaderKey) → query_of by incarnation sequence txn ≡ CarryQuery m r → leader ≡ Some key
     → key.holder ≡ m → was_live_by_txn live leader by txn ≡ true
-txn-live live leader by incarnation sequence (txns.Renew revision info ttl status row (Some members)) m r key e is
+txn-live live leader by incarnation sequence
+    (txns.Lease (lease_txns.Renew revision info ttl status row (Some members))) m r key e is
     mine =
     or-second live (is_holder leader by)
     (ap (λ (l : Option LeaderKey). is_holder l by) is
     ∙ is-same key.holder by (mine ∙ sym (carry-member by revision m r e)))
-txn-live live leader by incarnation sequence (txns.Renew revision info ttl status row None) m r key e is mine =
+txn-live live leader by incarnation sequence (txns.Lease (lease_txns.Renew revision info ttl status row None)) m r key e
+    is mine =
     absurd cc
-txn-live live leader by incarnation sequence (txns.Create info ttl failsafe None) m r key e is mine = absurd cc
-txn-live live leader by incarnation sequence (txns.Create info ttl failsafe (Some sync)) m r key e is mine = absurd cc
-txn-live live leader by incarnation sequence (txns.Claim revision sync) m r key e is mine = absurd cc
-txn-live live leader by incarnation sequence (txns.SetSync revision sync standbys) m r key e is mine = absurd cc
+txn-live live leader by incarnation sequence (txns.Lease (lease_txns.Create info ttl failsafe None)) m r key e is mine =
+    absurd cc
+txn-live live leader by incarnation sequence (txns.Lease (lease_txns.Create info ttl failsafe (Some sync))) m r key e is
+    mine =
+    absurd cc
+txn-live live leader by incarnation sequence (txns.Sync (sync_txns.Claim revision sync)) m r key e is mine = absurd cc
+txn-live live leader by incarnation sequence (txns.Sync (sync_txns.SetSync revision sync standbys may_lack)) m r key e
+    is mine =
+    absurd cc
 txn-live live leader by incarnation sequence _ m r key e is mine = absurd (other-carry m r e)
 
 sent-live : (live : Bool) (leader : Option LeaderKey) (from : LinkEnd) (incarnation sequence : ℕ)
@@ -67,9 +76,9 @@ sent-live live leader ends.Store incarnation sequence body m r key e is mine = a
 -- what was so stays so
 txn-stays : (live : Bool) (leader : Option LeaderKey) (m : ℕ) (txn : Txn) → live ≡ true
     → was_live_by_txn live leader m txn ≡ true
-txn-stays live leader m (txns.Renew revision info ttl status row (Some members)) e =
+txn-stays live leader m (txns.Lease (lease_txns.Renew revision info ttl status row (Some members))) e =
     or-first live (is_holder leader m) e
-txn-stays live leader m (txns.Renew revision info ttl status row None) e = e
+txn-stays live leader m (txns.Lease (lease_txns.Renew revision info ttl status row None)) e = e
 txn-stays live leader m _ e = e
 
 sent-stays : (live : Bool) (leader : Option LeaderKey) (from : LinkEnd) (body : Body) → live ≡ true
@@ -89,28 +98,24 @@ granted-live : (past : Past) (by : ℕ) (txn : Txn) (i m r : ℕ) (key : LeaderK
     → past.asked i ≡ CarryQuery m r
     → leader_granted past.lease.clock past.lease.revision past.lease.leader by (lease_query_of txn) ≡ Some key
     → key.revision ≡ r → key.holder ≡ m → was_live_by_grant past.holder_was_live txn ≡ true
-granted-live past by (txns.Create info ttl failsafe sync) i m r key old asked is same mine = absurd (omega (
-  arith,
-  ap (λ (x : LeaderKey). x.revision)
-      (some-is (record { holder = by; revision = past.lease.revision + 1; expiry = past.lease.clock + ttl.0 }) key is),
-  same,
-  old.given i m r asked,
-))
-granted-live past by (txns.Renew revision info ttl status row failsafe) i m r key old asked is same mine = absurd
+granted-live past by (txns.Lease (lease_txns.Create info ttl failsafe sync)) i m r key old asked is same mine =
+    absurd (omega (
+      arith,
+      ap (λ (x : LeaderKey). x.revision)
+          (some-is (record { holder = by; revision = past.lease.revision + 1; expiry = past.lease.clock + ttl.0 })
+          key is),
+      same,
+      old.given i m r asked,
+    ))
+granted-live past by (txns.Lease (lease_txns.Renew revision info ttl status row failsafe)) i m r key old asked is same
+    mine =
+    absurd
     (renewed-later past.lease.clock past.lease.revision ttl.0 r past.lease.leader key is same (old.given i m r asked))
-granted-live past by (txns.Release revision) i m r key old asked is same mine = absurd (none-some key is)
+granted-live past by (txns.Lease (lease_txns.Release revision)) i m r key old asked is same mine =
+    absurd (none-some key is)
 granted-live past by (txns.Touch info ttl) i m r key old asked is same mine = old.live i m r key asked is same mine
-granted-live past by (txns.Claim revision sync) i m r key old asked is same mine = old.live i m r key asked is same mine
-granted-live past by (txns.SetSync revision sync standbys) i m r key old asked is same mine =
-    old.live i m r key asked is same mine
-granted-live past by (txns.DropSync revision sync) i m r key old asked is same mine =
-    old.live i m r key asked is same mine
-granted-live past by (txns.SetFailover failover ttl) i m r key old asked is same mine =
-    old.live i m r key asked is same mine
-granted-live past by (txns.DropFailover revision) i m r key old asked is same mine =
-    old.live i m r key asked is same mine
-granted-live past by (txns.SetConfig revision config) i m r key old asked is same mine =
-    old.live i m r key asked is same mine
+granted-live past by (txns.Sync txn) i m r key old asked is same mine = old.live i m r key asked is same mine
+granted-live past by (txns.Operators txn) i m r key old asked is same mine = old.live i m r key asked is same mine
 
 pub carried-each : (past : Past) (kind : EventKind) → ComparesGiven past kind → AreCarriedLive past
     → AreCarriedLive (past_after past kind)

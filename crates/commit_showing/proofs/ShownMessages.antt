@@ -11,11 +11,12 @@ use Rattle.store_keys.specs.declared.key.Key.{Key}
 use Rattle.store_keys.specs.declared.txn.Expected.{Expected}
 use Rattle.store_keys.specs.declared.txn.Txn.{Txn}
 use Rattle.store_keys.specs.declared.txn.Txn.TheVariants as txns
+use Rattle.store_keys.specs.declared.txn.LeaseTxn.TheVariants as lease_txns
+use Rattle.store_keys.specs.declared.txn.SyncTxn.TheVariants as sync_txns
 use Rattle.store_keys.specs.declared.txn_kind.TxnKind.{TxnKind}
 use Rattle.wal_model.specs.Log.{end_of}
 use Rattle.pg_model.specs.Facts.{entries_of}
 use Rattle.event_book.specs.declared.event.EventKind.TheVariants as kinds
-use Rattle.event_book.specs.declared.event.LogEvent.TheVariants as logs
 use Rattle.event_book.specs.declared.event.MessageEvent.TheVariants as messages
 use Rattle.event_book.specs.declared.event.StoreEvent.TheVariants as stores
 use Rattle.event_book.specs.declared.link.LinkEnd.TheVariants as ends
@@ -82,13 +83,13 @@ pub claim-shown : (setup : Setup) (past : Past) (volatile_states : ℕ → Volat
     (claim_request by.id.number incarnation sequence revision sync) ≡ true →
     IsShown setup past volatile_states (record {
       action = Decide i j;
-      events = granted_events tick i j by incarnation sequence (txns.Claim revision sync) standbys;
+      events = granted_events tick i j by incarnation sequence (txns.Sync (sync_txns.Claim revision sync)) standbys;
       volatile_states = volatile_states;
     })
 claim-shown setup past volatile_states tick i j by incarnation sequence revision sync standbys at asked granted =
     let w : SyncRequest = claim_request by.id.number incarnation sequence revision sync in
     let mid : Past = past_after (past_after past (kinds.Message (messages.Delivered i)))
-    (kinds.Store (stores.Granted i by (txns.Claim revision sync) standbys)) in
+    (kinds.Store (stores.Granted i by (txns.Sync (sync_txns.Claim revision sync)) standbys)) in
     ap (λ (q : Query). record (state_of setup past volatile_states) {
       sync = mid.sync;
       revision = past.lease.revision + 1;
@@ -97,20 +98,24 @@ claim-shown setup past volatile_states tick i j by incarnation sequence revision
     ∙ sym (decided-is (state_of setup past volatile_states) i j w true at granted)
 
 pub publish-shown : (setup : Setup) (past : Past) (volatile_states : ℕ → VolatileState) (tick : Ticks) (i j : ℕ)
-    (by : Member) (incarnation sequence revision : ℕ) (sync : Expected) (set : MemberSet) (standbys : List Name) →
-    past.flight i ≡ Some (Requested (publish_request by.id.number incarnation sequence revision sync set))
-    → past.asked i ≡ SyncQuery (publish_request by.id.number incarnation sequence revision sync set)
+    (by : Member) (incarnation sequence revision : ℕ) (sync : Expected) (set : MemberSet)
+    (may_lack : Option ℕ) (standbys : List Name) →
+    past.flight i ≡ Some (Requested (publish_request by.id.number incarnation sequence revision sync set may_lack))
+    → past.asked i ≡ SyncQuery (publish_request by.id.number incarnation sequence revision sync set may_lack)
     → is_granted (leader_revision past.lease.leader) past.sync
-    (publish_request by.id.number incarnation sequence revision sync set) ≡ true →
+    (publish_request by.id.number incarnation sequence revision sync set may_lack) ≡ true →
     IsShown setup past volatile_states (record {
       action = Decide i j;
-      events = granted_events tick i j by incarnation sequence (txns.SetSync revision sync set) standbys;
+      events =
+          granted_events tick i j by incarnation sequence
+          (txns.Sync (sync_txns.SetSync revision sync set may_lack)) standbys;
       volatile_states = volatile_states;
     })
-publish-shown setup past volatile_states tick i j by incarnation sequence revision sync set standbys at asked granted =
-    let w : SyncRequest = publish_request by.id.number incarnation sequence revision sync set in
+publish-shown setup past volatile_states tick i j by incarnation sequence revision sync set may_lack standbys at asked
+    granted =
+    let w : SyncRequest = publish_request by.id.number incarnation sequence revision sync set may_lack in
     let mid : Past = past_after (past_after past (kinds.Message (messages.Delivered i)))
-    (kinds.Store (stores.Granted i by (txns.SetSync revision sync set) standbys)) in
+    (kinds.Store (stores.Granted i by (txns.Sync (sync_txns.SetSync revision sync set may_lack)) standbys)) in
     ap (λ (q : Query). record (state_of setup past volatile_states) {
       sync = mid.sync;
       revision = past.lease.revision + 1;
@@ -125,12 +130,13 @@ pub create-shown : (setup : Setup) (past : Past) (volatile_states : ℕ → Vola
     past.flight i ≡ None → past.asked i ≡ LeaseQuery →
     IsShown setup past volatile_states (record {
       action = Create by.id.number incarnation sequence j;
-      events = granted_events tick i j by incarnation sequence (txns.Create info ttl failsafe None) standbys;
+      events = granted_events tick i j by incarnation sequence
+          (txns.Lease (lease_txns.Create info ttl failsafe None)) standbys;
       volatile_states = volatile_states;
     })
 create-shown setup past volatile_states tick i j by incarnation sequence info ttl failsafe standbys none asked =
     let mid : Past = past_after (past_after past (kinds.Message (messages.Delivered i)))
-    (kinds.Store (stores.Granted i by (txns.Create info ttl failsafe None) standbys)) in
+    (kinds.Store (stores.Granted i by (txns.Lease (lease_txns.Create info ttl failsafe None)) standbys)) in
     let leased : (ℕ → Option Flying) → Query → State = λ f q. record (state_of setup past volatile_states) {
       leader = Some (past.lease.revision + 1);
       holder = by.id.number;
@@ -150,14 +156,15 @@ pub create-as-read-shown : (setup : Setup) (past : Past) (volatile_states : ℕ 
     → past.lease.leader ≡ None → is_as_read past.sync (revision_in sync) ≡ true →
     IsShown setup past volatile_states (record {
       action = Decide i j;
-      events = granted_events tick i j by incarnation sequence (txns.Create info ttl failsafe (Some sync)) standbys;
+      events = granted_events tick i j by incarnation sequence
+          (txns.Lease (lease_txns.Create info ttl failsafe (Some sync))) standbys;
       volatile_states = volatile_states;
     })
 create-as-read-shown setup past volatile_states tick i j by incarnation sequence info ttl failsafe sync standbys at
     asked gone read =
     let w : SyncRequest = create_request by.id.number incarnation sequence sync in
     let mid : Past = past_after (past_after past (kinds.Message (messages.Delivered i)))
-    (kinds.Store (stores.Granted i by (txns.Create info ttl failsafe (Some sync)) standbys)) in
+    (kinds.Store (stores.Granted i by (txns.Lease (lease_txns.Create info ttl failsafe (Some sync))) standbys)) in
     ap (λ (q : Query). record (state_of setup past volatile_states) {
       leader = Some (past.lease.revision + 1);
       holder = by.id.number;
@@ -189,13 +196,15 @@ pub renew-shown : (setup : Setup) (past : Past) (volatile_states : ℕ → Volat
     IsShown setup past volatile_states (record {
       action = Renew by.id.number incarnation sequence j (carries_set failsafe);
       events =
-          granted_events tick i j by incarnation sequence (txns.Renew revision info ttl status row failsafe) standbys;
+          granted_events tick i j by incarnation sequence
+          (txns.Lease (lease_txns.Renew revision info ttl status row failsafe)) standbys;
       volatile_states = volatile_states;
     })
 renew-shown setup past volatile_states tick i j by incarnation sequence revision info ttl status row failsafe standbys
     key is none asked =
     let mid : Past = past_after (past_after past (kinds.Message (messages.Delivered i)))
-    (kinds.Store (stores.Granted i by (txns.Renew revision info ttl status row failsafe) standbys)) in
+    (kinds.Store (stores.Granted i by
+    (txns.Lease (lease_txns.Renew revision info ttl status row failsafe)) standbys)) in
     let renewed : Option LeaderKey → Option ℕ → (ℕ → Option Flying) → Option Flying → State = λ l failsafe_revision f o.
     record (state_of setup past volatile_states) {
       leader = leader_revision l;
@@ -236,32 +245,18 @@ other-shown setup past volatile_states tick i by (txns.Touch info ttl) standbys 
     ap (λ (f : ℕ → Option Flying).
     record (state_of setup past volatile_states) { revision = past.lease.revision + 1; flight = f })
     (put-same past.flight i none)
-other-shown setup past volatile_states tick i by (txns.SetFailover failover ttl) standbys none other =
+other-shown setup past volatile_states tick i by (txns.Operators txn) standbys none other =
     ap (λ (f : ℕ → Option Flying).
     record (state_of setup past volatile_states) { revision = past.lease.revision + 1; flight = f })
     (put-same past.flight i none)
-other-shown setup past volatile_states tick i by (txns.DropFailover revision) standbys none other =
-    ap (λ (f : ℕ → Option Flying).
-    record (state_of setup past volatile_states) { revision = past.lease.revision + 1; flight = f })
-    (put-same past.flight i none)
-other-shown setup past volatile_states tick i by (txns.SetConfig revision config) standbys none other =
-    ap (λ (f : ℕ → Option Flying).
-    record (state_of setup past volatile_states) { revision = past.lease.revision + 1; flight = f })
-    (put-same past.flight i none)
-other-shown setup past volatile_states tick i by (txns.Create info ttl failsafe sync) standbys none other = absurd other
-other-shown setup past volatile_states tick i by (txns.Renew revision info ttl status row failsafe) standbys none
-    other =
-    absurd other
-other-shown setup past volatile_states tick i by (txns.Release revision) standbys none other = absurd other
-other-shown setup past volatile_states tick i by (txns.Claim revision sync) standbys none other = absurd other
-other-shown setup past volatile_states tick i by (txns.SetSync revision sync members) standbys none other = absurd other
-other-shown setup past volatile_states tick i by (txns.DropSync revision sync) standbys none other = absurd other
+other-shown setup past volatile_states tick i by (txns.Lease txn) standbys none other = absurd other
+other-shown setup past volatile_states tick i by (txns.Sync txn) standbys none other = absurd other
 
 pub release-shown : (setup : Setup) (past : Past) (volatile_states : ℕ → VolatileState) (tick : Ticks) (i : ℕ)
     (by : Member) (compared : ℕ) (standbys : List Name) → past.flight i ≡ None →
     IsShown setup past volatile_states (record {
       action = Release;
-      events = decided_events tick i by (txns.Release compared) standbys;
+      events = decided_events tick i by (txns.Lease (lease_txns.Release compared)) standbys;
       volatile_states = volatile_states;
     })
 release-shown setup past volatile_states tick i by compared standbys none =

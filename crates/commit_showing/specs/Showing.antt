@@ -37,9 +37,7 @@ carries_set (Some members) = true
 -- a transaction that leaves the leader key, the failsafe key and the sync key alone
 abbrev pub IsOtherTxn : Txn → Type 0
 IsOtherTxn (txns.Touch info ttl) = Unit {0}
-IsOtherTxn (txns.SetFailover failover ttl) = Unit {0}
-IsOtherTxn (txns.DropFailover revision) = Unit {0}
-IsOtherTxn (txns.SetConfig revision config) = Unit {0}
+IsOtherTxn (txns.Operators txn) = Unit {0}
 IsOtherTxn _ = ⊥
 
 -- an event that one input of this member's agent may bring, but for

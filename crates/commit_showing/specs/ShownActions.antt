@@ -10,6 +10,8 @@ use Rattle.store_keys.specs.declared.key.Key.{Key}
 use Rattle.store_keys.specs.declared.txn.Expected.{Expected}
 use Rattle.store_keys.specs.declared.txn.Txn.{Txn}
 use Rattle.store_keys.specs.declared.txn.Txn.TheVariants as txns
+use Rattle.store_keys.specs.declared.txn.LeaseTxn.TheVariants as lease_txns
+use Rattle.store_keys.specs.declared.txn.SyncTxn.TheVariants as sync_txns
 use Rattle.store_keys.specs.declared.txn_kind.TxnKind.{TxnKind}
 use Rattle.wal_model.specs.declared.entry.Entry.{Entry}
 use Rattle.wal_model.specs.Log.{common_of, end_of}
@@ -170,18 +172,21 @@ pub record ActionsAreShown : Type 0 where
       (claim_request by.id.number incarnation sequence revision sync)
       ≡ true → IsShown setup past volatile_states (record {
         action = Decide i j;
-        events = granted_events tick i j by incarnation sequence (txns.Claim revision sync) standbys;
+        events = granted_events tick i j by incarnation sequence (txns.Sync (sync_txns.Claim revision sync)) standbys;
         volatile_states = volatile_states;
       })
   pub publish : (setup : Setup) (past : Past) (volatile_states : ℕ → VolatileState) (tick : Ticks) (i j : ℕ)
-      (by : Member) (incarnation sequence revision : ℕ) (sync : Expected) (set : MemberSet) (standbys : List Name)
-      → past.flight i ≡ Some (Requested (publish_request by.id.number incarnation sequence revision sync set))
-      → past.asked i ≡ SyncQuery (publish_request by.id.number incarnation sequence revision sync set)
+      (by : Member) (incarnation sequence revision : ℕ) (sync : Expected) (set : MemberSet)
+      (may_lack : Option ℕ) (standbys : List Name)
+      → past.flight i ≡ Some (Requested (publish_request by.id.number incarnation sequence revision sync set may_lack))
+      → past.asked i ≡ SyncQuery (publish_request by.id.number incarnation sequence revision sync set may_lack)
       → is_granted (leader_revision past.lease.leader) past.sync
-      (publish_request by.id.number incarnation sequence revision sync set)
+      (publish_request by.id.number incarnation sequence revision sync set may_lack)
       ≡ true → IsShown setup past volatile_states (record {
         action = Decide i j;
-        events = granted_events tick i j by incarnation sequence (txns.SetSync revision sync set) standbys;
+        events =
+            granted_events tick i j by incarnation sequence
+            (txns.Sync (sync_txns.SetSync revision sync set may_lack)) standbys;
         volatile_states = volatile_states;
       })
   pub create : (setup : Setup) (past : Past) (volatile_states : ℕ → VolatileState) (tick : Ticks) (i j : ℕ)
@@ -189,7 +194,8 @@ pub record ActionsAreShown : Type 0 where
       (standbys : List Name) → past.flight i ≡ None → past.asked i ≡ LeaseQuery
       → IsShown setup past volatile_states (record {
         action = Create by.id.number incarnation sequence j;
-        events = granted_events tick i j by incarnation sequence (txns.Create info ttl failsafe None) standbys;
+        events = granted_events tick i j by incarnation sequence
+            (txns.Lease (lease_txns.Create info ttl failsafe None)) standbys;
         volatile_states = volatile_states;
       })
   -- a create that compares the sync key
@@ -200,7 +206,8 @@ pub record ActionsAreShown : Type 0 where
       → past.asked i ≡ SyncQuery (create_request by.id.number incarnation sequence sync) → past.lease.leader ≡ None
       → is_as_read past.sync (revision_in sync) ≡ true → IsShown setup past volatile_states (record {
         action = Decide i j;
-        events = granted_events tick i j by incarnation sequence (txns.Create info ttl failsafe (Some sync)) standbys;
+        events = granted_events tick i j by incarnation sequence
+            (txns.Lease (lease_txns.Create info ttl failsafe (Some sync))) standbys;
         volatile_states = volatile_states;
       })
   pub renew : (setup : Setup) (past : Past) (volatile_states : ℕ → VolatileState) (tick : Ticks) (i j : ℕ)
@@ -210,7 +217,8 @@ pub record ActionsAreShown : Type 0 where
       → IsShown setup past volatile_states (record {
         action = Renew by.id.number incarnation sequence j (carries_set failsafe);
         events =
-            granted_events tick i j by incarnation sequence (txns.Renew revision info ttl status row failsafe) standbys;
+            granted_events tick i j by incarnation sequence
+            (txns.Lease (lease_txns.Renew revision info ttl status row failsafe)) standbys;
         volatile_states = volatile_states;
       })
   pub other : (setup : Setup) (past : Past) (volatile_states : ℕ → VolatileState) (tick : Ticks) (i : ℕ)
@@ -223,7 +231,7 @@ pub record ActionsAreShown : Type 0 where
   pub release : (setup : Setup) (past : Past) (volatile_states : ℕ → VolatileState) (tick : Ticks) (i : ℕ) (by : Member)
       (compared : ℕ) (standbys : List Name) → past.flight i ≡ None → IsShown setup past volatile_states (record {
         action = Release;
-        events = decided_events tick i by (txns.Release compared) standbys;
+        events = decided_events tick i by (txns.Lease (lease_txns.Release compared)) standbys;
         volatile_states = volatile_states;
       })
   pub answered : (setup : Setup) (past : Past) (volatile_states : ℕ → VolatileState) (tick : Ticks) (i j : ℕ)

@@ -4,6 +4,7 @@ use Rattle.event_book.specs.Functions.{put_at, set_members}
 use Rattle.store_keys.specs.Settings.{Settings}
 use Rattle.store_keys.specs.declared.txn.Txn.{Txn}
 use Rattle.store_keys.specs.declared.txn.Txn.TheVariants as txns
+use Rattle.store_keys.specs.declared.txn.OperatorTxn.TheVariants as operator_txns
 use Rattle.event_book.specs.declared.event.Event.{Event}
 use Rattle.event_book.specs.declared.event.EventKind.{EventKind}
 use Rattle.event_book.specs.declared.event.EventKind.TheVariants as kinds
@@ -121,7 +122,7 @@ IsTimely margin book = AreInTime margin first_moments book
 
 -- a granted configuration doesn't pause the cluster
 abbrev pub IsUnpaused : Txn → Type 0
-IsUnpaused (txns.SetConfig revision config) = config.config.pause ≡ false
+IsUnpaused (txns.Operators (operator_txns.SetConfig revision config)) = config.config.pause ≡ false
 IsUnpaused _ = Unit {0}
 
 -- in this event no configuration that pauses is granted, and no operator promotes a server

@@ -39,6 +39,7 @@ ineligibility_text bars.NotListed by = codes "it is not in the failsafe key"
 ineligibility_text bars.Hold by = codes "a failsafe hold"
 ineligibility_text (bars.OtherWrites member) by = name_or_another by ++ codes " accepts writes"
 ineligibility_text (bars.Ahead member) by = name_or_another by ++ codes " is ahead"
+ineligibility_text bars.TooFewAnswers by = codes "too few answers"
 ineligibility_text (bars.Priority member) by = name_or_another by ++ codes " has a higher priority"
 
 -- what an agent notes, with the name of the member that it speaks of

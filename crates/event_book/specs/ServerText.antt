@@ -3,7 +3,7 @@ use Rattle.std.specs.Prelude.{ℕ, Bool, List, ◌++◌, Option, Some, None, cod
 use Rattle.std.specs.Fmt.{decimal}
 use Rattle.pat_base.specs.declared.name.Name.{Name}
 use Rattle.pat_base.specs.declared.server_state.Required.{Required}
-use Rattle.pat_base.specs.declared.server_state.Required.TheVariants.{Nobody, AnyOne, All}
+use Rattle.pat_base.specs.declared.server_state.Required.TheVariants.{Nobody, AnyOne, All, AtLeast}
 use Rattle.pat_base.specs.LsnText.{lsn_text}
 use Rattle.pat_base.specs.Name.{name_bytes}
 use Rattle.event_book.specs.declared.event.LogEvent.{LogEvent}
@@ -100,6 +100,12 @@ required_line tick name AnyOne names = Some (decimal tick ++ (codes " " ++ (name
 required_line tick name (All members) names =
     Some (decimal tick
     ++ (codes " " ++ (name ++ (codes " requires " ++ (listed (codes "no standby") names ++ codes "\n")))))
+required_line tick name (AtLeast number of) names =
+    Some (decimal tick
+    ++ (codes " "
+    ++ (name
+    ++ (codes " requires "
+    ++ (decimal number ++ (codes " of " ++ (listed (codes "no standby") names ++ codes "\n")))))))
 
 -- the line of what happens in synchronous replication, if it has one
 abbrev pub replication_line : ℕ → ReplicationEvent → Option (List ℕ)

@@ -87,6 +87,7 @@ fn words_of(bar: Ineligibility) -> (bool, &'static str)
         Ineligibility::Hold => (false, "a failsafe hold"),
         Ineligibility::OtherWrites(_) => (true, " accepts writes"),
         Ineligibility::Ahead(_) => (true, " is ahead"),
+        Ineligibility::TooFewAnswers => (false, "too few answers"),
         Ineligibility::Priority(_) => (true, " has a higher priority"),
     }
 }

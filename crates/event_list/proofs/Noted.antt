@@ -3,6 +3,7 @@ use Rattle.std.proofs.Common.{◌≡◌, Bool, true, false, true≢false, List, 
 use Rattle.pat_base.specs.declared.ticks.Ticks.{Ticks}
 use Rattle.store_keys.specs.declared.txn.Txn.{Txn}
 use Rattle.store_keys.specs.declared.txn.Txn.TheVariants as txns
+use Rattle.store_keys.specs.declared.txn.LeaseTxn.TheVariants as lease_txns
 use Rattle.event_book.specs.declared.event.AgentEvent.TheVariants as agents
 use Rattle.event_book.specs.declared.event.Event.{Event}
 use Rattle.event_book.specs.declared.event.EventKind.{EventKind}
@@ -57,12 +58,12 @@ with_lost facts lost = record facts {
 
 touches-nothing : (txn : Txn) → is_silent_grant txn ≡ true → breach_by_txn txn ≡ None
 touches-nothing (txns.Touch info ttl) is = refl
-touches-nothing (txns.Renew revision info ttl status row failsafe) is = refl
+touches-nothing (txns.Lease (lease_txns.Renew revision info ttl status row failsafe)) is = refl
 touches-nothing _ is = absurd (true≢false (sym is))
 
 touches-no-mode : (txn : Txn) (on : Bool) → is_silent_grant txn ≡ true → keeps_mode_in_txn on txn ≡ true
 touches-no-mode (txns.Touch info ttl) on is = refl
-touches-no-mode (txns.Renew revision info ttl status row failsafe) on is = refl
+touches-no-mode (txns.Lease (lease_txns.Renew revision info ttl status row failsafe)) on is = refl
 touches-no-mode _ on is = absurd (true≢false (sym is))
 
 -- what is silent changes nothing of a summary but that a loss may be told behind it

@@ -2,6 +2,7 @@
 use Rattle.std.proofs.Common.{◌≡◌, ℕ, cond, not, Bool, true, false, true≢false, IsTrue, List, [], ◌∷◌, ◌++◌, Option, None, refl, ap, sym, ◌∙◌}
 use Rattle.store_keys.specs.declared.txn.Txn.{Txn}
 use Rattle.store_keys.specs.declared.txn.Txn.TheVariants as txns
+use Rattle.store_keys.specs.declared.txn.LeaseTxn.TheVariants as lease_txns
 use Rattle.pat_base.specs.declared.name.Name.{Name}
 use Rattle.event_book.specs.declared.event.AgentEvent.TheVariants as agents
 use Rattle.event_book.specs.declared.event.Event.{Event}
@@ -31,7 +32,7 @@ silent-message false false tick happening keeps is = untraced-message tick happe
 silent-grant : (tick : ℕ) (name : List ℕ) (txn : Txn) (standbys : List Name) → is_silent_grant txn ≡ true
     → granted_line tick name txn standbys ≡ None
 silent-grant tick name (txns.Touch info ttl) standbys is = refl
-silent-grant tick name (txns.Renew revision info ttl status row failsafe) standbys is = refl
+silent-grant tick name (txns.Lease (lease_txns.Renew revision info ttl status row failsafe)) standbys is = refl
 silent-grant tick name _ standbys is = absurd (true≢false (sym is))
 
 -- what is silent has no line

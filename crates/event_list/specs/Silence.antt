@@ -2,6 +2,7 @@
 use Rattle.std.specs.Prelude.{Bool, true, false, not}
 use Rattle.store_keys.specs.declared.txn.Txn.{Txn}
 use Rattle.store_keys.specs.declared.txn.Txn.TheVariants as txns
+use Rattle.store_keys.specs.declared.txn.LeaseTxn.TheVariants as lease_txns
 use Rattle.event_book.specs.declared.event.AgentEvent.TheVariants as agents
 use Rattle.event_book.specs.declared.event.EventKind.{EventKind}
 use Rattle.event_book.specs.declared.event.EventKind.TheVariants as kinds
@@ -12,7 +13,7 @@ use Rattle.event_book.specs.declared.event.StoreEvent.TheVariants as stores
 -- the grant of this transaction is silent: a member tells of itself, or renews the leader key too
 abbrev pub is_silent_grant : Txn → Bool
 is_silent_grant (txns.Touch info ttl) = true
-is_silent_grant (txns.Renew revision info ttl status row failsafe) = true
+is_silent_grant (txns.Lease (lease_txns.Renew revision info ttl status row failsafe)) = true
 is_silent_grant _ = false
 
 -- what happened is of a kind that is frequent, prints nothing, while messages are traced or not, and

@@ -3,7 +3,7 @@ ghost use Rattle.std.specs.Prelude.{◌≡◌};
 ghost use Rattle.event_list.specs.Silence.{is_silent, is_silent_grant};
 
 use event_book::{AgentEvent, EventKind, LogEvent, ReplicationEvent, StoreEvent};
-use store_keys::Txn;
+use store_keys::{LeaseTxn, Txn};
 
 /// Whether what happened is of a kind that is frequent, prints nothing, while messages are traced or not, and isn't counted by the summary.
 /// Rarer ones of which that is so too, as an expired key, are none of these.
@@ -25,5 +25,5 @@ pub fn is_silent(traced: bool, kind: &EventKind) -> bool
 fn is_silent_grant(txn: &Txn) -> bool
     ensures { result ≡ is_silent_grant txn.now }
 {
-    matches!(txn, Txn::Touch { .. } | Txn::Renew { .. })
+    matches!(txn, Txn::Touch { .. } | Txn::Lease(LeaseTxn::Renew { .. }))
 }

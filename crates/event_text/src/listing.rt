@@ -23,8 +23,8 @@ pub fn end_by_list(line: &mut String, nobody: &str, names: &[Name]) -> Result<()
     line.push_str("\n")
 }
 
-/// Appends such a list.
-fn write_listed(text: &mut String, nobody: &str, names: &[Name]) -> Result<(), AllocError>
+/// Appends such a list. It fails only for want of memory.
+pub fn write_listed(text: &mut String, nobody: &str, names: &[Name]) -> Result<(), AllocError>
     ensures { OnOk result (string_bytes text.new ≡ string_bytes text.old ++ listed nobody.now names.now) }
 {
     match names.split_first() {

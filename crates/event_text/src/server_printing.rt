@@ -226,5 +226,9 @@ fn write_required_line(
             write!(line, "{tick} {name} requires ")?;
             end_by_list(line, "no standby", names.as_slice())
         }
+        Required::AtLeast { number, .. } => {
+            write!(line, "{tick} {name} requires {number} of ")?;
+            end_by_list(line, "no standby", names.as_slice())
+        }
     }
 }

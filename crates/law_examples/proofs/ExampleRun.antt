@@ -4,6 +4,7 @@ use Rattle.pat_base.specs.declared.name.Name.{Name}
 use Rattle.store_keys.specs.declared.value.MemberInfo.{MemberInfo}
 use Rattle.store_keys.specs.declared.txn.Txn.{Txn}
 use Rattle.store_keys.specs.declared.txn.Txn.TheVariants as txns
+use Rattle.store_keys.specs.declared.txn.LeaseTxn.TheVariants as lease_txns
 use Rattle.event_book.specs.declared.event.Event.{Event}
 use Rattle.event_book.specs.declared.event.EventKind.{EventKind}
 use Rattle.event_book.specs.declared.event.EventKind.TheVariants as kinds
@@ -43,7 +44,7 @@ abbrev at0 : EventKind → Event
 at0 kind = record { tick = record { 0 = 0 }; kind = kind }
 
 abbrev create : MemberInfo → Txn
-create info = txns.Create info (record { 0 = 300 }) None None
+create info = txns.Lease (lease_txns.Create info (record { 0 = 300 }) None None)
 
 abbrev asking : Name → MemberInfo → List Event
 asking name info = at0 (kinds.Message (messages.Sent 1 (record {

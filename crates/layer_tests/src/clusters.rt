@@ -7,7 +7,7 @@ use lease_store::{Store, StoreRefusal};
 use pat_base::{Host, Lsn, MemberId, Tags, Ticks, Word};
 use std::alloc::Global;
 use std::process::Abort;
-use store_keys::{ConfigValue, MemberInfo, Txn};
+use store_keys::{ConfigValue, LeaseTxn, MemberInfo, OperatorTxn, SyncTxn, Txn};
 
 pub(crate) const A: MemberId = MemberId { number: 0 };
 
@@ -52,15 +52,18 @@ fn span(txn: &Txn) -> Ticks
 {
     match txn {
         Txn::Touch { ttl, .. }
-        | Txn::Create { ttl, .. }
-        | Txn::Renew { ttl, .. }
-        | Txn::SetFailover { ttl, .. } => *ttl,
-        Txn::Release { .. }
-        | Txn::Claim { .. }
-        | Txn::SetSync { .. }
-        | Txn::DropSync { .. }
-        | Txn::DropFailover { .. }
-        | Txn::SetConfig { .. } => Ticks(0),
+        | Txn::Lease(LeaseTxn::Create { ttl, .. })
+        | Txn::Lease(LeaseTxn::Renew { ttl, .. })
+        | Txn::Operators(OperatorTxn::SetFailover { ttl, .. })
+        | Txn::Operators(OperatorTxn::Fire { ttl, .. }) => *ttl,
+        Txn::Lease(LeaseTxn::Release { .. })
+        | Txn::Sync(SyncTxn::Claim { .. })
+        | Txn::Sync(SyncTxn::SetSync { .. })
+        | Txn::Sync(SyncTxn::DropSync { .. })
+        | Txn::Operators(OperatorTxn::DropFailover { .. })
+        | Txn::Operators(OperatorTxn::SetConfig { .. })
+        | Txn::Operators(OperatorTxn::Schedule { .. })
+        | Txn::Operators(OperatorTxn::Unschedule { .. }) => Ticks(0),
     }
 }
 

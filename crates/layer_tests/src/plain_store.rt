@@ -3,7 +3,7 @@
 use lease_store::StoreRefusal;
 use pat_base::{MemberId, MemberSet, Ticks};
 use std::process::Abort;
-use store_keys::{Expected, Key, KeyEntry, SyncKey, Txn, Value};
+use store_keys::{Expected, Key, KeyEntry, LeaseTxn, OperatorTxn, SyncKey, SyncTxn, Txn, Value};
 
 /// A store that is searched from its front.
 #[derive(Drop)]
@@ -29,37 +29,62 @@ pub(crate) fn is_present(now: Ticks, entry: &KeyEntry) -> bool {
 fn compares(txn: &Txn) -> [Option<(Key, Expected)>; 3] {
     match txn {
         Txn::Touch { .. } => [None, None, None],
-        Txn::Create { failsafe, sync, .. } => [
+        Txn::Lease(LeaseTxn::Create { failsafe, sync, .. }) => [
             Some((Key::Leader, Expected::Absent)),
             failsafe.map(|expected| (Key::Failsafe, expected)),
             sync.map(|expected| (Key::Sync, expected)),
         ],
-        Txn::Renew { revision, .. } | Txn::Release { revision } | Txn::DropFailover { revision } =>
-            {
-                [
-                    Some((Key::Leader, Expected::Revision(*revision))),
-                    None,
-                    None,
-                ]
-            }
-        Txn::Claim { revision, sync } | Txn::SetSync { revision, sync, .. } => [
+        Txn::Lease(LeaseTxn::Renew { revision, .. })
+        | Txn::Lease(LeaseTxn::Release { revision })
+        | Txn::Operators(OperatorTxn::DropFailover { revision }) => {
+            [
+                Some((Key::Leader, Expected::Revision(*revision))),
+                None,
+                None,
+            ]
+        }
+        Txn::Sync(SyncTxn::Claim { revision, sync })
+        | Txn::Sync(SyncTxn::SetSync { revision, sync, .. }) => [
             Some((Key::Leader, Expected::Revision(*revision))),
             Some((Key::Sync, *sync)),
             None,
         ],
-        Txn::DropSync { revision, sync } => [
+        Txn::Sync(SyncTxn::DropSync { revision, sync }) => [
             Some((Key::Leader, Expected::Revision(*revision))),
             Some((Key::Sync, Expected::Revision(*sync))),
             None,
         ],
-        Txn::SetFailover { .. } => [Some((Key::Failover, Expected::Absent)), None, None],
-        Txn::SetConfig { revision, .. } => {
+        Txn::Operators(OperatorTxn::SetFailover { .. }) => [
+            Some((Key::Failover, Expected::Absent)),
+            None,
+            None,
+        ],
+        Txn::Operators(OperatorTxn::SetConfig { revision, .. }) => {
             [
                 Some((Key::Config, Expected::Revision(*revision))),
                 None,
                 None,
             ]
         }
+        Txn::Operators(OperatorTxn::Schedule { .. }) => {
+            [Some((Key::Scheduled, Expected::Absent)), None, None]
+        }
+        Txn::Operators(OperatorTxn::Unschedule { scheduled }) => [
+            Some((Key::Scheduled, Expected::Revision(*scheduled))),
+            None,
+            None,
+        ],
+        Txn::Operators(
+            OperatorTxn::Fire {
+                revision,
+                scheduled,
+                ..
+            },
+        ) => [
+            Some((Key::Leader, Expected::Revision(*revision))),
+            Some((Key::Scheduled, Expected::Revision(*scheduled))),
+            Some((Key::Failover, Expected::Absent)),
+        ],
     }
 }
 
@@ -134,7 +159,7 @@ impl PlainStore {
                     Some(until(now, *ttl)),
                 );
             }
-            Txn::Create { info, ttl, .. } => {
+            Txn::Lease(LeaseTxn::Create { info, ttl, .. }) => {
                 self.put(rt, Key::Leader, Value::Leader(by), Some(until(now, *ttl)));
                 self.put(
                     rt,
@@ -143,14 +168,16 @@ impl PlainStore {
                     Some(until(now, *ttl)),
                 );
             }
-            Txn::Renew {
-                info,
-                ttl,
-                status,
-                row,
-                failsafe,
-                ..
-            } => {
+            Txn::Lease(
+                LeaseTxn::Renew {
+                    info,
+                    ttl,
+                    status,
+                    row,
+                    failsafe,
+                    ..
+                },
+            ) => {
                 self.extend(until(now, *ttl));
                 self.put(
                     rt,
@@ -168,11 +195,17 @@ impl PlainStore {
                     self.put(rt, Key::Failsafe, Value::Failsafe(members), None);
                 }
             }
-            Txn::Release { .. } => self.delete(Key::Leader),
-            Txn::Claim { .. } => self.put_sync(rt, by, MemberSet::empty()),
-            Txn::SetSync { standbys, .. } => self.put_sync(rt, by, *standbys),
-            Txn::DropSync { .. } => self.delete(Key::Sync),
-            Txn::SetFailover { failover, ttl } => {
+            Txn::Lease(LeaseTxn::Release { .. }) => self.delete(Key::Leader),
+            Txn::Sync(SyncTxn::Claim { .. }) => self.put_sync(rt, by, MemberSet::empty(), 0),
+            Txn::Sync(
+                SyncTxn::SetSync {
+                    standbys,
+                    quorum,
+                    ..
+                },
+            ) => self.put_sync(rt, by, *standbys, quorum.unwrap_or(0)),
+            Txn::Sync(SyncTxn::DropSync { .. }) => self.delete(Key::Sync),
+            Txn::Operators(OperatorTxn::SetFailover { failover, ttl }) => {
                 self.put(
                     rt,
                     Key::Failover,
@@ -180,19 +213,36 @@ impl PlainStore {
                     Some(until(now, *ttl)),
                 );
             }
-            Txn::DropFailover { .. } => self.delete(Key::Failover),
-            Txn::SetConfig { config, .. } => {
+            Txn::Operators(OperatorTxn::DropFailover { .. }) => self.delete(Key::Failover),
+            Txn::Operators(OperatorTxn::SetConfig { config, .. }) => {
                 let config = config.try_clone().expect(rt, "memory");
                 self.put(rt, Key::Config, Value::Config(config), None);
+            }
+            Txn::Operators(OperatorTxn::Schedule { planned }) => {
+                self.put(rt, Key::Scheduled, Value::Scheduled(*planned), None);
+            }
+            Txn::Operators(OperatorTxn::Unschedule { .. }) => self.delete(Key::Scheduled),
+            Txn::Operators(OperatorTxn::Fire { failover, ttl, .. }) => {
+                self.delete(Key::Scheduled);
+                self.put(
+                    rt,
+                    Key::Failover,
+                    Value::Failover(*failover),
+                    Some(until(now, *ttl)),
+                );
             }
         }
     }
 
-    fn put_sync(&mut self, rt: &impl Abort, leader: MemberId, standbys: MemberSet) {
+    fn put_sync(&mut self, rt: &impl Abort, leader: MemberId, standbys: MemberSet, quorum: u8) {
         self.put(
             rt,
             Key::Sync,
-            Value::Sync(SyncKey { leader, standbys }),
+            Value::Sync(SyncKey {
+                leader,
+                standbys,
+                quorum,
+            }),
             None,
         );
     }

@@ -8,7 +8,10 @@ use lease_store::Store;
 use pat_base::{MemberId, MemberSet, Ticks};
 use std::alloc::Global;
 use std::process::Abort;
-use store_keys::{Expected, FailoverKey, HistoryRow, Key, KeyEntry, Txn, Value};
+use store_keys::{
+    Expected, FailoverKey, HistoryRow, Key, KeyEntry, LeaseTxn, OperatorTxn, Planned, SyncTxn, Txn,
+    Value,
+};
 
 /// Numbers that follow from a seed.
 #[derive(Drop)]
@@ -58,7 +61,7 @@ fn renewal(draws: &mut Draws, store: &Store, now: Ticks) -> Txn {
         tick: now,
         leader: B,
     };
-    Txn::Renew {
+    Txn::Lease(LeaseTxn::Renew {
         revision: draws.revision(store, now, Key::Leader),
         info: info(),
         ttl: Ticks(draws.below(9)),
@@ -69,7 +72,7 @@ fn renewal(draws: &mut Draws, store: &Store, now: Ticks) -> Txn {
         } else {
             Some(MemberSet::empty().with(C))
         },
-    }
+    })
 }
 
 fn transaction(
@@ -82,9 +85,9 @@ fn transaction(
     let ttl = Ticks(draws.below(9));
     let revision = draws.revision(store, now, Key::Leader);
     let sync = draws.expected(store, now, Key::Sync);
-    match draws.below(12) {
+    match draws.below(15) {
         0 => Txn::Touch { info: info(), ttl },
-        1 | 2 => Txn::Create {
+        1 | 2 => Txn::Lease(LeaseTxn::Create {
             info: info(),
             ttl,
             failsafe: None,
@@ -93,31 +96,53 @@ fn transaction(
             } else {
                 Some(sync)
             },
-        },
+        }),
         3 | 4 => renewal(draws, store, now),
-        5 => Txn::Release { revision },
-        6 => Txn::Claim { revision, sync },
-        7 => Txn::SetSync {
+        5 => Txn::Lease(LeaseTxn::Release { revision }),
+        6 => Txn::Sync(SyncTxn::Claim { revision, sync }),
+        7 => Txn::Sync(SyncTxn::SetSync {
             revision,
             sync,
             standbys: MemberSet::empty().with(B),
-        },
-        8 => Txn::DropSync {
+            quorum: if draws.below(2) == 0 { None } else { Some(1) },
+        }),
+        8 => Txn::Sync(SyncTxn::DropSync {
             revision,
             sync: draws.revision(store, now, Key::Sync),
-        },
-        9 => Txn::SetFailover {
-            failover: FailoverKey {
-                leader: Some(A),
-                candidate: None,
-            },
+        }),
+        9 => Txn::Operators(OperatorTxn::SetFailover {
+            failover: switchover(),
             ttl,
-        },
-        10 => Txn::DropFailover { revision },
-        _ => Txn::SetConfig {
+        }),
+        10 => Txn::Operators(OperatorTxn::DropFailover { revision }),
+        11 => Txn::Operators(OperatorTxn::Schedule {
+            planned: Planned {
+                leader: A,
+                candidate: None,
+                at: now,
+            },
+        }),
+        12 => Txn::Operators(OperatorTxn::Unschedule {
+            scheduled: draws.revision(store, now, Key::Scheduled),
+        }),
+        13 => Txn::Operators(OperatorTxn::Fire {
+            revision,
+            scheduled: draws.revision(store, now, Key::Scheduled),
+            failover: switchover(),
+            ttl,
+        }),
+        _ => Txn::Operators(OperatorTxn::SetConfig {
             revision: draws.revision(store, now, Key::Config),
             config: configuration(rt, alloc, b"{}"),
-        },
+        }),
+    }
+}
+
+/// A switchover from the first member.
+fn switchover() -> FailoverKey {
+    FailoverKey {
+        leader: Some(A),
+        candidate: None,
     }
 }
 
@@ -132,6 +157,7 @@ fn are_same(told: &Value, wanted: &Value) -> bool {
         (Value::Status(told), Value::Status(wanted)) => told == wanted,
         (Value::History(told), Value::History(wanted)) => told == wanted,
         (Value::Failsafe(told), Value::Failsafe(wanted)) => told == wanted,
+        (Value::Scheduled(told), Value::Scheduled(wanted)) => told == wanted,
         _ => false,
     }
 }

@@ -12,6 +12,8 @@ const END: Lsn = Lsn { position: 15 };
 
 const B: MemberId = MemberId { number: 1 };
 
+const C: MemberId = MemberId { number: 2 };
+
 fn fresh(alloc: Global, base: u32) -> Result<Server, AllocError> {
     Server::new(alloc, u64::from(base))
 }
@@ -44,7 +46,7 @@ fn server_calls(rt: HostRuntime) {
     has(&rt, &standing(&server), &(State::Primary, 2, Some(BASE)));
     has(&rt, &left_at(&server), &Some(BASE));
     has(&rt, &commit(&mut server, 5), &Ok(()));
-    has(&rt, &acknowledged(&mut server), &[None, Some(1)]);
+    has(&rt, &acknowledged(&mut server), &[None, Some(1), None, Some(1)]);
     has(&rt, &server.confirmed(B), &Some(END));
     check_streams(&rt, rt.alloc(), &server);
 }
@@ -54,12 +56,25 @@ fn left_at(server: &Server) -> Option<Lsn> {
     server.history().point(1)
 }
 
-/// Which commit is acknowledged next where b is waited for, and once b has confirmed all.
-fn acknowledged(server: &mut Server) -> [Option<u64>; 2] {
+/// Which commit is acknowledged next where b is waited for, and once b has confirmed all; then where two of b and c are
+/// waited for, and where one is.
+fn acknowledged(server: &mut Server) -> [Option<u64>; 4] {
     server.set_required(Required::All(MemberSet::empty().with(B)));
     let before = server.next_acknowledged();
     server.confirm(B, END);
-    [before, server.next_acknowledged()]
+    let confirmed = server.next_acknowledged();
+    server.set_required(of_both(2));
+    let by_two = server.next_acknowledged();
+    server.set_required(of_both(1));
+    [before, confirmed, by_two, server.next_acknowledged()]
+}
+
+/// So many of b and c.
+fn of_both(number: u8) -> Required {
+    Required::AtLeast {
+        number,
+        of: MemberSet::empty().with(B).with(C),
+    }
 }
 
 /// A new server, and what it gets of another one.

@@ -10,7 +10,7 @@ ghost use Rattle.pat_base.specs.Moments.{latest};
 use crate::Watchdog;
 use lease_store::Granted;
 use pat_base::{State, Ticks};
-use store_keys::Txn;
+use store_keys::{LeaseTxn, Txn};
 
 /// The leader key was granted to this member. It must be spent.
 pub struct Lease {
@@ -71,10 +71,10 @@ impl Lease {
 
     /// The request that gives the leader key up.
     pub fn release(self) -> Txn
-        ensures { result ≡ Txn.Release (lease_revision self) }
+        ensures { result ≡ Txn.Lease (LeaseTxn.Release (lease_revision self)) }
     {
         let Lease { revision } = self;
-        Txn::Release { revision }
+        Txn::Lease(LeaseTxn::Release { revision })
     }
 
     /// The key was lost: the lease is spent, and nothing is asked.

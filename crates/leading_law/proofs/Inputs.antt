@@ -4,6 +4,7 @@ use Rattle.pat_base.specs.declared.member_id.MemberId.{MemberId}
 use Rattle.pat_base.specs.declared.ticks.Ticks.{Ticks}
 use Rattle.store_keys.specs.declared.config.Config.{Config}
 use Rattle.store_keys.specs.declared.txn.Txn.TheVariants as txns
+use Rattle.store_keys.specs.declared.txn.LeaseTxn.TheVariants as lease_txns
 use Rattle.lease_store.specs.declared.granted.Granted.{Granted}
 use Rattle.cluster_view.specs.declared.snapshot.LeaderEntry.{LeaderEntry}
 use Rattle.cluster_view.specs.Snapshots.{SnapshotFacts, leader_in, settings_in}
@@ -34,6 +35,7 @@ use Rattle.lease_parts.specs.Bridged.{Bridged}
 use Rattle.agent_model.specs.declared.machine.Machine.{Machine}
 use Rattle.agent_model.specs.declared.output.Output.{Output}
 use Rattle.agent_model.specs.declared.output.Output.TheVariants as outputs
+use Rattle.agent_model.specs.declared.output.Outgoing.TheVariants as outgoing
 use Rattle.agent_model.specs.declared.output.Target.TheVariants as targets
 use Rattle.agent_model.specs.Acting.{comes_late, deadline_after, fed_until}
 use Rattle.agent_model.specs.declared.knowledge.Knowledge.{Knowledge}
@@ -128,12 +130,12 @@ module _ (member : Member) (cluster later : Cluster) (heard : Heard) (said : Hea
 
   -- it asks the key store, and an operator may be told something before
   after-asks : (process : AgentProcess) (sequence : ℕ) (body : Body) (before : List Output)
-      → Out.outputs ≡ with_output (outputs.Send targets.Store sequence body) before → AreTold before
+      → Out.outputs ≡ with_output (outputs.Message (outgoing.Send targets.Store sequence body)) before → AreTold before
       → slice_get later.facts.processes member.id.number ≡ Some process → HasRoom later
       → After ≡ Next later (agent_message member ends.Store process.incarnation sequence body)
   after-asks process sequence body before is told found room =
       after-over ∙ ap (Over member said later) is
-      ∙ told-then member said later (outputs.Send targets.Store sequence body) before told
+      ∙ told-then member said later (outputs.Message (outgoing.Send targets.Store sequence body)) before told
       ∙ asks-store member said later process sequence body found room
 
 -- a message that is sent behind a wake
@@ -254,7 +256,8 @@ module _ (member : Member) (cluster : Cluster) (process : AgentProcess) (o : Out
       let turn =
       renews (moment_of cluster) (points_of cluster member) sequence snapshot leader o leads waiting there mine in
       let body : Body =
-      bodies.Request (txns.Renew leader.revision turn.info turn.waited.ttl turn.status turn.row turn.listed) in
+      bodies.Request
+      (txns.Lease (lease_txns.Renew leader.revision turn.info turn.waited.ttl turn.status turn.row turn.listed)) in
       let message : Message = agent_message member ends.Store process.incarnation turn.waited.sequence body in
       let whole = behind-is heard says
       ∙ after-asks member cluster Arrived heard Said o stands acted process turn.waited.sequence body _ turn.outputs_are
@@ -356,7 +359,7 @@ module _ (member : Member) (cluster : Cluster) (process : AgentProcess) (o : Out
     by-step room (Writes waited settling txn some asks_it until numbered counted writes is) =
         let body : Body = bodies.Request txn in
         let message : Message = agent_message member ends.Store process.incarnation waited.sequence body in
-        let whole = step-over (outputs.Send targets.Store waited.sequence body) is
+        let whole = step-over (outputs.Message (outgoing.Send targets.Store waited.sequence body)) is
         ∙ asks-store member Said Fed process waited.sequence body
         (ap (λ (xs : List AgentProcess). slice_get xs member.id.number) fed.untouched.processes ∙ found)
         (subst (λ (f : Flight). length f < most_in_flight) (sym fed.silent.flight) (room waited some)) in

@@ -21,6 +21,8 @@ use Rattle.event_book.specs.Members.{server_of}
 use Rattle.cluster_model.specs.Limits.{most_in_flight}
 use Rattle.agent_model.specs.declared.output.Output.{Output}
 use Rattle.agent_model.specs.declared.output.Output.TheVariants as outputs
+use Rattle.agent_model.specs.declared.output.Feeding.TheVariants as feedings
+use Rattle.agent_model.specs.declared.output.Outgoing.TheVariants as outgoing
 use Rattle.agent_model.specs.Acting.{fed_until}
 use Rattle.cluster_model.specs.declared.heard_message.HeardMessage.{HeardMessage}
 use Rattle.cluster_model.specs.Cluster.{cluster_after, cluster_over}
@@ -152,7 +154,7 @@ fed-at member said cluster (Some until) = record {
 pub over-fed : (member : Member) (said : HeardMessage) (cluster : Cluster) (until : Option Ticks)
     → Over member said cluster (fed_until until []) ≡ FedAt member said cluster until
 over-fed member said cluster None = refl
-over-fed member said cluster (Some until) = over-one member said cluster (outputs.Fed until)
+over-fed member said cluster (Some until) = over-one member said cluster (outputs.Watchdog (feedings.Fed until))
 
 pub untouched-then : (n : ℕ) (first second third : Cluster) → IsUntouched n first second
     → IsUntouched n second third → IsUntouched n first third
@@ -279,9 +281,11 @@ pub answering : (n : ℕ) (member : Member) (said : HeardMessage) (cluster : Clu
     → IsAnswer output → Rises 0 cluster.facts.flight
     → ((carried : InFlightFacts) → in_flight cluster.facts.flight (cluster.facts.sent + 1) ≡ Some carried → ⊥)
     → IsAnswering n cluster (cluster_over cluster (output_events member said cluster output))
-answering n member said cluster (outputs.Answer to incarnation sequence answer) is rises fresh = answering-by n member
+answering n member said cluster (outputs.Message (outgoing.Answer to incarnation sequence answer)) is rises fresh =
+    answering-by n member
     cluster incarnation sequence (bodies.Answer answer) (slice_get cluster.facts.members to.number) rises fresh
-answering n member said cluster (outputs.FailsafeAnswer to incarnation sequence accepted) is rises fresh =
+answering n member said cluster (outputs.Message (outgoing.FailsafeAnswer to incarnation sequence accepted)) is rises
+    fresh =
     answering-by n member cluster incarnation sequence (bodies.FailsafeAnswer accepted)
     (slice_get cluster.facts.members to.number) rises fresh
 answering n member said cluster _ is rises fresh = absurd is

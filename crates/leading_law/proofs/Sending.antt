@@ -13,6 +13,8 @@ use Rattle.event_book.specs.declared.message.Message.{Message}
 use Rattle.event_book.specs.Flight.{InFlightFacts, in_flight, launched}
 use Rattle.agent_model.specs.declared.output.Output.{Output}
 use Rattle.agent_model.specs.declared.output.Output.TheVariants as outputs
+use Rattle.agent_model.specs.declared.output.Outgoing.TheVariants as outgoing
+use Rattle.agent_model.specs.declared.output.Telling.TheVariants as tellings
 use Rattle.agent_model.specs.declared.output.Target.TheVariants as targets
 use Rattle.agent_model.specs.Outputs.{with_output}
 use Rattle.cluster_model.specs.declared.heard_message.HeardMessage.{HeardMessage}
@@ -96,7 +98,7 @@ module _ (member : Member) (heard : HeardMessage) where
 
   told-one : (cluster : Cluster) (output : Output) → IsTold output
       → cluster_over cluster (output_events member heard cluster output) ≡ cluster
-  told-one cluster (outputs.Told request told) is =
+  told-one cluster (outputs.Tell (tellings.Told request told)) is =
       let agent = agent_at cluster.agents member.id.number in
       told-found cluster (told_kind member agent told) (told-holds Notes member agent told (λ reply c. refl))
   told-one cluster _ is = absurd is
@@ -117,7 +119,8 @@ module _ (member : Member) (heard : HeardMessage) where
   -- a question to the key store
   pub asks-store : (cluster : Cluster) (process : AgentProcess) (sequence : ℕ) (body : Body)
       → slice_get cluster.facts.processes member.id.number ≡ Some process → HasRoom cluster
-      → cluster_over cluster (output_events member heard cluster (outputs.Send targets.Store sequence body))
+      → cluster_over cluster
+      (output_events member heard cluster (outputs.Message (outgoing.Send targets.Store sequence body)))
       ≡ Next cluster (agent_message member ends.Store process.incarnation sequence body)
   asks-store cluster process sequence body found room =
       ap (λ (p : Option AgentProcess).

@@ -24,6 +24,8 @@ use Rattle.agent_model.specs.declared.machine.Machine.{Machine}
 use Rattle.event_book.specs.declared.message.Body.TheVariants as bodies
 use Rattle.agent_model.specs.declared.output.Output.{Output}
 use Rattle.agent_model.specs.declared.output.Output.TheVariants as outputs
+use Rattle.agent_model.specs.declared.output.Outgoing.TheVariants as outgoing
+use Rattle.agent_model.specs.declared.output.Telling.TheVariants as tellings
 use Rattle.agent_model.specs.declared.operating.Told.{Told}
 use Rattle.agent_model.specs.declared.output.Target.TheVariants as targets
 use Rattle.agent_model.specs.Outputs.{with_output}
@@ -70,7 +72,7 @@ record IsAsBefore (o x : Outcome) : Type 0 where
 
 -- an operator is told one thing more
 told-more : (xs : List Output) (request : ℕ) (told : Told) → AreTold xs
-    → AreTold (with_output (outputs.Told request told) xs)
+    → AreTold (with_output (outputs.Tell (tellings.Told request told)) xs)
 told-more [] request told all = (tt, tt)
 told-more (x ∷ xs) request told all = (all.0, told-more xs request told all.1)
 
@@ -156,7 +158,8 @@ begins now points o is none due =
       asks = refl;
       until = ap (λ (k : Knowledge). seconds_after now k.settings.retry_timeout) same.knows;
       outputs_are =
-          ap (λ (p : Outcome). with_output (outputs.Send targets.Store (x.knows.sequence + 1) bodies.Read) p.outputs)
+          ap (λ (p : Outcome).
+          with_output (outputs.Message (outgoing.Send targets.Store (x.knows.sequence + 1) bodies.Read)) p.outputs)
           (sym (wake-prepared now o is none due));
       told = subst (λ (p : Outcome). AreTold o.outputs → AreTold p.outputs)
           (sym (wake-prepared now o is none due)) same.tells;
@@ -264,8 +267,8 @@ answers-asked now points from incarnation sequence o is =
       answers = tt;
       outputs_are =
           ap (λ (x : Outcome).
-          with_output (outputs.Answer from incarnation sequence
-          (peer_answer_of (reconciled now o).knows.who (reconciled now o).machine.server))
+          with_output (outputs.Message (outgoing.Answer from incarnation sequence
+          (peer_answer_of (reconciled now o).knows.who (reconciled now o).machine.server)))
           x.outputs)
           same;
     }
@@ -282,7 +285,7 @@ refusal-alone now from incarnation sequence ttl o revision role =
       role = refl;
       knows = refl;
       machine = refl;
-      answer = outputs.FailsafeAnswer from incarnation sequence false;
+      answer = outputs.Message (outgoing.FailsafeAnswer from incarnation sequence false);
       answers = refl;
       outputs_are = refl;
     })

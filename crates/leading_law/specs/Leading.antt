@@ -9,6 +9,8 @@ use Rattle.pat_base.specs.declared.server_state.Required.{Required}
 use Rattle.store_keys.specs.declared.config.Config.{Config}
 use Rattle.store_keys.specs.declared.txn.Txn.{Txn}
 use Rattle.store_keys.specs.declared.txn.Txn.TheVariants as txns
+use Rattle.store_keys.specs.declared.txn.LeaseTxn.TheVariants as lease_txns
+use Rattle.store_keys.specs.declared.txn.SyncTxn.TheVariants as sync_txns
 use Rattle.store_keys.specs.declared.value.HistoryRow.{HistoryRow}
 use Rattle.store_keys.specs.declared.value.MemberInfo.{MemberInfo}
 use Rattle.cluster_view.specs.KeyValues.{failover_in}
@@ -23,6 +25,8 @@ use Rattle.agent_model.specs.declared.knowledge.Settling.{Settling}
 use Rattle.agent_model.specs.declared.knowledge.Question.TheVariants.{Reading, Renewing, Syncing}
 use Rattle.agent_model.specs.declared.output.Output.{Output}
 use Rattle.agent_model.specs.declared.output.Output.TheVariants as outputs
+use Rattle.agent_model.specs.declared.output.Outgoing.TheVariants as outgoing
+use Rattle.agent_model.specs.declared.output.Telling.TheVariants as tellings
 use Rattle.agent_model.specs.declared.output.Target.TheVariants as targets
 use Rattle.agent_model.specs.Acting.{deadline_after, fed_until, lease_span, seconds_after}
 use Rattle.agent_model.specs.Agents.{Leader, Outcome, is_leader}
@@ -35,7 +39,7 @@ use Rattle.agent_model.specs.Table.{prepared}
 
 -- an operator is told something
 abbrev pub IsTold : Output → Type 0
-IsTold (outputs.Told request told) = Unit {0}
+IsTold (outputs.Tell (tellings.Told request told)) = Unit {0}
 IsTold _ = ⊥
 
 -- nothing is done but that
@@ -45,14 +49,14 @@ AreTold (output ∷ more) = IsTold output × AreTold more
 
 -- another member is answered; its failsafe request is refused
 abbrev pub IsAnswer : Output → Type 0
-IsAnswer (outputs.Answer to incarnation sequence answer) = Unit {0}
-IsAnswer (outputs.FailsafeAnswer to incarnation sequence accepted) = accepted ≡ false
+IsAnswer (outputs.Message (outgoing.Answer to incarnation sequence answer)) = Unit {0}
+IsAnswer (outputs.Message (outgoing.FailsafeAnswer to incarnation sequence accepted)) = accepted ≡ false
 IsAnswer _ = ⊥
 
 -- a write of the sync key
 abbrev pub WritesSync : Txn → Type 0
-WritesSync (txns.SetSync revision sync standbys) = Unit {0}
-WritesSync (txns.DropSync revision sync) = Unit {0}
+WritesSync (txns.Sync (sync_txns.SetSync revision sync standbys)) = Unit {0}
+WritesSync (txns.Sync (sync_txns.DropSync revision sync)) = Unit {0}
 WritesSync _ = ⊥
 
 -- a step with its synchronous standbys, after these outputs: none, or its commits
@@ -68,7 +72,7 @@ pub data StepsOnce (now : Ticks) (last : ℕ) (before : List Output) (after : Ou
       → (numbered : waited.sequence ≡ last + 1) → (counted : after.knows.sequence ≡ last + 1)
       → (writes : WritesSync txn)
       → (outputs_are : after.outputs
-      ≡ with_output (outputs.Send targets.Store waited.sequence (bodies.Request txn)) before)
+      ≡ with_output (outputs.Message (outgoing.Send targets.Store waited.sequence (bodies.Request txn))) before)
       → StepsOnce now last before after
 
 -- an agent leads, and its server is the primary, up and running
@@ -97,7 +101,8 @@ pub record BeginsTurn (now : Ticks) (o after : Outcome) : Type 0 where
   pub asks : waited.question ≡ Reading
   pub until : waited.until ≡ seconds_after now o.knows.settings.retry_timeout
   pub outputs_are : after.outputs
-      ≡ with_output (outputs.Send targets.Store waited.sequence bodies.Read) (prepared now Wake o).outputs
+      ≡ with_output (outputs.Message (outgoing.Send targets.Store waited.sequence bodies.Read))
+      (prepared now Wake o).outputs
   pub told : AreTold o.outputs → AreTold (prepared now Wake o).outputs
 
 -- it found its key, and asks for the renewal of this revision, by the settings that it read
@@ -123,8 +128,8 @@ pub record AsksRenewal (now : Ticks) (snapshot : SnapshotFacts) (revision : ℕ)
   pub before : Outcome
   pub told : AreTold o.outputs → AreTold before.outputs
   pub outputs_are : after.outputs
-      ≡ with_output (outputs.Send targets.Store waited.sequence
-      (bodies.Request (txns.Renew revision info waited.ttl status row listed)))
+      ≡ with_output (outputs.Message (outgoing.Send targets.Store waited.sequence
+      (bodies.Request (txns.Lease (lease_txns.Renew revision info waited.ttl status row listed)))))
       before.outputs
 
 -- its lease was renewed: its watchdog is fed for this span, and it waits for nothing but a write of the sync key

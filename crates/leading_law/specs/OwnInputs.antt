@@ -5,6 +5,7 @@ use Rattle.pat_base.specs.declared.ticks.Ticks.{Ticks}
 use Rattle.store_keys.specs.declared.config.Config.{Config}
 use Rattle.store_keys.specs.declared.txn.Txn.{Txn}
 use Rattle.store_keys.specs.declared.txn.Txn.TheVariants as txns
+use Rattle.store_keys.specs.declared.txn.LeaseTxn.TheVariants as lease_txns
 use Rattle.pg_model.specs.Facts.{ServerFacts}
 use Rattle.event_book.specs.declared.agent_process.AgentProcess.{AgentProcess}
 use Rattle.event_book.specs.declared.link.LinkEnd.TheVariants as ends
@@ -99,7 +100,8 @@ pub record GoesOn (member : Member) (process : AgentProcess) (snapshot : Snapsho
   pub renews : AsksRenewal (moment_of before) snapshot revision o outcome
   pub agent : StandsSo member outcome after
   pub asks : AsksStore member process renews.waited.sequence
-      (bodies.Request (txns.Renew revision renews.info renews.waited.ttl renews.status renews.row renews.listed))
+      (bodies.Request
+      (txns.Lease (lease_txns.Renew revision renews.info renews.waited.ttl renews.status renews.row renews.listed)))
       before after
   pub untouched : IsUntouched member.id.number before after
   pub guards : IsGuardedSo member.id.number before after

@@ -10,6 +10,7 @@ use Rattle.pat_base.specs.declared.ticks.Ticks.{Ticks}
 use Rattle.store_keys.specs.declared.key.Key.TheVariants as keys
 use Rattle.store_keys.specs.declared.txn.Txn.{Txn}
 use Rattle.store_keys.specs.declared.txn.Txn.TheVariants as txns
+use Rattle.store_keys.specs.declared.txn.LeaseTxn.TheVariants as lease_txns
 use Rattle.store_keys.specs.declared.value.HistoryRow.{HistoryRow}
 use Rattle.store_keys.specs.declared.value.KeyEntry.{KeyEntry}
 use Rattle.store_keys.specs.declared.value.MemberInfo.{MemberInfo}
@@ -204,9 +205,9 @@ module _ (head : HeadText) (book : List Event) (cluster : Cluster) (key : Leader
   asks-neither : (txn : Txn) → carried.message.body ≡ bodies.Request txn
       → live_in cluster.facts.servers key.holder ≡ true
       → (AsksRenewalOf key.revision carried.message.body → ⊥) → AsksOf key.revision txn → ⊥
-  asks-neither (txns.Renew compared info ttl status row failsafe) says live other asks =
+  asks-neither (txns.Lease (lease_txns.Renew compared info ttl status row failsafe)) says live other asks =
       other (subst (AsksRenewalOf key.revision) (sym says) asks)
-  asks-neither (txns.Release compared) says live other asks =
+  asks-neither (txns.Lease (lease_txns.Release compared)) says live other asks =
       (asks-release head book cluster key number carried good has found
       (subst (λ (b : Body). AsksReleaseOf key.revision b) (sym says) asks)).1
       live
@@ -219,10 +220,10 @@ module _ (head : HeadText) (book : List Event) (cluster : Cluster) (key : Leader
 
   others-neither : (txn : Txn) → carried.message.body ≡ bodies.Request txn
       → (IsMemberOf key.holder carried.message.from → ⊥) → AsksOf key.revision txn → ⊥
-  others-neither (txns.Renew compared info ttl status row failsafe) says other asks =
+  others-neither (txns.Lease (lease_txns.Renew compared info ttl status row failsafe)) says other asks =
       other (asks-renewal head book cluster key number carried good has found
       (subst (AsksRenewalOf key.revision) (sym says) asks))
-  others-neither (txns.Release compared) says other asks =
+  others-neither (txns.Lease (lease_txns.Release compared)) says other asks =
       other (asks-release head book cluster key number carried good has found
       (subst (λ (b : Body). AsksReleaseOf key.revision b) (sym says) asks)).0
   others-neither _ says other asks = absurd asks
@@ -324,8 +325,8 @@ module _ (head : HeadText) (book : List Event) (cluster : Cluster) (good : Bridg
           absurd (omega (arith, bound, good.matched.store.revision))
 
       unasked : (body : Body) → one.message.body ≡ body → AsksRenewalOf (cluster.facts.keys.revision + 1) body → ⊥
-      unasked (bodies.Request (txns.Renew compared info ttl status row failsafe)) says asked =
-          let txn : Txn = txns.Renew compared info ttl status row failsafe in
+      unasked (bodies.Request (txns.Lease (lease_txns.Renew compared info ttl status row failsafe))) says asked =
+          let txn : Txn = txns.Lease (lease_txns.Renew compared info ttl status row failsafe) in
           let request = request-of head book cluster good i one txn found says in
           above request.by one.message.incarnation one.message.sequence txn request.is asked
       unasked (bodies.Request _) says asked = absurd asked
@@ -335,7 +336,7 @@ module _ (head : HeadText) (book : List Event) (cluster : Cluster) (key : Leader
     (carried : InFlightFacts) (info : MemberInfo) (ttl : Ticks) (status : Option Lsn)
     (row : Option HistoryRow) (failsafe : Option MemberSet) where
   abbrev Renewal : Txn
-  Renewal = txns.Renew key.revision info ttl status row failsafe
+  Renewal = txns.Lease (lease_txns.Renew key.revision info ttl status row failsafe)
 
   renewed-by : Bridged head book cluster → HasKey key cluster → (by : Member) (incarnation sequence : ℕ)
       → HasRoom cluster number

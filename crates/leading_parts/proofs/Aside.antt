@@ -17,6 +17,8 @@ use Rattle.event_book.specs.Flight.{Flight, InFlightFacts, in_flight, launched}
 use Rattle.event_book.specs.Kinds.{AllAre}
 use Rattle.agent_model.specs.declared.output.Output.{Output}
 use Rattle.agent_model.specs.declared.output.Output.TheVariants as outputs
+use Rattle.agent_model.specs.declared.output.Outgoing.TheVariants as outgoing
+use Rattle.agent_model.specs.declared.output.Telling.TheVariants as tellings
 use Rattle.agent_model.specs.declared.output.Target.TheVariants as targets
 use Rattle.agent_model.specs.Agents.{Outcome}
 use Rattle.cluster_model.specs.declared.heard_message.HeardMessage.{HeardMessage}
@@ -231,15 +233,16 @@ module _ (n last : ℕ) where
 
     output-beside : (heard : HeardMessage) (output : Output) (cluster : Cluster) → AreNumbered cluster
         → last ≤ cluster.facts.sent → AllAre (IsBeside n last) (output_events member heard cluster output)
-    output-beside heard (outputs.Send to sequence body) cluster numbered low = sending-beside cluster
+    output-beside heard (outputs.Message (outgoing.Send to sequence body)) cluster numbered low = sending-beside cluster
         (slice_get cluster.facts.processes member.id.number) (receiver_of cluster.facts.members to) sequence body low
-    output-beside heard (outputs.Answer to incarnation sequence answer) cluster numbered low =
+    output-beside heard (outputs.Message (outgoing.Answer to incarnation sequence answer)) cluster numbered low =
         replying-beside cluster (receiver_of cluster.facts.members (targets.Member to)) incarnation sequence
         (bodies.Answer answer) low
-    output-beside heard (outputs.FailsafeAnswer to incarnation sequence accepted) cluster numbered low =
+    output-beside heard (outputs.Message (outgoing.FailsafeAnswer to incarnation sequence accepted)) cluster numbered
+        low =
         replying-beside cluster (receiver_of cluster.facts.members (targets.Member to)) incarnation sequence
         (bodies.FailsafeAnswer accepted) low
-    output-beside heard (outputs.HoldTaken until from sequence) cluster numbered low =
+    output-beside heard (outputs.Tell (tellings.HoldTaken until from sequence)) cluster numbered low =
         let found = slice_get cluster.facts.members from.number in
         let hold = hold_taken member until heard.incarnation sequence in
         all-kinds (IsBeside n last) cluster (kinds_of (option_map hold found))

@@ -3,6 +3,7 @@ use Rattle.std.proofs.Common.{ℕ, ◌≡◌, Bool, true, List, Option, Some, No
 use Rattle.pat_base.specs.declared.member_set.MemberSet.{MemberSet}
 use Rattle.store_keys.specs.declared.txn.Txn.{Txn}
 use Rattle.store_keys.specs.declared.txn.Txn.TheVariants as txns
+use Rattle.store_keys.specs.declared.txn.LeaseTxn.TheVariants as lease_txns
 use Rattle.script_model.specs.Script.{HeadText}
 use Rattle.event_book.specs.declared.event.Event.{Event}
 use Rattle.event_book.specs.declared.link.LinkEnd.{LinkEnd}
@@ -66,10 +67,10 @@ module _ (head : HeadText) (book : List Event) (cluster : Cluster) (good : Bridg
   txn-vouched : (by : Member) (txn : Txn) (revision : ℕ)
       → IsQueryKept S.declared.failsafe S.leader S.failsafe S.revision S.members by.id.number (query_of txn)
       → AsksOf revision txn → IsVouched S.leader S.revision by.id.number revision
-  txn-vouched by (txns.Renew compared info ttl status row failsafe) revision kept asks =
+  txn-vouched by (txns.Lease (lease_txns.Renew compared info ttl status row failsafe)) revision kept asks =
       subst (IsVouched S.leader S.revision by.id.number) asks
       (vouched S.declared.failsafe S by.id.number compared ttl.0 failsafe kept)
-  txn-vouched by (txns.Release compared) revision kept asks =
+  txn-vouched by (txns.Lease (lease_txns.Release compared)) revision kept asks =
       subst (IsVouched S.leader S.revision by.id.number) asks kept.0
   txn-vouched by _ revision kept asks = absurd asks
 
@@ -149,8 +150,8 @@ record IsAsking (revision : ℕ) (body : Body) : Type 0 where
   asks : AsksOf revision txn
 
 renewal-asks : (revision : ℕ) (body : Body) → AsksRenewalOf revision body → IsAsking revision body
-renewal-asks revision (bodies.Request (txns.Renew compared info ttl status row failsafe)) asks =
-    record { txn = txns.Renew compared info ttl status row failsafe; says = refl; asks = asks }
+renewal-asks revision (bodies.Request (txns.Lease (lease_txns.Renew compared info ttl status row failsafe))) asks =
+    record { txn = txns.Lease (lease_txns.Renew compared info ttl status row failsafe); says = refl; asks = asks }
 renewal-asks revision (bodies.Request _) asks = absurd asks
 renewal-asks revision _ asks = absurd asks
 
@@ -170,8 +171,8 @@ module _ (head : HeadText) (book : List Event) (cluster : Cluster) (key : Leader
 
   release-by : (body : Body) → carried.message.body ≡ body → AsksReleaseOf key.revision body
       → IsMemberOf key.holder carried.message.from × (live_in cluster.facts.servers key.holder ≡ true → ⊥)
-  release-by (bodies.Request (txns.Release compared)) says asks =
-      let txn : Txn = txns.Release compared in
+  release-by (bodies.Request (txns.Lease (lease_txns.Release compared))) says asks =
+      let txn : Txn = txns.Lease (lease_txns.Release compared) in
       let request = request-of head book cluster good number carried txn found says in
       let owner =
       (vouched-by head book cluster good number carried request.by carried.message.incarnation

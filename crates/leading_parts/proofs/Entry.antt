@@ -9,6 +9,7 @@ use Rattle.store_keys.specs.declared.key.Key.{Key}
 use Rattle.store_keys.specs.declared.key.Key.TheVariants as keys
 use Rattle.store_keys.specs.declared.txn.Txn.{Txn}
 use Rattle.store_keys.specs.declared.txn.Txn.TheVariants as txns
+use Rattle.store_keys.specs.declared.txn.LeaseTxn.TheVariants as lease_txns
 use Rattle.store_keys.specs.declared.txn.Expected.{Expected}
 use Rattle.store_keys.specs.declared.txn.Expected.TheVariants.{Absent, Revision}
 use Rattle.store_keys.specs.declared.value.KeyEntry.{KeyEntry}
@@ -106,8 +107,8 @@ first-granted false key found rest e = absurd (never key found e)
 
 -- a request asks for the renewal or the release of the leader key of this revision
 abbrev pub AsksOf : ℕ → Txn → Type 0
-AsksOf revision (txns.Renew compared info ttl status row failsafe) = compared ≡ revision
-AsksOf revision (txns.Release compared) = compared ≡ revision
+AsksOf revision (txns.Lease (lease_txns.Renew compared info ttl status row failsafe)) = compared ≡ revision
+AsksOf revision (txns.Lease (lease_txns.Release compared)) = compared ≡ revision
 AsksOf revision _ = ⊥
 
 same-revision : (compared revision : ℕ) (found : Expected) → found ≡ Revision revision
@@ -126,13 +127,13 @@ module _ (store : Keys) (now : ℕ) (key : LeaderKey)
   -- what is granted, but the renewal or the release of this key, leaves it
   pub granted-leaves : (by : MemberId) (txn : Txn) (found : Option KeyEntry) → decision_on store now txn ≡ Grant
       → (AsksOf key.revision txn → ⊥) → leader_after (store.revision + 1) now by txn found ≡ found
-  granted-leaves by (txns.Create info ttl failsafe sync) found granted other =
+  granted-leaves by (txns.Lease (lease_txns.Create info ttl failsafe sync)) found granted other =
       absurd (no-room key.revision (found_in (key_in store.pairs now keys.Leader)) there
       (first-granted _ keys.Leader (found_in (key_in store.pairs now keys.Leader)) _ granted))
-  granted-leaves by (txns.Renew compared info ttl status row failsafe) found granted other =
+  granted-leaves by (txns.Lease (lease_txns.Renew compared info ttl status row failsafe)) found granted other =
       absurd (other (same-revision compared key.revision (found_in (key_in store.pairs now keys.Leader)) there
       (first-granted _ keys.Leader (found_in (key_in store.pairs now keys.Leader)) Grant granted)))
-  granted-leaves by (txns.Release compared) found granted other =
+  granted-leaves by (txns.Lease (lease_txns.Release compared)) found granted other =
       absurd (other (same-revision compared key.revision (found_in (key_in store.pairs now keys.Leader)) there
       (first-granted _ keys.Leader (found_in (key_in store.pairs now keys.Leader)) Grant granted)))
   granted-leaves by _ found granted other = refl

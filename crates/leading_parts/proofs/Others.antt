@@ -24,6 +24,8 @@ use Rattle.event_book.specs.Members.{server_of}
 use Rattle.agent_model.specs.declared.heard.Heard.TheVariants.{Wake}
 use Rattle.agent_model.specs.declared.output.Output.{Output}
 use Rattle.agent_model.specs.declared.output.Output.TheVariants as outputs
+use Rattle.agent_model.specs.declared.output.Outgoing.TheVariants as outgoing
+use Rattle.agent_model.specs.declared.output.Telling.TheVariants as tellings
 use Rattle.agent_model.specs.declared.output.Target.TheVariants as targets
 use Rattle.agent_model.specs.Agents.{Outcome}
 use Rattle.cluster_model.specs.declared.heard_message.HeardMessage.{HeardMessage}
@@ -115,13 +117,15 @@ module _ (n : ℕ) (member : Member) (other : n ≢ member.id.number) where
 
   output-apart : (heard : HeardMessage) (output : Output) (cluster : Cluster) → AreNumbered cluster
       → AllAre (Apart n) (output_events member heard cluster output)
-  output-apart heard (outputs.Send to sequence body) cluster numbered = sending-apart cluster
+  output-apart heard (outputs.Message (outgoing.Send to sequence body)) cluster numbered = sending-apart cluster
       (slice_get cluster.facts.processes member.id.number) (receiver_of cluster.facts.members to) sequence body
-  output-apart heard (outputs.Answer to incarnation sequence answer) cluster numbered = replying-apart cluster
+  output-apart heard (outputs.Message (outgoing.Answer to incarnation sequence answer)) cluster numbered =
+      replying-apart cluster
       (receiver_of cluster.facts.members (targets.Member to)) incarnation sequence (bodies.Answer answer)
-  output-apart heard (outputs.FailsafeAnswer to incarnation sequence accepted) cluster numbered = replying-apart cluster
+  output-apart heard (outputs.Message (outgoing.FailsafeAnswer to incarnation sequence accepted)) cluster numbered =
+      replying-apart cluster
       (receiver_of cluster.facts.members (targets.Member to)) incarnation sequence (bodies.FailsafeAnswer accepted)
-  output-apart heard (outputs.HoldTaken until from sequence) cluster numbered =
+  output-apart heard (outputs.Tell (tellings.HoldTaken until from sequence)) cluster numbered =
       let found = slice_get cluster.facts.members from.number in
       let hold = hold_taken member until heard.incarnation sequence in
       all-kinds (Apart n) cluster (kinds_of (option_map hold found))

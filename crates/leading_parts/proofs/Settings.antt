@@ -8,6 +8,8 @@ use Rattle.pat_base.specs.declared.ticks.Ticks.{Ticks}
 use Rattle.store_keys.specs.declared.key.Key.TheVariants as keys
 use Rattle.store_keys.specs.declared.txn.Txn.{Txn}
 use Rattle.store_keys.specs.declared.txn.Txn.TheVariants as txns
+use Rattle.store_keys.specs.declared.txn.LeaseTxn.TheVariants as lease_txns
+use Rattle.store_keys.specs.declared.txn.OperatorTxn.TheVariants as operator_txns
 use Rattle.store_keys.specs.declared.value.HistoryRow.{HistoryRow}
 use Rattle.store_keys.specs.declared.value.KeyEntry.{KeyEntry}
 use Rattle.lease_store.specs.Decision.{Decision, Grant, Refusal, decision_on}
@@ -37,14 +39,14 @@ use Rattle.leading_parts.proofs.Arrivals.{Answering, Behind, Decided, Later, Que
 
 -- no operator asks this
 abbrev IsOwn : Txn → Type 0
-IsOwn (txns.SetFailover failover ttl) = ⊥
-IsOwn (txns.SetConfig revision config) = ⊥
+IsOwn (txns.Operators (operator_txns.SetFailover failover ttl)) = ⊥
+IsOwn (txns.Operators (operator_txns.SetConfig revision config)) = ⊥
 IsOwn _ = Unit {0}
 
 own-granted : (cluster : Cluster) (number : ℕ) (by : Member) (txn : Txn)
     → GrantsNoOperator (decision_kind cluster.facts.members number by txn Grant) → IsOwn txn
-own-granted cluster number by (txns.SetFailover failover ttl) none = none
-own-granted cluster number by (txns.SetConfig revision config) none = none
+own-granted cluster number by (txns.Operators (operator_txns.SetFailover failover ttl)) none = none
+own-granted cluster number by (txns.Operators (operator_txns.SetConfig revision config)) none = none
 own-granted cluster number by _ none = tt
 
 carried-failover : (revision now : ℕ) (status : Option Lsn) (row : Option HistoryRow) (failsafe : Option MemberSet)
@@ -61,15 +63,15 @@ carried-failover revision now (Some end) (Some row) (Some members) = refl
 
 own-failover : (revision now : ℕ) (by : MemberId) (txn : Txn) → IsOwn txn
     → found_after_all revision now keys.Failover None (writes_of by txn) ≡ None
-own-failover revision now by (txns.Renew compared info ttl status row failsafe) own =
+own-failover revision now by (txns.Lease (lease_txns.Renew compared info ttl status row failsafe)) own =
     carried-failover revision now status row failsafe
-own-failover revision now by (txns.SetFailover failover ttl) own = absurd own
-own-failover revision now by (txns.SetConfig compared config) own = absurd own
+own-failover revision now by (txns.Operators (operator_txns.SetFailover failover ttl)) own = absurd own
+own-failover revision now by (txns.Operators (operator_txns.SetConfig compared config)) own = absurd own
 own-failover revision now by _ own = refl
 
 own-sets : (H : Option KeyEntry → Type 0) (revision now : ℕ) (by : MemberId) (found : Option KeyEntry) (txn : Txn)
     → IsOwn txn → SetsConfig H revision now by found txn
-own-sets H revision now by found (txns.SetConfig compared config) own = absurd own
+own-sets H revision now by found (txns.Operators (operator_txns.SetConfig compared config)) own = absurd own
 own-sets H revision now by found _ own = tt
 
 own-config : (revision now : ℕ) (by : MemberId) (found : Option KeyEntry) (txn : Txn) → IsOwn txn

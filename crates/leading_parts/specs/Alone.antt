@@ -3,6 +3,7 @@
 use Rattle.std.specs.Prelude.{ℕ, ◌≡◌, ◌≢◌, List, [], ◌∷◌, Some}
 use Rattle.store_keys.specs.declared.txn.Txn.{Txn}
 use Rattle.store_keys.specs.declared.txn.Txn.TheVariants as txns
+use Rattle.store_keys.specs.declared.txn.OperatorTxn.TheVariants as operator_txns
 use Rattle.event_book.specs.declared.event.AgentEvent.TheVariants as agents
 use Rattle.event_book.specs.declared.event.Event.{Event}
 use Rattle.event_book.specs.declared.event.EventKind.{EventKind}
@@ -24,8 +25,8 @@ IsWithStore n from to = ⊥
 
 -- no operator's request is granted
 abbrev pub IsOwnRequest : Txn → Type 0
-IsOwnRequest (txns.SetFailover failover ttl) = ⊥
-IsOwnRequest (txns.SetConfig revision config) = ⊥
+IsOwnRequest (txns.Operators (operator_txns.SetFailover failover ttl)) = ⊥
+IsOwnRequest (txns.Operators (operator_txns.SetConfig revision config)) = ⊥
 IsOwnRequest _ = Unit {0}
 
 -- what happens leaves the member of this number alone

@@ -5,6 +5,8 @@ use Rattle.store_keys.specs.declared.key.Key.{Key}
 use Rattle.store_keys.specs.declared.key.Key.TheVariants as keys
 use Rattle.store_keys.specs.declared.txn.Txn.{Txn}
 use Rattle.store_keys.specs.declared.txn.Txn.TheVariants as txns
+use Rattle.store_keys.specs.declared.txn.LeaseTxn.TheVariants as lease_txns
+use Rattle.store_keys.specs.declared.txn.OperatorTxn.TheVariants as operator_txns
 use Rattle.store_keys.specs.declared.value.KeyEntry.{KeyEntry}
 use Rattle.lease_store.specs.Answers.{present_pairs}
 use Rattle.lease_store.specs.Decision.{Decision}
@@ -44,12 +46,13 @@ IsMemberOf n ends.Store = ⊥
 
 -- this asks for the renewal of the leader key of this revision
 abbrev pub AsksRenewalOf : ℕ → Body → Type 0
-AsksRenewalOf revision (bodies.Request (txns.Renew compared info ttl status row failsafe)) = compared ≡ revision
+AsksRenewalOf revision (bodies.Request (txns.Lease (lease_txns.Renew compared info ttl status row failsafe))) =
+    compared ≡ revision
 AsksRenewalOf revision _ = ⊥
 
 -- this asks for its release
 abbrev pub AsksReleaseOf : ℕ → Body → Type 0
-AsksReleaseOf revision (bodies.Request (txns.Release compared)) = compared ≡ revision
+AsksReleaseOf revision (bodies.Request (txns.Lease (lease_txns.Release compared))) = compared ≡ revision
 AsksReleaseOf revision _ = ⊥
 
 -- no renewal of this revision is on its way
@@ -97,8 +100,12 @@ pub record IsRenewal (question : Message) (request ttl : ℕ) (key : LeaderKey) 
 
 -- no operator's request is granted in this event
 abbrev pub GrantsNoOperator : EventKind → Type 0
-GrantsNoOperator (kinds.Store (stores.Granted number by (txns.SetFailover failover ttl) standbys)) = ⊥
-GrantsNoOperator (kinds.Store (stores.Granted number by (txns.SetConfig revision config) standbys)) = ⊥
+GrantsNoOperator
+    (kinds.Store (stores.Granted number by (txns.Operators (operator_txns.SetFailover failover ttl)) standbys)) =
+    ⊥
+GrantsNoOperator
+    (kinds.Store (stores.Granted number by (txns.Operators (operator_txns.SetConfig revision config)) standbys)) =
+    ⊥
 GrantsNoOperator _ = Unit {0}
 
 -- the configuration is as it was, and there is no failover key if there was none

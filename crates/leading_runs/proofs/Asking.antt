@@ -9,6 +9,8 @@ use Rattle.pat_base.specs.ServerState.{live}
 use Rattle.store_keys.specs.declared.key.Key.TheVariants as keys
 use Rattle.store_keys.specs.declared.txn.Txn.{Txn}
 use Rattle.store_keys.specs.declared.txn.Txn.TheVariants as txns
+use Rattle.store_keys.specs.declared.txn.LeaseTxn.TheVariants as lease_txns
+use Rattle.store_keys.specs.declared.txn.OperatorTxn.TheVariants as operator_txns
 use Rattle.store_keys.specs.declared.value.HistoryRow.{HistoryRow}
 use Rattle.store_keys.specs.declared.value.MemberInfo.{MemberInfo}
 use Rattle.lease_store.specs.Answers.{present_pairs}
@@ -53,8 +55,12 @@ use Rattle.leading_runs.proofs.Stages.{Asked, Decides, Grants, InTurn, IsOwn, La
 
 -- ---- nobody operates
 none-operates : (n : ℕ) (cluster : Cluster) (kind : EventKind) → LeavesAlone n cluster kind → GrantsNoOperator kind
-none-operates n cluster (kinds.Store (stores.Granted number by (txns.SetFailover failover ttl) standbys)) alone = alone
-none-operates n cluster (kinds.Store (stores.Granted number by (txns.SetConfig revision config) standbys)) alone = alone
+none-operates n cluster
+    (kinds.Store (stores.Granted number by (txns.Operators (operator_txns.SetFailover failover ttl)) standbys)) alone =
+    alone
+none-operates n cluster
+    (kinds.Store (stores.Granted number by (txns.Operators (operator_txns.SetConfig revision config)) standbys)) alone =
+    alone
 none-operates n cluster _ alone = tt
 
 pub nobody-operates : (n : ℕ) (cluster : Cluster) (events : List Event) → LeaveAlone n cluster events
@@ -207,9 +213,9 @@ module _ (head : HeadText) (book later : List Event) (member : Member) (cluster 
         (info : MemberInfo) (status : Option Lsn) (row : Option HistoryRow) (listed : Option MemberSet)
         (is : carried.message
         ≡ Asked member seen turn.waited.sequence
-        (bodies.Request (txns.Renew seen.key.revision info turn.waited.ttl status row listed))) where
+        (bodies.Request (txns.Lease (lease_txns.Renew seen.key.revision info turn.waited.ttl status row listed)))) where
       abbrev Renewal : Txn
-      Renewal = txns.Renew seen.key.revision info turn.waited.ttl status row listed
+      Renewal = txns.Lease (lease_txns.Renew seen.key.revision info turn.waited.ttl status row listed)
 
       renewal-room : HasRoom cluster number
       renewal-room = request-room member seen.process.incarnation turn.waited.sequence number cluster Renewal
@@ -270,7 +276,7 @@ module _ (head : HeadText) (book later : List Event) (member : Member) (cluster 
         (asks : turn.waited.question ≡ Syncing settling) (past : LastsOn seen) (txn : Txn) (writes : WritesSync txn)
         (is : carried.message ≡ Asked member seen turn.waited.sequence (bodies.Request txn)) where
       not-renewal : (t : Txn) → WritesSync t → AsksRenewalOf seen.key.revision (bodies.Request t) → ⊥
-      not-renewal (txns.Renew compared info ttl status row failsafe) writing asking = writing
+      not-renewal (txns.Lease (lease_txns.Renew compared info ttl status row failsafe)) writing asking = writing
       not-renewal _ writing asking = asking
 
       sync-leaves : Leaves member cluster Came

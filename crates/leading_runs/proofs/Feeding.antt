@@ -9,6 +9,7 @@ use Rattle.store_keys.specs.declared.key.Key.TheVariants as keys
 use Rattle.store_keys.specs.declared.txn.Expected.{Expected}
 use Rattle.store_keys.specs.declared.txn.Txn.{Txn}
 use Rattle.store_keys.specs.declared.txn.Txn.TheVariants as txns
+use Rattle.store_keys.specs.declared.txn.SyncTxn.TheVariants as sync_txns
 use Rattle.lease_store.specs.declared.granted.Granted.{Granted}
 use Rattle.lease_store.specs.Decision.{Decision, Grant, Refusal}
 use Rattle.lease_store.specs.KeyOrder.{key_cmp}
@@ -34,6 +35,7 @@ use Rattle.agent_model.specs.declared.knowledge.Question.TheVariants.{Renewing, 
 use Rattle.agent_model.specs.declared.knowledge.Settling.{Settling}
 use Rattle.agent_model.specs.declared.output.Output.{Output}
 use Rattle.agent_model.specs.declared.output.Output.TheVariants as outputs
+use Rattle.agent_model.specs.declared.output.Outgoing.TheVariants as outgoing
 use Rattle.agent_model.specs.declared.output.Target.TheVariants as targets
 use Rattle.agent_model.specs.Acting.{comes_late, deadline_after, fed_until, lease_span, seconds_after}
 use Rattle.agent_model.specs.Decisions.{is_write_of}
@@ -184,8 +186,10 @@ module _ (head : HeadText) (book : List Event) (member : Member) (cluster : Clus
       (mild-with (outputs.Require required) (fed_until Until []) tt (fed-mild Until [] tt))
   mild-by (Writes waited settling write waits asked until numbered counted writes same) =
       subst AreMild
-      (sym (same ∙ ap (with_output (outputs.Send targets.Store waited.sequence (bodies.Request write))) fed-is))
-      (mild-with (outputs.Send targets.Store waited.sequence (bodies.Request write)) (fed_until Until []) tt
+      (sym (same
+      ∙ ap (with_output (outputs.Message (outgoing.Send targets.Store waited.sequence (bodies.Request write)))) fed-is))
+      (mild-with (outputs.Message (outgoing.Send targets.Store waited.sequence (bodies.Request write)))
+      (fed_until Until []) tt
       (fed-mild Until [] tt))
 
   left-heard : LeaveAlone member.id.number Arrived
@@ -210,8 +214,10 @@ module _ (head : HeadText) (book : List Event) (member : Member) (cluster : Clus
       (question-room member Said Arrived seen.process (fed_until Until []) waited.sequence (bodies.Request write)
       (ap (λ xs. slice_get xs member.id.number) (fed-processes member Said Arrived Until) ∙ stands.process_is)
       (input-outputs member Said cluster Arrived Heard_it O
-      (with_output (outputs.Send targets.Store waited.sequence (bodies.Request write)) (fed_until Until []))
-      Here.stands (same ∙ ap (with_output (outputs.Send targets.Store waited.sequence (bodies.Request write))) fed-is)
+      (with_output (outputs.Message (outgoing.Send targets.Store waited.sequence (bodies.Request write)))
+      (fed_until Until []))
+      Here.stands (same
+      ∙ ap (with_output (outputs.Message (outgoing.Send targets.Store waited.sequence (bodies.Request write)))) fed-is)
       left-heard))
 
   fed : LeadsOnAt member seen.process Ttl hears.grant.revision Snapshot O Arrived Heard_all
@@ -339,8 +345,8 @@ module _ (head : HeadText) (book : List Event) (member : Member) (cluster : Clus
 
 -- ---- its write of the sync key is decided
 not-lease : (txn : Txn) → WritesSync txn → is_lease txn ≡ false
-not-lease (txns.SetSync revision sync standbys) writes = refl
-not-lease (txns.DropSync revision sync) writes = refl
+not-lease (txns.Sync (sync_txns.SetSync revision sync standbys)) writes = refl
+not-lease (txns.Sync (sync_txns.DropSync revision sync)) writes = refl
 not-lease _ writes = absurd writes
 
 module _ (head : HeadText) (book : List Event) (member : Member) (cluster : Cluster) (seen : Seen) (number : ℕ)

@@ -5,6 +5,7 @@ use Rattle.std.specs.Prelude.{◌⊎◌}
 use Rattle.pg_model.specs.Facts.{ServerFacts}
 use Rattle.store_keys.specs.declared.key.Key.TheVariants as keys
 use Rattle.store_keys.specs.declared.txn.Txn.TheVariants as txns
+use Rattle.store_keys.specs.declared.txn.LeaseTxn.TheVariants as lease_txns
 use Rattle.lease_store.specs.Keys.{Keys}
 use Rattle.lease_store.specs.KeyOrder.{key_cmp}
 use Rattle.script_model.specs.Script.{HeadText}
@@ -130,7 +131,7 @@ mail-with member seen waited carried mail = with mail
     with (Reads asks last is) = asked waited.sequence bodies.Read is
     with (Shows asks last is shows sets failover) = answered waited.sequence bodies.Read bodies.Snapshot is
     with (Renews asks sent span none info status row listed is) = asked waited.sequence
-        (bodies.Request (txns.Renew seen.key.revision info waited.ttl status row listed)) is
+        (bodies.Request (txns.Lease (lease_txns.Renew seen.key.revision info waited.ttl status row listed))) is
     with (Grants asks sent span none txn request is grant sets lasts) =
         answered waited.sequence (bodies.Request txn) (bodies.Granted request true) is
     with (Syncs settling asks past txn writes is) = asked waited.sequence (bodies.Request txn) is

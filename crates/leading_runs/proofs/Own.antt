@@ -17,6 +17,9 @@ use Rattle.event_book.specs.Members.{server_of}
 use Rattle.agent_model.specs.declared.heard.Heard.{Heard}
 use Rattle.agent_model.specs.declared.output.Output.{Output}
 use Rattle.agent_model.specs.declared.output.Output.TheVariants as outputs
+use Rattle.agent_model.specs.declared.output.Feeding.TheVariants as feedings
+use Rattle.agent_model.specs.declared.output.Outgoing.TheVariants as outgoing
+use Rattle.agent_model.specs.declared.output.Telling.TheVariants as tellings
 use Rattle.agent_model.specs.declared.output.Target.TheVariants as targets
 use Rattle.agent_model.specs.Acting.{fed_until}
 use Rattle.agent_model.specs.Agents.{Outcome}
@@ -44,12 +47,12 @@ use Rattle.leading_parts.proofs.Answering.{alone-back, alone-front, room-for}
 
 -- ---- outputs that order its server nothing but whom its commits wait for
 abbrev pub IsMild : Output → Type 0
-IsMild (outputs.Send to sequence body) = Unit {0}
-IsMild (outputs.Answer to incarnation sequence answer) = Unit {0}
-IsMild (outputs.FailsafeAnswer to incarnation sequence accepted) = Unit {0}
-IsMild (outputs.Told request told) = Unit {0}
+IsMild (outputs.Message (outgoing.Send to sequence body)) = Unit {0}
+IsMild (outputs.Message (outgoing.Answer to incarnation sequence answer)) = Unit {0}
+IsMild (outputs.Message (outgoing.FailsafeAnswer to incarnation sequence accepted)) = Unit {0}
+IsMild (outputs.Tell (tellings.Told request told)) = Unit {0}
 IsMild (outputs.Require required) = Unit {0}
-IsMild (outputs.Fed until) = Unit {0}
+IsMild (outputs.Watchdog (feedings.Fed until)) = Unit {0}
 IsMild _ = ⊥
 
 abbrev pub AreMild : List Output → Type 0
@@ -61,7 +64,7 @@ mild-with output [] is all = (is, tt)
 mild-with output (x ∷ xs) is all = (all.0, mild-with output xs is all.1)
 
 told-one : (output : Output) → IsTold output → IsMild output
-told-one (outputs.Told request told) is = tt
+told-one (outputs.Tell (tellings.Told request told)) is = tt
 told-one _ is = absurd is
 
 pub told-mild : (xs : List Output) → AreTold xs → AreMild xs
@@ -69,13 +72,13 @@ told-mild [] all = tt
 told-mild (x ∷ xs) all = (told-one x all.0, told-mild xs all.1)
 
 pub answer-mild : (output : Output) → IsAnswer output → IsMild output
-answer-mild (outputs.Answer to incarnation sequence answer) is = tt
-answer-mild (outputs.FailsafeAnswer to incarnation sequence accepted) is = tt
+answer-mild (outputs.Message (outgoing.Answer to incarnation sequence answer)) is = tt
+answer-mild (outputs.Message (outgoing.FailsafeAnswer to incarnation sequence accepted)) is = tt
 answer-mild _ is = absurd is
 
 pub fed-mild : (until : Option Ticks) (xs : List Output) → AreMild xs → AreMild (fed_until until xs)
 fed-mild None xs all = all
-fed-mild (Some until) xs all = mild-with (outputs.Fed until) xs tt all
+fed-mild (Some until) xs all = mild-with (outputs.Watchdog (feedings.Fed until)) xs tt all
 
 -- ---- by those it serves on
 module _ (n : ℕ) (member : Member) (said : HeardMessage) where
@@ -110,16 +113,16 @@ module _ (n : ℕ) (member : Member) (said : HeardMessage) where
 
   output-serves : (output : Output) → IsMild output → (cluster : Cluster)
       → AllAre (ServesOn n) (output_events member said cluster output)
-  output-serves (outputs.Send to sequence body) is cluster =
+  output-serves (outputs.Message (outgoing.Send to sequence body)) is cluster =
       sending-serves cluster (slice_get cluster.facts.processes member.id.number)
       (receiver_of cluster.facts.members to) sequence body
-  output-serves (outputs.Answer to incarnation sequence answer) is cluster =
+  output-serves (outputs.Message (outgoing.Answer to incarnation sequence answer)) is cluster =
       replying-serves cluster (receiver_of cluster.facts.members (targets.Member to)) incarnation sequence
       (bodies.Answer answer)
-  output-serves (outputs.FailsafeAnswer to incarnation sequence accepted) is cluster =
+  output-serves (outputs.Message (outgoing.FailsafeAnswer to incarnation sequence accepted)) is cluster =
       replying-serves cluster (receiver_of cluster.facts.members (targets.Member to)) incarnation sequence
       (bodies.FailsafeAnswer accepted)
-  output-serves (outputs.Told request told) is cluster =
+  output-serves (outputs.Tell (tellings.Told request told)) is cluster =
       let agent = agent_at cluster.agents member.id.number in
       all-kinds (ServesOn n) cluster (kinds_of (told_kind member agent told))
       (one-kind (ServesOn n) (told_kind member agent told)
@@ -128,7 +131,7 @@ module _ (n : ℕ) (member : Member) (said : HeardMessage) where
       let found = option_and_then (require_of cluster.facts.members member required) (server_at cluster member) in
       all-kinds (ServesOn n) cluster (kinds_of found)
       (one-kind (ServesOn n) found (required-serves cluster required (server_at cluster member)))
-  output-serves (outputs.Fed until) is cluster = (tt, (tt, tt))
+  output-serves (outputs.Watchdog (feedings.Fed until)) is cluster = (tt, (tt, tt))
   output-serves _ is cluster = absurd is
 
   pub outputs-serve : (list : List Output) → AreMild list → (cluster : Cluster)
@@ -168,7 +171,8 @@ module _ (member : Member) (said : HeardMessage) where
 
   sent-room : (cluster : Cluster) (process : AgentProcess) (sequence : ℕ) (body : Body)
       → slice_get cluster.facts.processes N ≡ Some process
-      → LeaveAlone N cluster (output_events member said cluster (outputs.Send targets.Store sequence body))
+      → LeaveAlone N cluster
+      (output_events member said cluster (outputs.Message (outgoing.Send targets.Store sequence body)))
       → length cluster.facts.flight < most_in_flight
   sent-room cluster process sequence body found alone =
       room-for N cluster (agent_message member ends.Store process.incarnation sequence body) refl
@@ -180,11 +184,12 @@ module _ (member : Member) (said : HeardMessage) where
   pub question-room : (cluster : Cluster) (process : AgentProcess) (xs : List Output) (sequence : ℕ) (body : Body)
       → slice_get (Over member said cluster xs).facts.processes N ≡ Some process
       → LeaveAlone N cluster
-      (each (output_events member said) cluster (with_output (outputs.Send targets.Store sequence body) xs))
+      (each (output_events member said) cluster
+      (with_output (outputs.Message (outgoing.Send targets.Store sequence body)) xs))
       → length (Over member said cluster xs).facts.flight < most_in_flight
   question-room cluster process xs sequence body found alone =
       sent-room (Over member said cluster xs) process sequence body found
-      (last-alone cluster xs (outputs.Send targets.Store sequence body) alone)
+      (last-alone cluster xs (outputs.Message (outgoing.Send targets.Store sequence body)) alone)
 
   -- the outputs of an input
   pub input-outputs : (cluster later : Cluster) (heard : Heard) (o : Outcome) (outs : List Output)

@@ -9,6 +9,7 @@ use Rattle.store_keys.specs.declared.config.Config.{Config}
 use Rattle.store_keys.specs.declared.key.Key.TheVariants as keys
 use Rattle.store_keys.specs.declared.txn.Txn.{Txn}
 use Rattle.store_keys.specs.declared.txn.Txn.TheVariants as txns
+use Rattle.store_keys.specs.declared.txn.LeaseTxn.TheVariants as lease_txns
 use Rattle.store_keys.specs.declared.value.HistoryRow.{HistoryRow}
 use Rattle.store_keys.specs.declared.value.MemberInfo.{MemberInfo}
 use Rattle.lease_store.specs.Decision.{Decision, Grant}
@@ -100,7 +101,7 @@ pub data Mail (member : Member) (seen : Seen) (waited : PendingQuestion) (carrie
       → (info : MemberInfo) → (status : Option Lsn) → (row : Option HistoryRow) → (listed : Option MemberSet)
       → (is : carried.message
       ≡ Asked member seen waited.sequence
-      (bodies.Request (txns.Renew seen.key.revision info waited.ttl status row listed)))
+      (bodies.Request (txns.Lease (lease_txns.Renew seen.key.revision info waited.ttl status row listed))))
       → Mail member seen waited carried
   Grants : (asks : waited.question ≡ Renewing) → (sent : waited.sent ≡ record { 0 = seen.clock })
       → (span : waited.ttl ≡ lease_span (settings_seen seen)) → (none : seen.agent.knows.turn_failover ≡ None)

@@ -7,6 +7,7 @@ use Rattle.pat_base.specs.declared.ticks.TheConstants.{TICKS_OF_SECOND}
 use Rattle.store_keys.specs.declared.config.Config.{Config}
 use Rattle.store_keys.specs.declared.key.Key.TheVariants as keys
 use Rattle.store_keys.specs.declared.txn.Txn.TheVariants as txns
+use Rattle.store_keys.specs.declared.txn.LeaseTxn.TheVariants as lease_txns
 use Rattle.lease_store.specs.KeyOrder.{key_cmp}
 use Rattle.cluster_view.specs.KeyValues.{failover_of_entry}
 use Rattle.cluster_view.specs.Snapshots.{SnapshotFacts}
@@ -28,6 +29,7 @@ use Rattle.agent_model.specs.declared.knowledge.Question.{Question}
 use Rattle.agent_model.specs.declared.knowledge.Question.TheVariants.{Reading}
 use Rattle.agent_model.specs.declared.output.Output.{Output}
 use Rattle.agent_model.specs.declared.output.Output.TheVariants as outputs
+use Rattle.agent_model.specs.declared.output.Outgoing.TheVariants as outgoing
 use Rattle.agent_model.specs.declared.output.Target.TheVariants as targets
 use Rattle.agent_model.specs.Acting.{seconds_after}
 use Rattle.agent_model.specs.Agents.{AgentFacts, Outcome}
@@ -87,7 +89,7 @@ told-room : (member : Member) (said : HeardMessage) (cluster later : Cluster) (h
     (process : _) (sequence : ℕ) (body : Body) (before : List Output)
     → standing_of cluster member ≡ Some o
     → (step (moment_of cluster) (points_of cluster member) heard o).outputs
-    ≡ with_output (outputs.Send targets.Store sequence body) before → AreTold before
+    ≡ with_output (outputs.Message (outgoing.Send targets.Store sequence body)) before → AreTold before
     → slice_get later.facts.processes member.id.number ≡ Some process
     → LeaveAlone member.id.number later (input_events later member said (outcome_of cluster member heard))
     → length later.facts.flight < most_in_flight
@@ -96,7 +98,8 @@ told-room member said cluster later heard o process sequence body before stands 
     subst (λ (c : Cluster). length c.facts.flight < most_in_flight) same
     (question-room member said later process before sequence body
     (ap (λ (c : Cluster). slice_get c.facts.processes member.id.number) same ∙ found)
-    (input-outputs member said cluster later heard o (with_output (outputs.Send targets.Store sequence body) before)
+    (input-outputs member said cluster later heard o
+    (with_output (outputs.Message (outgoing.Send targets.Store sequence body)) before)
     stands outs alone))
 
 -- ---- its turn is due: it asks to read
@@ -143,7 +146,7 @@ module _ (head : HeadText) (book : List Event) (member : Member) (cluster : Clus
     tt,
     input-serves member.id.number member no_message cluster Woken heards.Wake O Here.stands
         (subst AreMild (sym begun.outputs_are)
-        (mild-with (outputs.Send targets.Store begun.waited.sequence bodies.Read)
+        (mild-with (outputs.Message (outgoing.Send targets.Store begun.waited.sequence bodies.Read))
         (prepared (moment_of cluster) heards.Wake O).outputs tt
         (told-mild (prepared (moment_of cluster) heards.Wake O).outputs (begun.told nothing-told)))),
   )
@@ -267,7 +270,7 @@ module _ (head : HeadText) (book : List Event) (member : Member) (cluster : Clus
         (input-serves member.id.number member SaidR cluster ArrivedR
         (heards.ReadAnswered turn.waited.sequence Snapshot) R HereR.stands
         (subst AreMild (sym asked.outputs_are)
-        (mild-with (outputs.Send targets.Store asked.waited.sequence _) asked.before.outputs tt
+        (mild-with (outputs.Message (outgoing.Send targets.Store asked.waited.sequence _)) asked.before.outputs tt
         (told-mild asked.before.outputs (asked.told nothing-toldR))))),
   )
 
@@ -303,8 +306,9 @@ module _ (head : HeadText) (book : List Event) (member : Member) (cluster : Clus
       went.renews.row went.renews.listed
       (went.asks.message_is
       ∙ ap (λ (r : ℕ). Asked member seen went.renews.waited.sequence
-      (bodies.Request (txns.Renew r went.renews.info went.renews.waited.ttl went.renews.status went.renews.row
-      went.renews.listed)))
+      (bodies.Request
+      (txns.Lease (lease_txns.Renew r went.renews.info went.renews.waited.ttl went.renews.status went.renews.row
+      went.renews.listed))))
       hears.revision)
 
   abbrev RenewsAt : Stage member ThenR

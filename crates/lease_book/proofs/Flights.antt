@@ -83,6 +83,8 @@ present-value now revision (values.History row) expiry has = held-none (is_prese
     (Some (record { value = values.History row; revision = revision; expiry = expiry })) refl
 present-value now revision (values.Failsafe members) expiry has = held-none (is_present now expiry)
     (Some (record { value = values.Failsafe members; revision = revision; expiry = expiry })) refl
+present-value now revision (values.Scheduled planned) expiry has = held-none (is_present now expiry)
+    (Some (record { value = values.Scheduled planned; revision = revision; expiry = expiry })) refl
 
 present-leader : (now : ℕ) (found : Option KeyEntry)
     → ((key : LeaderKey) → leader_key_of found ≡ Some key → now < key.expiry)

@@ -6,6 +6,7 @@ use Rattle.store_keys.specs.declared.key.Key.{Key}
 use Rattle.store_keys.specs.declared.txn.Expected.{Expected}
 use Rattle.store_keys.specs.declared.txn.Txn.{Txn}
 use Rattle.store_keys.specs.declared.txn.Txn.TheVariants as txns
+use Rattle.store_keys.specs.declared.txn.LeaseTxn.TheVariants as lease_txns
 use Rattle.store_keys.specs.declared.txn_kind.TxnKind.{TxnKind}
 use Rattle.lease_store.specs.Writes.{is_lease}
 use Rattle.event_book.specs.declared.event.Event.{Event}
@@ -68,8 +69,8 @@ causal-front past facts (event ∷ front) rest causal = (
 
 -- ---- a delivery to the key store
 leasing-is : (txn : Txn) → is_leasing (query_of txn) ≡ is_lease txn
-leasing-is (txns.Create info ttl failsafe sync) = refl
-leasing-is (txns.Renew revision info ttl status row failsafe) = refl
+leasing-is (txns.Lease (lease_txns.Create info ttl failsafe sync)) = refl
+leasing-is (txns.Lease (lease_txns.Renew revision info ttl status row failsafe)) = refl
 leasing-is _ = refl
 
 pub granted-causal : (past : Past) (facts : Facts) (tick : Ticks) (i j : ℕ) (carried : InFlightFacts)

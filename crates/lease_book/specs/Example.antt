@@ -2,6 +2,7 @@
 use Rattle.std.specs.Prelude.{List, [], ◌∷◌, Some, None}
 use Rattle.store_keys.specs.declared.txn.Txn.{Txn}
 use Rattle.store_keys.specs.declared.txn.Txn.TheVariants as txns
+use Rattle.store_keys.specs.declared.txn.LeaseTxn.TheVariants as lease_txns
 use Rattle.store_keys.specs.declared.value.MemberInfo.{MemberInfo}
 use Rattle.event_book.specs.declared.event.Event.{Event}
 use Rattle.event_book.specs.declared.event.EventKind.TheVariants as kinds
@@ -14,7 +15,7 @@ use Rattle.lease_model.specs.Showing.{granted_events}
 
 -- a create with a lease of 300 ticks, which expects nothing of other keys
 abbrev pub create_of : MemberInfo → Txn
-create_of info = txns.Create info (record { 0 = 300 }) None None
+create_of info = txns.Lease (lease_txns.Create info (record { 0 = 300 }) None None)
 
 -- this member asks for the leader key, and the key store grants it
 abbrev pub asked_and_granted : Member → MemberInfo → List Event

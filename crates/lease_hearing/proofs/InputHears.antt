@@ -14,7 +14,7 @@ use Rattle.store_keys.specs.declared.value.Value.TheVariants as values
 use Rattle.store_keys.specs.Defaults.{default_config}
 use Rattle.lease_store.specs.KeyOrder.{key_cmp}
 use Rattle.cluster_view.specs.KeyValues.{config_in}
-use Rattle.cluster_view.specs.Snapshots.{leader_of_entry, settings_by, settings_of_entry}
+use Rattle.cluster_view.specs.Snapshots.{settings_by, settings_of_entry, found_by, leader_by}
 use Rattle.event_book.specs.declared.link.LinkEnd.{LinkEnd}
 use Rattle.event_book.specs.declared.link.LinkEnd.TheVariants as ends
 use Rattle.event_book.specs.declared.member.Member.{Member}
@@ -57,7 +57,7 @@ use Rattle.lease_hearing.specs.Hearing.{IsHeardWell, IsRequestHeard}
 -- ---- the keys of a snapshot, as agents and as the law see them
 leader-by : (revision : ℕ) (value : Value) (expiry : Option Ticks)
     → IsLeased (Some (record { value = value; revision = revision; expiry = expiry }))
-    → leader_entry_seen (leader_of_entry (Some (record { value = value; revision = revision; expiry = expiry })))
+    → leader_entry_seen (found_by leader_by (Some (record { value = value; revision = revision; expiry = expiry })))
     ≡ seen_of (leader_key_of (Some (record { value = value; revision = revision; expiry = expiry })))
 leader-by revision (values.Leader member) (Some expiry) leased = refl
 leader-by revision (values.Leader member) None leased = absurd (both leased)
@@ -68,9 +68,10 @@ leader-by revision (values.Sync key) expiry leased = refl
 leader-by revision (values.Status end) expiry leased = refl
 leader-by revision (values.History row) expiry leased = refl
 leader-by revision (values.Failsafe members) expiry leased = refl
+leader-by revision (values.Scheduled planned) expiry leased = refl
 
 leader-is : (found : Option KeyEntry) → IsLeased found
-    → leader_entry_seen (leader_of_entry found) ≡ seen_of (leader_key_of found)
+    → leader_entry_seen (found_by leader_by found) ≡ seen_of (leader_key_of found)
 leader-is None leased = refl
 leader-is (Some found) leased = leader-by found.revision found.value found.expiry leased
 
@@ -78,6 +79,7 @@ failsafe-by : (revision : ℕ) (value : Value) (expiry : Option Ticks)
     → failsafe_entry_seen (Some (record { value = value; revision = revision; expiry = expiry }))
     ≡ failsafe_key_of (Some (record { value = value; revision = revision; expiry = expiry }))
 failsafe-by revision (values.Failsafe members) expiry = refl
+failsafe-by revision (values.Scheduled planned) expiry = refl
 failsafe-by revision (values.Leader member) expiry = refl
 failsafe-by revision (values.Config config) expiry = refl
 failsafe-by revision (values.Member info) expiry = refl

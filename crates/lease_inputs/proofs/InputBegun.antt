@@ -14,6 +14,7 @@ use Rattle.event_book.specs.Functions.{set_members}
 use Rattle.script_model.specs.Script.{HeadText}
 use Rattle.agent_model.specs.declared.output.Output.{Output}
 use Rattle.agent_model.specs.declared.output.Output.TheVariants as outputs
+use Rattle.agent_model.specs.declared.output.Outgoing.TheVariants as outgoing
 use Rattle.agent_model.specs.declared.output.Target.TheVariants as targets
 use Rattle.agent_model.specs.declared.knowledge.Knowledge.{Knowledge}
 use Rattle.agent_roles.specs.Seen.{agent_seen as role_seen, check_seen}
@@ -112,9 +113,12 @@ opening-sent heard _ last is = absurd is
 -- what outputs with this property ask: the key store is asked a question, each
 -- question has a number that counts from 1, and none asks to change failsafe mode
 pub record AskWell (mode : Bool) (Q : Output → Type 0) : Type 0 where
-  pub store : (sequence : ℕ) (body : Body) → Q (outputs.Send targets.Store sequence body) → IsQuestion body
-  pub numbered : (to : Target) (sequence : ℕ) (body : Body) → Q (outputs.Send to sequence body) → 0 < sequence
-  pub leaves : (to : Target) (sequence : ℕ) (body : Body) → Q (outputs.Send to sequence body) → IsModeAsked mode body
+  pub store : (sequence : ℕ) (body : Body) → Q (outputs.Message (outgoing.Send targets.Store sequence body))
+      → IsQuestion body
+  pub numbered : (to : Target) (sequence : ℕ) (body : Body)
+      → Q (outputs.Message (outgoing.Send to sequence body)) → 0 < sequence
+  pub leaves : (to : Target) (sequence : ℕ) (body : Body)
+      → Q (outputs.Message (outgoing.Send to sequence body)) → IsModeAsked mode body
 
 -- so is a message
 abbrev IsSentWell : Bool → Message → Type 0

@@ -13,12 +13,15 @@ use Rattle.event_book.specs.declared.message.Body.{Body}
 use Rattle.event_book.specs.declared.message.Body.TheVariants as bodies
 use Rattle.event_book.specs.Kinds.{AllAre}
 use Rattle.store_keys.specs.declared.txn.Txn.TheVariants as txns
+use Rattle.store_keys.specs.declared.txn.LeaseTxn.TheVariants as lease_txns
 use Rattle.event_book.specs.Premises.{Taking, taken_after, taken_with}
 use Rattle.agent_model.specs.declared.heard.Heard.{Heard}
 use Rattle.agent_model.specs.declared.heard.Heard.TheVariants as heards
 use Rattle.agent_model.specs.declared.knowledge.Knowledge.{Knowledge}
 use Rattle.agent_model.specs.declared.output.Output.{Output}
 use Rattle.agent_model.specs.declared.output.Output.TheVariants as outputs
+use Rattle.agent_model.specs.declared.output.Outgoing.TheVariants as outgoing
+use Rattle.agent_model.specs.declared.output.Telling.TheVariants as tellings
 use Rattle.agent_model.specs.declared.output.Target.TheVariants as targets
 use Rattle.agent_model.specs.Agents.{EndsAlone, Outcome}
 use Rattle.agent_model.specs.Outputs.{has_one, with_output}
@@ -64,7 +67,7 @@ all-as P R weaker (event ∷ events) all = (weaker event.kind all.0, all-as P R 
 
 -- what holds of silent outputs and of questions to the key store holds of what precedes an input
 pub fronts-hold : (P : Output → Type 0) → ((output : Output) → IsSilent output → P output)
-    → ((sequence : ℕ) (body : Body) → P (outputs.Send targets.Store sequence body)) → (o b : Outcome)
+    → ((sequence : ℕ) (body : Body) → P (outputs.Message (outgoing.Send targets.Store sequence body))) → (o b : Outcome)
     → Fronts o b → All P b.outputs
 fronts-hold P silent asks o b (Silent all) = All-weaker IsSilent P silent b.outputs all
 fronts-hold P silent asks o b (Released revision held alone role ended counted all) =
@@ -72,24 +75,25 @@ fronts-hold P silent asks o b (Released revision held alone role ended counted a
   where
     by : (output : Output) → IsReleaseOr (o.knows.sequence + 1) revision output → P output
     by output (inl is) = silent output is
-    by output (inr is) = subst P (sym is) (asks (o.knows.sequence + 1) (bodies.Request (txns.Release revision)))
+    by output (inr is) =
+        subst P (sym is) (asks (o.knows.sequence + 1) (bodies.Request (txns.Lease (lease_txns.Release revision))))
 
 -- ---- the holds of each output
 -- no hold is taken by this output
 abbrev NoHold : Output → Type 0
-NoHold (outputs.HoldTaken until from sequence) = ⊥
+NoHold (outputs.Tell (tellings.HoldTaken until from sequence)) = ⊥
 NoHold _ = Unit {0}
 
 -- nor is a failsafe request answered
 abbrev IsPlain : Output → Type 0
-IsPlain (outputs.HoldTaken until from sequence) = ⊥
-IsPlain (outputs.FailsafeAnswer to run sequence accepted) = ⊥
+IsPlain (outputs.Tell (tellings.HoldTaken until from sequence)) = ⊥
+IsPlain (outputs.Message (outgoing.FailsafeAnswer to run sequence accepted)) = ⊥
 IsPlain _ = Unit {0}
 
 module _ (member : Member) (incarnation : ℕ) (message : HeardMessage) where
   -- the holds that were taken, behind an output that is carried out at this moment
   abbrev pub taken_of : ℕ → Output → List Taking → List Taking
-  taken_of clock (outputs.HoldTaken until from sequence) taken =
+  taken_of clock (outputs.Tell (tellings.HoldTaken until from sequence)) taken =
       taken_with clock taken member.id.number from.number message.incarnation sequence
   taken_of clock _ taken = taken
 
@@ -128,7 +132,7 @@ module _ (member : Member) (incarnation : ℕ) (message : HeardMessage) where
   one-taken : (past : Past) (cluster : Cluster) (output : Output) → RunsAmong member incarnation cluster.facts
       → IsOfTable output → IsHeldFor cluster.facts.members output
       → (past_over past (Brings cluster output)).taken ≡ taken_of past.clock output past.taken
-  one-taken past cluster (outputs.HoldTaken until from sequence) runs table held =
+  one-taken past cluster (outputs.Tell (tellings.HoldTaken until from sequence)) runs table held =
       subst (λ (found : Option Member).
       (past_over past
       (events_of cluster (kinds_of (option_map (hold_taken member until message.incarnation sequence) found)))).taken
@@ -168,7 +172,7 @@ module _ (member : Member) (incarnation : ℕ) (message : HeardMessage) where
   taken-push clock (one ∷ outs) output taken = taken-push clock outs output (taken_of clock one taken)
 
   plain-one : (clock : ℕ) (output : Output) (taken : List Taking) → IsPlain output → taken_of clock output taken ≡ taken
-  plain-one clock (outputs.HoldTaken until from sequence) taken plain = absurd plain
+  plain-one clock (outputs.Tell (tellings.HoldTaken until from sequence)) taken plain = absurd plain
   plain-one clock _ taken plain = refl
 
   plain-taken : (clock : ℕ) (outs : List Output) (taken : List Taking) → All IsPlain outs
@@ -182,7 +186,7 @@ module _ (member : Member) (incarnation : ℕ) (message : HeardMessage) where
   stands-one : (clock : ℕ) (heard : Heard) (knows : Knowledge) (output : Output) (taken : List Taking)
       → ((from : MemberId) (run sequence : ℕ) → HearsFailsafe heard from run sequence → ⊥)
       → StandsOn heard knows output → taken_of clock output taken ≡ taken
-  stands-one clock heard knows (outputs.HoldTaken until from sequence) taken none stands = elim stands [
+  stands-one clock heard knows (outputs.Tell (tellings.HoldTaken until from sequence)) taken none stands = elim stands [
     | inl mine ↦ ap (taken_with clock taken member.id.number from.number message.incarnation) mine.0
     | inr asked ↦ absurd (none from asked.0 sequence asked.1)
   ]
@@ -216,15 +220,15 @@ module _ (member : Member) (incarnation : ℕ) (message : HeardMessage) where
       taken
   asked-taken clock now from run sequence ttl sent span b taken plain counted same =
       failsafe-asked-by As now from run sequence span b
-      (λ _. let hold : Output = outputs.HoldTaken (span_after now span) from sequence in
-      let yes : Output = outputs.FailsafeAnswer from run sequence true in
+      (λ _. let hold : Output = outputs.Tell (tellings.HoldTaken (span_after now span) from sequence) in
+      let yes : Output = outputs.Message (outgoing.FailsafeAnswer from run sequence true) in
       taken-push clock (with_output hold b.outputs) yes taken
       ∙ taken-push clock b.outputs hold taken
       ∙ ap (taken_of clock hold) (plain-taken clock b.outputs taken plain)
       ∙ counted-taken clock from run sequence ttl sent taken counted same
       ∙ ap (λ (test : Bool). taken_by member.id.number clock (request_taken test (Some request)) taken)
       (sym (yes-push (with_output hold b.outputs) yes refl)))
-      (let refusal : Output = outputs.FailsafeAnswer from run sequence false in
+      (let refusal : Output = outputs.Message (outgoing.FailsafeAnswer from run sequence false) in
       taken-push clock b.outputs refusal taken
       ∙ plain-taken clock b.outputs taken plain
       ∙ ap (λ (test : Bool). taken_by member.id.number clock (request_taken test (Some request)) taken)
@@ -251,7 +255,7 @@ module _ (member : Member) (incarnation : ℕ) (message : HeardMessage) where
           or-true (is_yes one) (has_one is_yes (with_output output outs)) (yes-push outs output is)
 
       plain-no : (output : Output) → IsPlain output → is_yes output ≡ false
-      plain-no (outputs.FailsafeAnswer to run sequence accepted) plain = absurd plain
+      plain-no (outputs.Message (outgoing.FailsafeAnswer to run sequence accepted)) plain = absurd plain
       plain-no _ plain = refl
 
       no-push : (outs : List Output) (output : Output) → All IsPlain outs → is_yes output ≡ false
@@ -263,8 +267,8 @@ module _ (member : Member) (incarnation : ℕ) (message : HeardMessage) where
 
   -- what precedes an input takes none
   silent-plain : (output : Output) → IsSilent output → IsPlain output
-  silent-plain (outputs.HoldTaken until from sequence) silent = absurd silent
-  silent-plain (outputs.FailsafeAnswer to run sequence accepted) silent = absurd silent
+  silent-plain (outputs.Tell (tellings.HoldTaken until from sequence)) silent = absurd silent
+  silent-plain (outputs.Message (outgoing.FailsafeAnswer to run sequence accepted)) silent = absurd silent
   silent-plain _ silent = tt
 
   -- ---- of any input
@@ -289,8 +293,8 @@ module _ (member : Member) (incarnation : ℕ) (message : HeardMessage) where
       (no-yes heard knows none outs (All-tail (StandsOn heard knows) output outs stands))
     where
       one : (output : Output) → StandsOn heard knows output → is_yes output ≡ false
-      one (outputs.FailsafeAnswer to run sequence true) is = absurd (none to run sequence (is refl))
-      one (outputs.FailsafeAnswer to run sequence false) is = refl
+      one (outputs.Message (outgoing.FailsafeAnswer to run sequence true)) is = absurd (none to run sequence (is refl))
+      one (outputs.Message (outgoing.FailsafeAnswer to run sequence false)) is = refl
       one _ is = refl
 
       neither : (b c : Bool) → b ≡ false → c ≡ false → (b || c) ≡ false

@@ -24,6 +24,7 @@ use Rattle.agent_model.specs.declared.heard.Heard.{Heard}
 use Rattle.agent_model.specs.declared.machine.Machine.{Machine}
 use Rattle.agent_model.specs.declared.output.Output.{Output}
 use Rattle.agent_model.specs.declared.output.Output.TheVariants as outputs
+use Rattle.agent_model.specs.declared.output.Telling.TheVariants as tellings
 use Rattle.agent_roles.specs.Seen.{agent_seen as role_seen, check_seen}
 use Rattle.lease_model.specs.States.{FailsafeCheck, is_ready as ready_seen}
 use Rattle.agent_model.specs.Agents.{is_ready, AgentFacts, Outcome, outcome_from, EndsAlone}
@@ -233,7 +234,7 @@ module _ (head : HeadText) (book : List Event) (cluster : Cluster) (good : Bridg
       (good.matched.waiting.agents M agent here).ends).stands
 
   known : (output : Output) → StandsOn heard agent.knows output → IsHeldFor cluster.facts.members output
-  known (outputs.HoldTaken until from sequence) stands = elim stands [
+  known (outputs.Tell (tellings.HoldTaken until from sequence)) stands = elim stands [
     | inl mine ↦ (
       member,
       ap (λ (id : MemberId). slice_get cluster.facts.members id.number) mine.1

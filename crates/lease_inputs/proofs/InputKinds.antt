@@ -18,6 +18,8 @@ use Rattle.event_book.specs.declared.message.Body.TheVariants as bodies
 use Rattle.event_book.specs.declared.message.Message.{Message}
 use Rattle.agent_model.specs.declared.output.Output.{Output}
 use Rattle.agent_model.specs.declared.output.Output.TheVariants as outputs
+use Rattle.agent_model.specs.declared.output.Outgoing.TheVariants as outgoing
+use Rattle.agent_model.specs.declared.output.Telling.TheVariants as tellings
 use Rattle.agent_model.specs.declared.output.Target.TheVariants as targets
 use Rattle.agent_lease_law.specs.Lawful.{query_in}
 use Rattle.agent_roles.specs.Asks.{IsAsk}
@@ -105,7 +107,8 @@ opening-moments n heard _ is = absurd is
 -- this holds of what flies of the messages that outputs with this property send
 pub record MaySend (member : Member) (incarnation : ℕ) (Q : Output → Type 0) (P : Flying → Type 0) (clock : ℕ) : Type
     0 where
-  pub store : (sequence : ℕ) (body : Body) (query : Query) → Q (outputs.Send targets.Store sequence body)
+  pub store : (sequence : ℕ) (body : Body) (query : Query)
+      → Q (outputs.Message (outgoing.Send targets.Store sequence body))
       → query_in body ≡ Some query → P (Requested (record {
         member = member.id.number;
         incarnation = incarnation;
@@ -114,10 +117,10 @@ pub record MaySend (member : Member) (incarnation : ℕ) (Q : Output → Type 0)
         query = query;
       }))
   pub asks : (to : MemberId) (sequence : ℕ) (ttl : Ticks)
-      → Q (outputs.Send (targets.Member to) sequence (bodies.FailsafeRequest ttl))
+      → Q (outputs.Message (outgoing.Send (targets.Member to) sequence (bodies.FailsafeRequest ttl)))
       → P (FailsafeRequested
       (record { member = member.id.number; incarnation = incarnation; sequence = sequence; ttl = ttl.0; sent = clock }))
-  pub says : (to : MemberId) (run sequence : ℕ) → Q (outputs.FailsafeAnswer to run sequence true)
+  pub says : (to : MemberId) (run sequence : ℕ) → Q (outputs.Message (outgoing.FailsafeAnswer to run sequence true))
       → P (Acknowledged (record { member = to.number; incarnation = run; sequence = sequence; by = member.id.number }))
 
 -- ---- one of its further events
@@ -139,7 +142,8 @@ module _ (member : Member) (incarnation heard : ℕ) (Q : Output → Type 0) whe
   mine-own _ is = tt
 
   -- where its outputs take no hold but under number 0
-  pub mine-taken : ((until : Ticks) (id : MemberId) (sequence : ℕ) → Q (outputs.HoldTaken until id sequence) →
+  pub mine-taken :
+      ((until : Ticks) (id : MemberId) (sequence : ℕ) → Q (outputs.Tell (tellings.HoldTaken until id sequence)) →
       sequence ≡ 0)
       → (clock : ℕ) (taken : List Taking) (kind : EventKind) → Mine kind → taken_after clock taken kind ≡ taken
   mine-taken none clock taken (kinds.Watchdog (watchdogs.HoldTaken by until from r sequence)) is =
@@ -213,7 +217,8 @@ module _ (member : Member) (incarnation heard : ℕ) (Q : Output → Type 0) whe
 
   -- a question that is asked of another member, of which the law reads a failsafe request alone
   asks-flies : (P : Flying → Type 0) (clock : ℕ) (peer : Member) (id : MemberId) (sequence : ℕ) (body : Body)
-      → IsAsk body → MaySend member incarnation Q P clock → Q (outputs.Send (targets.Member id) sequence body)
+      → IsAsk body → MaySend member incarnation Q P clock
+      → Q (outputs.Message (outgoing.Send (targets.Member id) sequence body))
       → (flying : Flying)
       → flying_from clock (agent_message member (ends.Member peer) incarnation sequence body) ≡ Some flying → P flying
   asks-flies P clock peer id sequence bodies.Ask asks may from flying e =
@@ -225,7 +230,7 @@ module _ (member : Member) (incarnation heard : ℕ) (Q : Output → Type 0) whe
   -- an answer to a failsafe request of another one, of which the law reads an acknowledgement alone
   says-flies : (P : Flying → Type 0) (clock : ℕ) (peer : Member) (id : MemberId) (asked sequence : ℕ) (accepted : Bool)
       → peer.id.number ≡ id.number → MaySend member incarnation Q P clock
-      → Q (outputs.FailsafeAnswer id asked sequence accepted)
+      → Q (outputs.Message (outgoing.FailsafeAnswer id asked sequence accepted))
       → (flying : Flying)
       → flying_from clock (agent_message member (ends.Member peer) asked sequence (bodies.FailsafeAnswer accepted))
       ≡ Some flying

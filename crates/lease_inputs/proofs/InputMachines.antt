@@ -36,6 +36,10 @@ use Rattle.event_book.proofs.Parts.{logged-kept}
 use Rattle.agent_model.specs.declared.machine.Machine.{Machine}
 use Rattle.agent_model.specs.declared.output.Output.{Output}
 use Rattle.agent_model.specs.declared.output.Output.TheVariants as outputs
+use Rattle.agent_model.specs.declared.output.Feeding.TheVariants as feedings
+use Rattle.agent_model.specs.declared.output.Outgoing.TheVariants as outgoing
+use Rattle.agent_model.specs.declared.output.ServerOrder.TheVariants as orders
+use Rattle.agent_model.specs.declared.output.Telling.TheVariants as tellings
 use Rattle.agent_model.specs.declared.output.Repair.{Repair}
 use Rattle.agent_model.specs.declared.output.Target.TheVariants as targets
 use Rattle.agent_model.specs.Acting.{status_begun, upstream_of as upstream_id}
@@ -47,15 +51,16 @@ use Rattle.cluster_model.specs.Beginnings.{beginning_in, begin_kinds, kinds_by, 
 use Rattle.cluster_model.specs.Commands.{kinds_of}
 use Rattle.cluster_model.specs.Inputs.{agent_at}
 use Rattle.cluster_model.specs.Limits.{most_in_flight}
-use Rattle.cluster_model.specs.Messages.{agent_message, lost_at_once, send_events, sending_events, replying_events, receiver_of, output_events}
+use Rattle.cluster_model.specs.Messages.{agent_message, lost_at_once, send_events, sending_events, replying_events, receiver_of, output_events, noting_kind}
 use Rattle.wal_model.specs.Lacking.{lacks_in}
 use Rattle.cluster_model.specs.Losing.{loss_if}
-use Rattle.cluster_model.specs.Orders.{agent_noting, declared_member, following_of, is_same_required, replica_start_kinds, require_of, required_names, server_at, stop_kind, stop_kinds, upstream_of, repair_over, hold_taken, stop_of, wipe_of}
+use Rattle.cluster_model.specs.Orders.{declared_member, following_of, is_same_required, replica_start_kinds, require_of, required_names, server_at, stop_kind, stop_kinds, upstream_of, repair_over, hold_taken, stop_of, wipe_of}
 use Rattle.cluster_model.specs.Parts.{events_of, for_some}
 use Rattle.cluster_model.specs.Requests.{told_kind}
 use Rattle.cluster_model.specs.State.{Cluster}
 use Rattle.cluster_model.proofs.Founds.{repaired-holds, told-holds}
 use Rattle.cluster_model.proofs.Lists.{HoldsIf}
+use Rattle.cluster_model.proofs.Outputs.{noting-holds}
 use Rattle.lease_model.proofs.Tools.{none-some}
 use Rattle.lease_parts.proofs.Quiet.{live-kept}
 use Rattle.lease_parts.specs.Machines.{live_in, live_now}
@@ -64,13 +69,13 @@ use Rattle.lease_inputs.proofs.InputServers.{Mirrors, Seen, begun-seen, ended-by
 
 -- a hold is taken for one of these members
 abbrev pub IsHeldFor : List Member → Output → Type 0
-IsHeldFor members (outputs.HoldTaken until from sequence) =
+IsHeldFor members (outputs.Tell (tellings.HoldTaken until from sequence)) =
     (peer : Member) × (slice_get members from.number ≡ Some peer)
 IsHeldFor members _ = Unit {0}
 
 -- no log is repaired by this output
 abbrev pub RepairsNone : Output → Type 0
-RepairsNone (outputs.Repair leader repair) = ⊥
+RepairsNone (outputs.Server (orders.Repair leader repair)) = ⊥
 RepairsNone _ = Unit {0}
 
 -- the member's machine, of which the server may have been repaired: it is live as the machine's is
@@ -115,7 +120,8 @@ may-resemble cluster m machine (Some kind) is old = one-resembles cluster m mach
 -- a repair too
 pub repair-resembles : (cluster : Cluster) (member : Member) (message : HeardMessage) (machine : Machine)
     (leader : MemberId) (repair : Repair) → Resembles cluster member.id.number machine
-    → Resembles (cluster_over cluster (output_events member message cluster (outputs.Repair leader repair)))
+    → Resembles (cluster_over cluster
+    (output_events member message cluster (outputs.Server (orders.Repair leader repair))))
     member.id.number machine
 repair-resembles cluster member message machine leader repair old =
     may-resemble cluster member.id.number machine
@@ -607,24 +613,27 @@ module _ (member : Member) where
       → IsOfTable output → RepairsNone output → IsHeldFor cluster.facts.members output → Here cluster machine
       → Here (cluster_over cluster (output_events member message cluster output))
       (machine_after_output (record { 0 = cluster.facts.clock }) machine output)
-  output-here cluster message machine (outputs.Repair leader repair) table none held old = absurd none
-  output-here cluster message machine outputs.ShutDown table none held old = shut-here cluster machine old
-  output-here cluster message machine (outputs.Send to sequence body) table none held old = sends-here cluster machine
+  output-here cluster message machine (outputs.Server (orders.Repair leader repair)) table none held old = absurd none
+  output-here cluster message machine (outputs.Server orders.ShutDown) table none held old =
+      shut-here cluster machine old
+  output-here cluster message machine (outputs.Message (outgoing.Send to sequence body)) table none held old =
+      sends-here cluster machine
       (receiver_of cluster.facts.members to) sequence body (slice_get cluster.facts.processes member.id.number) old
-  output-here cluster message machine (outputs.Answer to asked sequence answer) table none held old =
+  output-here cluster message machine (outputs.Message (outgoing.Answer to asked sequence answer)) table none held old =
       replies-here cluster machine (receiver_of cluster.facts.members (targets.Member to)) asked sequence
       (bodies.Answer answer) old
-  output-here cluster message machine outputs.Begin table none held old = begin-here cluster machine old
-  output-here cluster message machine (outputs.StartReplica leader) table none held old =
+  output-here cluster message machine (outputs.Server orders.Begin) table none held old = begin-here cluster machine old
+  output-here cluster message machine (outputs.Server (orders.StartReplica leader)) table none held old =
       start-here cluster machine (upstream_id leader) (declared_member cluster.facts.members leader) old
-  output-here cluster message machine (outputs.Stop reason) table none held old = stop-here cluster machine reason old
-  output-here cluster message machine (outputs.Follow leader) table none held old =
+  output-here cluster message machine (outputs.Server (orders.Stop reason)) table none held old =
+      stop-here cluster machine reason old
+  output-here cluster message machine (outputs.Server (orders.Follow leader)) table none held old =
       follow-here cluster machine (server_id_of leader) (slice_get cluster.facts.members leader.number) old
   output-here cluster message machine (outputs.Require required) table none held old =
       let here : Here (cluster_over cluster (output_events member message cluster (outputs.Require required))) machine =
       require-here cluster machine required old in
       record { server = here.server; deadline = here.deadline; hold = here.hold }
-  output-here cluster message machine (outputs.Armed until) table none held old = record {
+  output-here cluster message machine (outputs.Watchdog (feedings.Armed until)) table none held old = record {
     server = stays-server cluster
         (cluster_after (cluster_after cluster (kinds.Watchdog (watchdogs.Measured member message.sent)))
         (kinds.Watchdog (watchdogs.Armed member until message.number)))
@@ -632,7 +641,7 @@ module _ (member : Member) where
     deadline = item-here cluster.facts.deadlines member.id.number _ machine.watchdog.deadline old.deadline;
     hold = old.hold;
   }
-  output-here cluster message machine (outputs.Fed until) table none held old = record {
+  output-here cluster message machine (outputs.Watchdog (feedings.Fed until)) table none held old = record {
     server = stays-server cluster
         (cluster_after (cluster_after cluster (kinds.Watchdog (watchdogs.Measured member message.sent)))
         (kinds.Watchdog (watchdogs.Fed member until (bases.Grant message.number))))
@@ -640,29 +649,31 @@ module _ (member : Member) where
     deadline = item-here cluster.facts.deadlines member.id.number _ machine.watchdog.deadline old.deadline;
     hold = old.hold;
   }
-  output-here cluster message machine outputs.Disarmed table none held old = record {
+  output-here cluster message machine (outputs.Watchdog feedings.Disarmed) table none held old = record {
     server = stays-server cluster (cluster_after cluster (kinds.Watchdog (watchdogs.Disarmed member))) member.id.number
         (status_seen machine.server) refl old.server;
     deadline = item-here cluster.facts.deadlines member.id.number _ machine.watchdog.deadline old.deadline;
     hold = old.hold;
   }
-  output-here cluster message machine (outputs.Note note) table none held old =
-      unmoved cluster (cluster_after cluster (agent_noting cluster.facts.members member note))
-      member.id.number machine refl refl refl old
-  output-here cluster message machine outputs.ClaimsOutsideSync table none held old = unmoved cluster
+  output-here cluster message machine (outputs.Note noting) table none held old =
+      note-here cluster machine (Some (noting_kind cluster.facts.members member noting))
+      (noting-holds IsOfNote cluster member (record { agent = λ note about. tt; stays = tt }) noting) old
+  output-here cluster message machine (outputs.Tell tellings.ClaimsOutsideSync) table none held old = unmoved cluster
       (cluster_after cluster (kinds.Agent (agents.Passed member))) member.id.number machine refl refl refl old
-  output-here cluster message machine (outputs.Restart as_primary) table none held old =
+  output-here cluster message machine (outputs.Server (orders.Restart as_primary)) table none held old =
       restart-here cluster machine old
-  output-here cluster message machine outputs.Wipe table none held old = wipe-here cluster machine old
-  output-here cluster message machine (outputs.Told request told) table none held old =
+  output-here cluster message machine (outputs.Server orders.Wipe) table none held old = wipe-here cluster machine old
+  output-here cluster message machine (outputs.Tell (tellings.Told request told)) table none held old =
       note-here cluster machine (told_kind member (agent_at cluster.agents member.id.number) told)
       (told-holds IsOfNote member (agent_at cluster.agents member.id.number) told (λ reply. tt)) old
-  output-here cluster message machine (outputs.HoldTaken until from sequence) table none held old =
+  output-here cluster message machine (outputs.Tell (tellings.HoldTaken until from sequence)) table none held old =
       holds-here cluster message machine until sequence held.0 (slice_get cluster.facts.members from.number) held.1 old
-  output-here cluster message machine (outputs.FailsafeAnswer to asked sequence accepted) table none held old =
+  output-here cluster message machine (outputs.Message (outgoing.FailsafeAnswer to asked sequence accepted)) table none
+      held old =
       replies-here cluster machine (receiver_of cluster.facts.members (targets.Member to)) asked sequence
       (bodies.FailsafeAnswer accepted) old
-  output-here cluster message machine (outputs.FedByFailsafe until members sequence since) table none held old =
+  output-here cluster message machine (outputs.Watchdog (feedings.FedByFailsafe until members sequence since)) table
+      none held old =
       record {
         server = stays-server cluster
             (cluster_after (cluster_after cluster (kinds.Watchdog (watchdogs.Measured member since)))
@@ -671,5 +682,3 @@ module _ (member : Member) where
         deadline = item-here cluster.facts.deadlines member.id.number _ machine.watchdog.deadline old.deadline;
         hold = old.hold;
       }
-  output-here cluster message machine outputs.StaysByFailsafe table none held old = unmoved cluster
-      (cluster_after cluster (kinds.Note (notes.StaysByFailsafe member))) member.id.number machine refl refl refl old

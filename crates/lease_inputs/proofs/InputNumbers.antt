@@ -35,9 +35,7 @@ numbered-both last (x ∷ xs) ys first second = (first.0, numbered-both (sent_af
 -- ---- one event that sends nothing, or feeds nothing
 -- an output that sends no message
 abbrev pub no_message : Output → Type 0
-no_message (outputs.Send to sequence body) = ⊥
-no_message (outputs.Answer to asked sequence answer) = ⊥
-no_message (outputs.FailsafeAnswer to asked sequence accepted) = ⊥
+no_message (outputs.Message written) = ⊥
 no_message _ = Unit {0}
 
 pub no-sent : (member : Member) (incarnation : ℕ) (message : Message)

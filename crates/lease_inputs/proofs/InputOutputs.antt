@@ -14,7 +14,7 @@ use Rattle.event_book.specs.declared.agent_process.AgentProcess.{AgentProcess}
 use Rattle.event_book.specs.declared.event.Event.{Event}
 use Rattle.event_book.specs.declared.event.EventKind.{EventKind}
 use Rattle.event_book.specs.declared.event.EventKind.TheVariants as kinds
-use Rattle.event_book.specs.declared.event.MessageEvent.TheVariants.{Sent, Delivered, Lost}
+use Rattle.event_book.specs.declared.event.MessageEvent.TheVariants.{Sent}
 use Rattle.event_book.specs.declared.event.ServerEvent.TheVariants as servers
 use Rattle.event_book.specs.declared.event.WatchdogEvent.TheVariants as watchdogs
 use Rattle.event_book.specs.declared.member.Member.{Member}
@@ -31,11 +31,16 @@ use Rattle.event_book.specs.Writers.{BeginsKind}
 use Rattle.agent_model.specs.declared.machine.Machine.{Machine}
 use Rattle.agent_model.specs.declared.output.Output.{Output}
 use Rattle.agent_model.specs.declared.output.Output.TheVariants as outputs
+use Rattle.agent_model.specs.declared.output.Feeding.TheVariants as feedings
+use Rattle.agent_model.specs.declared.output.Outgoing.TheVariants as outgoing
+use Rattle.agent_model.specs.declared.output.ServerOrder.TheVariants as orders
 use Rattle.agent_model.specs.declared.output.Repair.{Repair}
 use Rattle.agent_model.specs.declared.output.Target.TheVariants as targets
+use Rattle.agent_model.specs.declared.output.Telling.TheVariants as tellings
 use Rattle.agent_model.specs.Acting.{upstream_of}
 use Rattle.agent_outputs.specs.Orders.{EndsRepairing, IsOfTable, RepairsLast, machine_after_output, machine_after_outputs}
 use Rattle.agent_model.specs.Outputs.{is_arming, is_feeding, has_one, with_output, BeginsOnly, OutputsBeginBehind}
+use Rattle.agent_model.specs.declared.output.Target.{Target}
 use Rattle.cluster_model.specs.declared.heard_message.HeardMessage.{HeardMessage}
 use Rattle.agent_roles.proofs.Living.{follow-live, restart-live, start-live, stop-live, wipe-live}
 use Rattle.cluster_model.specs.Beginnings.{server_restart_in, server_restart_kinds}
@@ -53,6 +58,7 @@ use Rattle.lease_law.proofs.Runs.{assoc, none-more}
 use Rattle.lease_model.proofs.Tools.{none-some, some-is}
 use Rattle.lease_book.specs.Groups.{AreNumberedAbove}
 use Rattle.cluster_model.proofs.Lists.{all-both, all-front, all-back, all-kinds}
+use Rattle.cluster_model.proofs.Outputs.{HoldsOfOutputs, output-holds}
 use Rattle.lease_inputs.specs.InputEvents.{ByGrant, ByFailsafe, IsFeedOf, IsOfInput, IsToBegin, RunsAmong}
 use Rattle.lease_parts.specs.Machines.{live_in, live_now}
 use Rattle.lease_parts.specs.Waiting.{IsKnownEnd}
@@ -60,12 +66,12 @@ use Rattle.lease_inputs.proofs.InputEvents.{again-mine, output-mine}
 use Rattle.lease_inputs.proofs.InputServers.{Mirrors}
 use Rattle.lease_inputs.proofs.InputMachines.{IsHeldFor, RepairsNone, Resembles, mirrored, output-here, repair-resembles}
 use Rattle.lease_inputs.proofs.InputStays.{Stays, item-here, runs-over, stays-over}
-use Rattle.lease_inputs.proofs.InputNumbers.{no-sent, no_message, numbered-both, sent-is, unnumbered-all}
+use Rattle.lease_inputs.proofs.InputNumbers.{no_message, numbered-both, sent-is, unnumbered-all}
 
 -- an output with which a server may come to accept writes has this
 abbrev MayBegin : Type 0 → Output → Type 0
-MayBegin X outputs.Begin = X
-MayBegin X (outputs.Restart as_primary) = X
+MayBegin X (outputs.Server orders.Begin) = X
+MayBegin X (outputs.Server (orders.Restart as_primary)) = X
 MayBegin X _ = Unit {0}
 
 -- a message that is sent goes between these members and the key store
@@ -76,7 +82,7 @@ GoesBetween members _ = Unit {0}
 
 -- no server starts again by this output
 abbrev RestartsNone : Output → Type 0
-RestartsNone (outputs.Restart as_primary) = ⊥
+RestartsNone (outputs.Server (orders.Restart as_primary)) = ⊥
 RestartsNone _ = Unit {0}
 
 -- ---- the outputs
@@ -143,11 +149,13 @@ module _ (member : Member) (incarnation : ℕ) (message : HeardMessage) where
 
   pub output-numbered : (cluster : Cluster) (output : Output) → Runs cluster.facts → IsOfTable output
       → AreNumberedAbove cluster.facts.sent (Brings cluster output)
-  output-numbered cluster (outputs.Send to sequence body) runs table = send-numbered cluster
+  output-numbered cluster (outputs.Message (outgoing.Send to sequence body)) runs table = send-numbered cluster
       (receiver_of cluster.facts.members to) sequence body (slice_get cluster.facts.processes member.id.number)
-  output-numbered cluster (outputs.Answer to asked sequence answer) runs table = reply-numbered cluster
+  output-numbered cluster (outputs.Message (outgoing.Answer to asked sequence answer)) runs table =
+      reply-numbered cluster
       (receiver_of cluster.facts.members (targets.Member to)) asked sequence (bodies.Answer answer)
-  output-numbered cluster (outputs.FailsafeAnswer to asked sequence accepted) runs table = reply-numbered cluster
+  output-numbered cluster (outputs.Message (outgoing.FailsafeAnswer to asked sequence accepted)) runs table =
+      reply-numbered cluster
       (receiver_of cluster.facts.members (targets.Member to)) asked sequence (bodies.FailsafeAnswer accepted)
   output-numbered cluster output runs table = other-numbered cluster output runs table tt
 
@@ -164,42 +172,11 @@ module _ (member : Member) (incarnation : ℕ) (message : HeardMessage) where
       (All-tail IsOfTable output more table)))
 
   -- ---- between members
-  lost-between : (members : List Member) (cluster : Cluster) (test : Bool) (number : ℕ)
-      → AllAre (GoesBetween members) (events_of cluster (lost_at_once test number))
-  lost-between members cluster true number = (tt, tt)
-  lost-between members cluster false number = tt
-
-  message-between : (members : List Member) (cluster : Cluster) (sends : Message) → IsKnownEnd members sends.from
-      → IsKnownEnd members sends.to → AllAre (GoesBetween members) (send_events cluster sends)
-  message-between members cluster sends from to =
-      let sent : EventKind = kinds.Message (Sent (cluster.facts.sent + 1) sends) in (
-        (from, to),
-        lost-between members (cluster_after cluster sent)
-            (nat_le most_in_flight (length cluster.facts.flight)) (cluster.facts.sent + 1),
-      )
-
   -- a member that is found at this number stands at its own
   stands-there : (members : List Member)
       → ((n : ℕ) (peer : Member) → slice_get members n ≡ Some peer → peer.id.number ≡ n)
       → (n : ℕ) (peer : Member) → slice_get members n ≡ Some peer → slice_get members peer.id.number ≡ Some peer
   stands-there members numbered n peer is = ap (λ (k : ℕ). slice_get members k) (numbered n peer is) ∙ is
-
-  send-between : (cluster : Cluster) → slice_get cluster.facts.members member.id.number ≡ Some member
-      → (to : Option LinkEnd) → ((end : LinkEnd) → to ≡ Some end → IsKnownEnd cluster.facts.members end)
-      → (sequence : ℕ) (body : Body) (found : Option AgentProcess)
-      → AllAre (GoesBetween cluster.facts.members) (sending_events cluster member found to sequence body)
-  send-between cluster mine to known sequence body None = tt
-  send-between cluster mine None known sequence body (Some process) = tt
-  send-between cluster mine (Some to) known sequence body (Some process) = message-between cluster.facts.members cluster
-      (agent_message member to process.incarnation sequence body) mine (known to refl)
-
-  reply-between : (cluster : Cluster) → slice_get cluster.facts.members member.id.number ≡ Some member
-      → (to : Option LinkEnd) → ((end : LinkEnd) → to ≡ Some end → IsKnownEnd cluster.facts.members end)
-      → (asked sequence : ℕ) (body : Body)
-      → AllAre (GoesBetween cluster.facts.members) (replying_events cluster member to asked sequence body)
-  reply-between cluster mine None known asked sequence body = tt
-  reply-between cluster mine (Some to) known asked sequence body =
-      message-between cluster.facts.members cluster (agent_message member to asked sequence body) mine (known to refl)
 
   known-peer : (members : List Member)
       → ((n : ℕ) (peer : Member) → slice_get members n ≡ Some peer → peer.id.number ≡ n)
@@ -213,41 +190,47 @@ module _ (member : Member) (incarnation : ℕ) (message : HeardMessage) where
       → ◌≡◌ {A = Option LinkEnd} (Some ends.Store) (Some end) → IsKnownEnd members end
   known-store members end e = subst (IsKnownEnd members) (some-is ends.Store end e) tt
 
-  quiet-between : (members : List Member) (events : List Event)
-      → AllAre (IsOfInput member incarnation message.number no_message) events → AllAre (GoesBetween members) events
-  quiet-between members [] all = tt
-  quiet-between members (event ∷ events) all = (one event.kind all.0, quiet-between members events all.1)
-    where
-      one : (kind : EventKind) → IsOfInput member incarnation message.number no_message kind → GoesBetween members kind
-      one (kinds.Message (Sent number sends)) is = absurd (no-sent member incarnation sends is)
-      one (kinds.Message (Delivered number)) is = absurd is
-      one (kinds.Message (Lost number)) is = tt
-      one _ is = tt
+  known-end : (members : List Member)
+      → ((n : ℕ) (peer : Member) → slice_get members n ≡ Some peer → peer.id.number ≡ n) → (target : Target)
+      (to : LinkEnd) → receiver_of members target ≡ Some to → IsKnownEnd members to
+  known-end members numbered targets.Store to is = known-store members to is
+  known-end members numbered (targets.Member id) to is =
+      known-peer members numbered id.number (slice_get members id.number) refl to is
 
-  other-between : (cluster : Cluster) (output : Output) → Runs cluster.facts → IsOfTable output
-      → no_message output → AllAre (GoesBetween cluster.facts.members) (Brings cluster output)
-  other-between cluster output runs table silent = quiet-between cluster.facts.members (Brings cluster output)
-      (output-mine member incarnation message.number no_message cluster message refl runs output table silent)
-
-  output-between : (cluster : Cluster) (output : Output)
-      → slice_get cluster.facts.members member.id.number ≡ Some member → Runs cluster.facts → IsOfTable output
-      → AllAre (GoesBetween cluster.facts.members) (Brings cluster output)
-  output-between cluster (outputs.Send targets.Store sequence body) mine runs table =
-      send-between cluster mine (Some ends.Store) (known-store cluster.facts.members) sequence body
-      (slice_get cluster.facts.processes member.id.number)
-  output-between cluster (outputs.Send (targets.Member to) sequence body) mine runs table =
-      send-between cluster mine (receiver_of cluster.facts.members (targets.Member to))
-      (known-peer cluster.facts.members runs.numbered to.number (slice_get cluster.facts.members to.number) refl)
-      sequence body (slice_get cluster.facts.processes member.id.number)
-  output-between cluster (outputs.Answer to asked sequence answer) mine runs table =
-      reply-between cluster mine (receiver_of cluster.facts.members (targets.Member to))
-      (known-peer cluster.facts.members runs.numbered to.number (slice_get cluster.facts.members to.number) refl)
-      asked sequence (bodies.Answer answer)
-  output-between cluster (outputs.FailsafeAnswer to asked sequence accepted) mine runs table =
-      reply-between cluster mine (receiver_of cluster.facts.members (targets.Member to))
-      (known-peer cluster.facts.members runs.numbered to.number (slice_get cluster.facts.members to.number) refl)
-      asked sequence (bodies.FailsafeAnswer accepted)
-  output-between cluster output mine runs table = other-between cluster output runs table tt
+  holds-between : (cluster : Cluster) → slice_get cluster.facts.members member.id.number ≡ Some member
+      → Runs cluster.facts → HoldsOfOutputs (GoesBetween cluster.facts.members) cluster member
+  holds-between cluster mine runs = record {
+    messages = record {
+      sent = λ target to is asked sequence body. (mine, known-end cluster.facts.members runs.numbered target to is);
+      lost = tt;
+    };
+    orders = λ order. record {
+      begins = λ lets timeline. tt;
+      lacks = λ lets. tt;
+      starts_as_primary = λ lets. tt;
+      starts_as_replica = tt;
+      follows = λ leader. tt;
+      says = λ reason. tt;
+      ends = λ lets. tt;
+      stops = λ lets. tt;
+      wiped = λ lets. tt;
+      rewound = λ lets leader r. tt;
+      copied = λ lets leader. tt;
+    };
+    feedings = record {
+      measured = λ since. tt;
+      armed = λ until answer. tt;
+      fed = λ until basis. tt;
+      disarmed = tt;
+    };
+    required = λ required names. tt;
+    tellings = λ telling. record {
+      answers = λ is reply. tt;
+      holds = λ until asked sequence from. tt;
+      passes = λ is. tt;
+    };
+    notes = record { agent = λ note about. tt; stays = tt };
+  }
 
   -- each message of an input goes between members and the key store
   pub each-between : (cluster : Cluster) (outs : List Output)
@@ -258,7 +241,8 @@ module _ (member : Member) (incarnation : ℕ) (message : HeardMessage) where
       let one = All-head IsOfTable output more table in let next = Later cluster output in
       let members : next.facts.members ≡ cluster.facts.members = (stays-output cluster output runs one).members in
       all-both (GoesBetween cluster.facts.members) (Brings cluster output)
-      (each (output_events member message) next more) (output-between cluster output mine runs one)
+      (each (output_events member message) next more)
+      (output-holds (GoesBetween cluster.facts.members) cluster member message (holds-between cluster mine runs) output)
       (subst (λ (l : List Member). AllAre (GoesBetween l) (each (output_events member message) next more)) members
       (each-between next more (ap (λ (l : List Member). slice_get l member.id.number) members ∙ mine)
       (runs-later cluster output runs one) (All-tail IsOfTable output more table)))
@@ -268,15 +252,16 @@ module _ (member : Member) (incarnation : ℕ) (message : HeardMessage) where
   last-resembles : (cluster : Cluster) (machine : Machine) (leader : MemberId) (repair : Repair) (more : List Output)
       → more ≡ [] → Mirrors cluster member.id.number machine
       → Resembles (cluster_over cluster
-      (each (output_events member message) cluster (outputs.Repair leader repair ∷ more)))
+      (each (output_events member message) cluster (outputs.Server (orders.Repair leader repair) ∷ more)))
       member.id.number machine
   last-resembles cluster machine leader repair more none old =
       subst (λ (l : List Output).
-      Resembles (cluster_over cluster (each (output_events member message) cluster (outputs.Repair leader repair ∷ l)))
+      Resembles (cluster_over cluster
+      (each (output_events member message) cluster (outputs.Server (orders.Repair leader repair) ∷ l)))
       member.id.number machine)
       (sym none)
       (subst (λ (c : Cluster). Resembles c member.id.number machine)
-      (sym (over-append cluster (Brings cluster (outputs.Repair leader repair)) []))
+      (sym (over-append cluster (Brings cluster (outputs.Server (orders.Repair leader repair))) []))
       (repair-resembles cluster member message machine leader repair (mirrored cluster member.id.number machine old)))
 
   -- one output is carried out, and then the others
@@ -306,8 +291,9 @@ module _ (member : Member) (incarnation : ℕ) (message : HeardMessage) where
 
   repairs-none : (output : Output) (later : List Output) → EndsRepairing output later
       → RepairsNone output
-      ⊎ ((leader : MemberId) × ((repair : Repair) × ((output ≡ outputs.Repair leader repair) × (later ≡ []))))
-  repairs-none (outputs.Repair leader repair) later ends = inr (leader, (repair, (refl, ends)))
+      ⊎ ((leader : MemberId) ×
+      ((repair : Repair) × ((output ≡ outputs.Server (orders.Repair leader repair)) × (later ≡ []))))
+  repairs-none (outputs.Server (orders.Repair leader repair)) later ends = inr (leader, (repair, (refl, ends)))
   repairs-none _ later ends = inl tt
 
   pub each-resembles : (now : Ticks) (cluster : Cluster) (machine : Machine) (outs : List Output)
@@ -330,7 +316,8 @@ module _ (member : Member) (incarnation : ℕ) (message : HeardMessage) where
             member.id.number (machine_after_outputs now (machine_after_output now machine x) more))
             (sym ends.1.1.0)
             (subst (λ (l : List Output). Resembles
-            (cluster_over cluster (each (output_events member message) cluster (outputs.Repair ends.0 ends.1.0 ∷ more)))
+            (cluster_over cluster
+            (each (output_events member message) cluster (outputs.Server (orders.Repair ends.0 ends.1.0) ∷ more)))
             member.id.number (machine_after_outputs now machine l))
             (sym ends.1.1.1)
             (last-resembles cluster machine ends.0 ends.1.0 more ends.1.1.1 old))
@@ -425,7 +412,7 @@ module _ (member : Member) (incarnation : ℕ) (message : HeardMessage) where
   -- an arming is told
   arming-told : (cluster : Cluster) (output : Output) (before : List Event) → Keeps before
       → is_arming output ≡ true → ArmedIn (before ++ Brings cluster output)
-  arming-told cluster (outputs.Armed until) before kept e = record {
+  arming-told cluster (outputs.Watchdog (feedings.Armed until)) before kept e = record {
     front = before ++ measured cluster ∷ [];
     event = record {
       tick = record { 0 = cluster.facts.clock };
@@ -436,18 +423,6 @@ module _ (member : Member) (incarnation : ℕ) (message : HeardMessage) where
     aside = all-both (KeepsMomentOf message.number) before (measured cluster ∷ []) kept (tt, tt);
     fed = (refl, refl);
   }
-  arming-told cluster outputs.Begin before kept e = absurd (no-way e)
-    where
-      no-way : false ≡ true → ⊥
-      no-way e = cc
-  arming-told cluster (outputs.Send to sequence body) before kept e = absurd (no-way e)
-    where
-      no-way : false ≡ true → ⊥
-      no-way e = cc
-  arming-told cluster (outputs.StartReplica leader) before kept e = absurd (no-way e)
-    where
-      no-way : false ≡ true → ⊥
-      no-way e = cc
   arming-told cluster _ before kept e = absurd (no-way e)
     where
       no-way : false ≡ true → ⊥
@@ -479,13 +454,13 @@ module _ (member : Member) (incarnation : ℕ) (message : HeardMessage) where
 
   -- in those of any output: it begins by the order to, or was live before
   may-begin : (X : Type 0) (output : Output) → RestartsNone output → BeginsOnly X output → MayBegin X output
-  may-begin X outputs.Begin none is = is
-  may-begin X (outputs.Restart as_primary) none is = absurd none
+  may-begin X (outputs.Server orders.Begin) none is = is
+  may-begin X (outputs.Server (orders.Restart as_primary)) none is = absurd none
   may-begin X _ none is = tt
 
   restarts-none : (output : Output)
-      → RestartsNone output ⊎ ((as_primary : Bool) × (output ≡ outputs.Restart as_primary))
-  restarts-none (outputs.Restart as_primary) = inr (as_primary, refl)
+      → RestartsNone output ⊎ ((as_primary : Bool) × (output ≡ outputs.Server (orders.Restart as_primary)))
+  restarts-none (outputs.Server (orders.Restart as_primary)) = inr (as_primary, refl)
   restarts-none _ = inl tt
 
   brings-begin : (P : List Output → Type 0) (R : List Event → ℕ → Type 0)
@@ -506,15 +481,19 @@ module _ (member : Member) (incarnation : ℕ) (message : HeardMessage) where
   lives-on : {Y : Type 0} (now : Ticks) (machine : Machine) (X : Type 0) (output : Output)
       → BeginsOnly X output → (X → Y) → (live machine.server.state ≡ true → Y)
       → live (machine_after_output now machine output).server.state ≡ true → Y
-  lives-on now machine X outputs.Begin begin may lives e = may begin
-  lives-on now machine X (outputs.StartReplica leader) begin may lives e =
+  lives-on now machine X (outputs.Server orders.Begin) begin may lives e = may begin
+  lives-on now machine X (outputs.Server (orders.StartReplica leader)) begin may lives e =
       lives (start-live now (upstream_of leader) machine.server e)
-  lives-on now machine X (outputs.Stop reason) begin may lives e = lives (stop-live now machine.server e)
-  lives-on now machine X outputs.ShutDown begin may lives e = lives (stop-live now machine.server e)
-  lives-on now machine X (outputs.Restart as_primary) begin may lives e = lives (restart-live now machine.server e)
-  lives-on now machine X outputs.Wipe begin may lives e = lives (wipe-live machine.server e)
-  lives-on now machine X (outputs.Follow leader) begin may lives e =
+  lives-on now machine X (outputs.Server (orders.Stop reason)) begin may lives e =
+      lives (stop-live now machine.server e)
+  lives-on now machine X (outputs.Server orders.ShutDown) begin may lives e = lives (stop-live now machine.server e)
+  lives-on now machine X (outputs.Server (orders.Restart as_primary)) begin may lives e =
+      lives (restart-live now machine.server e)
+  lives-on now machine X (outputs.Server orders.Wipe) begin may lives e = lives (wipe-live machine.server e)
+  lives-on now machine X (outputs.Server (orders.Follow leader)) begin may lives e =
       lives (follow-live (server_id_of leader) machine.server e)
+  lives-on now machine X (outputs.Watchdog feedings.Disarmed) begin may lives e = lives e
+  lives-on now machine X (outputs.Tell tellings.ClaimsOutsideSync) begin may lives e = lives e
   lives-on now machine X _ begin may lives e = lives e
 
   pub each-begins : (P : List Output → Type 0) (R : List Event → ℕ → Type 0)
@@ -570,7 +549,7 @@ module _ (member : Member) (incarnation : ℕ) (message : HeardMessage) where
     pub sequence : ℕ
     pub since : Ticks
     pub is : kind ≡ kinds.Watchdog (watchdogs.Fed member until (bases.Acknowledgements acknowledging sequence))
-    pub from : Q (outputs.FedByFailsafe until acknowledging sequence since)
+    pub from : Q (outputs.Watchdog (feedings.FedByFailsafe until acknowledging sequence since))
 
   abbrev pub IsFedAs : (Output → Type 0) → Bool → EventKind → Type 0
   IsFedAs Q false kind = IsFedBy member.id.number message.number kind
@@ -598,7 +577,7 @@ module _ (member : Member) (incarnation : ℕ) (message : HeardMessage) where
   fed-now : (Q : Output → Type 0) (now : Ticks) (cluster : Cluster) (machine : Machine) (output : Output)
       (rest : List Event) → Q output → is_feeding output ≡ true
       → FedIn Q (machine_after_output now machine output).by_failsafe (Brings cluster output ++ rest)
-  fed-now Q now cluster machine (outputs.Armed until) rest may e = record {
+  fed-now Q now cluster machine (outputs.Watchdog (feedings.Armed until)) rest may e = record {
     front = measured cluster ∷ [];
     event = record {
       tick = record { 0 = cluster.facts.clock };
@@ -608,7 +587,7 @@ module _ (member : Member) (incarnation : ℕ) (message : HeardMessage) where
     is = refl;
     fed = (refl, refl);
   }
-  fed-now Q now cluster machine (outputs.Fed until) rest may e = record {
+  fed-now Q now cluster machine (outputs.Watchdog (feedings.Fed until)) rest may e = record {
     front = measured cluster ∷ [];
     event = record {
       tick = record { 0 = cluster.facts.clock };
@@ -618,33 +597,41 @@ module _ (member : Member) (incarnation : ℕ) (message : HeardMessage) where
     is = refl;
     fed = (refl, refl);
   }
-  fed-now Q now cluster machine (outputs.FedByFailsafe until acknowledging sequence since) rest may e = record {
-    front =
-        record { tick = record { 0 = cluster.facts.clock }; kind = kinds.Watchdog (watchdogs.Measured member since) }
-        ∷ [];
-    event = record {
-      tick = record { 0 = cluster.facts.clock };
-      kind = kinds.Watchdog (watchdogs.Fed member until (bases.Acknowledgements acknowledging sequence));
-    };
-    rest = rest;
-    is = refl;
-    fed = record {
-      until = until;
-      acknowledging = acknowledging;
-      sequence = sequence;
-      since = since;
-      is = refl;
-      from = may;
-    };
-  }
+  fed-now Q now cluster machine (outputs.Watchdog (feedings.FedByFailsafe until acknowledging sequence since)) rest may
+      e =
+      record {
+        front =
+            record {
+              tick = record { 0 = cluster.facts.clock };
+              kind = kinds.Watchdog (watchdogs.Measured member since);
+            }
+            ∷ [];
+        event = record {
+          tick = record { 0 = cluster.facts.clock };
+          kind = kinds.Watchdog (watchdogs.Fed member until (bases.Acknowledgements acknowledging sequence));
+        };
+        rest = rest;
+        is = refl;
+        fed = record {
+          until = until;
+          acknowledging = acknowledging;
+          sequence = sequence;
+          since = since;
+          is = refl;
+          from = may;
+        };
+      }
   fed-now Q now cluster machine _ rest may e = absurd (not-so e)
 
   -- who isn't fed has its deadline from where it had it
   unfed-one : (now : Ticks) (machine : Machine) (output : Output) → is_feeding output ≡ false
       → (machine_after_output now machine output).by_failsafe ≡ machine.by_failsafe
-  unfed-one now machine (outputs.Armed until) e = absurd (not-so (sym e))
-  unfed-one now machine (outputs.Fed until) e = absurd (not-so (sym e))
-  unfed-one now machine (outputs.FedByFailsafe until acknowledging sequence since) e = absurd (not-so (sym e))
+  unfed-one now machine (outputs.Watchdog (feedings.Armed until)) e = absurd (not-so (sym e))
+  unfed-one now machine (outputs.Watchdog (feedings.Fed until)) e = absurd (not-so (sym e))
+  unfed-one now machine (outputs.Watchdog (feedings.FedByFailsafe until acknowledging sequence since)) e =
+      absurd (not-so (sym e))
+  unfed-one now machine (outputs.Server orders.Begin) e = refl
+  unfed-one now machine (outputs.Tell tellings.ClaimsOutsideSync) e = refl
   unfed-one now machine _ e = refl
 
   neither : (b c : Bool) → (b || c) ≡ false → (b ≡ false) × (c ≡ false)
@@ -694,9 +681,9 @@ module _ (member : Member) (incarnation : ℕ) (message : HeardMessage) where
 
   -- ---- whose deadlines acknowledgements set last
   abbrev NoFeed : Output → Type 0
-  NoFeed (outputs.Armed until) = ⊥
-  NoFeed (outputs.Fed until) = ⊥
-  NoFeed (outputs.FedByFailsafe until acknowledging sequence since) = ⊥
+  NoFeed (outputs.Watchdog (feedings.Armed until)) = ⊥
+  NoFeed (outputs.Watchdog (feedings.Fed until)) = ⊥
+  NoFeed (outputs.Watchdog (feedings.FedByFailsafe until acknowledging sequence since)) = ⊥
   NoFeed _ = Unit {0}
 
   unset-one : (before : List Bool) (kind : EventKind) → IsOfInput member incarnation message.number NoFeed kind
@@ -732,11 +719,12 @@ module _ (member : Member) (incarnation : ℕ) (message : HeardMessage) where
   output-basis : (now : Ticks) (cluster : Cluster) (machine : Machine) (output : Output) → Runs cluster.facts
       → IsOfTable output → IsBasis cluster machine
       → IsBasis (Later cluster output) (machine_after_output now machine output)
-  output-basis now cluster machine (outputs.Armed until) runs table old =
+  output-basis now cluster machine (outputs.Watchdog (feedings.Armed until)) runs table old =
       item-here cluster.failsafe_deadlines member.id.number (λ was. false) machine.by_failsafe old
-  output-basis now cluster machine (outputs.Fed until) runs table old =
+  output-basis now cluster machine (outputs.Watchdog (feedings.Fed until)) runs table old =
       item-here cluster.failsafe_deadlines member.id.number (λ was. false) machine.by_failsafe old
-  output-basis now cluster machine (outputs.FedByFailsafe until acknowledging sequence since) runs table old =
+  output-basis now cluster machine (outputs.Watchdog (feedings.FedByFailsafe until acknowledging sequence since)) runs
+      table old =
       item-here cluster.failsafe_deadlines member.id.number (λ was. true) machine.by_failsafe old
   output-basis now cluster machine output runs table old =
       unset-output now cluster machine output runs table tt refl old

@@ -12,6 +12,7 @@ use Rattle.agent_model.specs.declared.knowledge.Knowledge.{Knowledge}
 use Rattle.agent_model.specs.declared.knowledge.PendingQuestion.{PendingQuestion}
 use Rattle.agent_model.specs.declared.output.Output.{Output}
 use Rattle.agent_model.specs.declared.output.Output.TheVariants as outputs
+use Rattle.agent_model.specs.declared.output.Outgoing.TheVariants as outgoing
 use Rattle.agent_model.specs.declared.output.Target.TheVariants as targets
 use Rattle.agent_model.specs.Agents.{AgentFacts, Outcome, EndsAlone}
 use Rattle.agent_lease_law.specs.Lawful.{query_in, IsSentBy, AsksStore, AsksMember, SaysYes}
@@ -44,7 +45,7 @@ pub record IsNew (m incarnation clock : ℕ) (outs : List Output) (q : Question)
   pub sequence : ℕ
   pub body : Body
   pub query : Query
-  pub among : Contains outs (outputs.Send targets.Store sequence body)
+  pub among : Contains outs (outputs.Message (outgoing.Send targets.Store sequence body))
   pub query_is : query_in body ≡ Some query
   pub is : q ≡ record { member = m; incarnation = incarnation; sequence = sequence; sent = clock; query = query }
 
@@ -79,7 +80,7 @@ module _ (m clock : ℕ) (now : Ticks) (known knows : Knowledge) (outs : List Ou
       → (known.sequence < q.sequence) × (q.sequence ≤ knows.sequence)
   new-number q new sends =
       let between = All-contains (SendsBetween known.sequence knows.sequence) outs
-      (outputs.Send targets.Store new.sequence new.body) sends new.among in
+      (outputs.Message (outgoing.Send targets.Store new.sequence new.body)) sends new.among in
       let is : q.sequence ≡ new.sequence = ap (λ (x : Question). x.sequence) new.is in
       (omega (arith, is, between.0), omega (arith, is, between.1))
 
@@ -119,7 +120,8 @@ module _ (m clock : ℕ) (now : Ticks) (known knows : Knowledge) (outs : List Ou
       | inr sent ↦
           let new = new-of m known.incarnation clock outs q sent in
           let for-it =
-          All-contains (AsksFor waited) outs (outputs.Send targets.Store new.sequence new.body) asks new.among in (
+          All-contains (AsksFor waited) outs
+          (outputs.Message (outgoing.Send targets.Store new.sequence new.body)) asks new.among in (
             ap (λ (x : Question). x.sent) new.is ∙ sym at ∙ sym (ap (λ (t : Ticks). t.0) sent-at),
             ap (λ (x : Question). lease_span x.query) new.is ∙ span-is new.body new.query new.query_is
                 ∙ (for-it (sym (ap (λ (x : Question). x.sequence) new.is) ∙ sequence)).lease leasing,

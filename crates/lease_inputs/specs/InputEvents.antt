@@ -25,6 +25,10 @@ use Rattle.event_book.specs.Members.{server_of}
 use Rattle.agent_roles.specs.Asks.{IsAsk}
 use Rattle.agent_model.specs.declared.output.Output.{Output}
 use Rattle.agent_model.specs.declared.output.Output.TheVariants as outputs
+use Rattle.agent_model.specs.declared.output.Feeding.TheVariants as feedings
+use Rattle.agent_model.specs.declared.output.Outgoing.TheVariants as outgoing
+use Rattle.agent_model.specs.declared.output.ServerOrder.TheVariants as orders
+use Rattle.agent_model.specs.declared.output.Telling.TheVariants as tellings
 use Rattle.agent_model.specs.declared.output.Target.TheVariants as targets
 use Rattle.cluster_model.specs.Messages.{agent_message}
 
@@ -39,7 +43,7 @@ pub record IsQuestionOf (member : Member) (incarnation : ℕ) (Q : Output → Ty
   pub sequence : ℕ
   pub body : Body
   pub is : message ≡ agent_message member ends.Store incarnation sequence body
-  pub from : Q (outputs.Send targets.Store sequence body)
+  pub from : Q (outputs.Message (outgoing.Send targets.Store sequence body))
 
 -- a message of this member that an output with this property sends: a question of its
 -- incarnation, to the key store or to another member, or an answer to another member
@@ -47,32 +51,37 @@ pub data IsMessageOf (member : Member) (incarnation : ℕ) (Q : Output → Type 
   Asks : (question : IsQuestionOf member incarnation Q message) → IsMessageOf member incarnation Q message
   AsksPeer : (peer : Member) → (id : MemberId) → (sequence : ℕ) → (body : Body) → (asks : IsAsk body)
       → (is : message ≡ agent_message member (ends.Member peer) incarnation sequence body)
-      → (from : Q (outputs.Send (targets.Member id) sequence body)) → IsMessageOf member incarnation Q message
+      → (from : Q (outputs.Message (outgoing.Send (targets.Member id) sequence body)))
+      → IsMessageOf member incarnation Q message
   AnswersPeer : (peer : Member) → (id : MemberId) → (asked sequence : ℕ) → (answer : PeerAnswer)
       → (is : message ≡ agent_message member (ends.Member peer) asked sequence (bodies.Answer answer))
-      → (from : Q (outputs.Answer id asked sequence answer)) → IsMessageOf member incarnation Q message
+      → (from : Q (outputs.Message (outgoing.Answer id asked sequence answer)))
+      → IsMessageOf member incarnation Q message
   AnswersRequest : (peer : Member) → (id : MemberId) → (asked sequence : ℕ) → (accepted : Bool)
       → (at : peer.id.number ≡ id.number)
       → (is : message ≡ agent_message member (ends.Member peer) asked sequence (bodies.FailsafeAnswer accepted))
-      → (from : Q (outputs.FailsafeAnswer id asked sequence accepted)) → IsMessageOf member incarnation Q message
+      → (from : Q (outputs.Message (outgoing.FailsafeAnswer id asked sequence accepted)))
+      → IsMessageOf member incarnation Q message
 
 -- its server begins to accept writes by an output with this property: it is to begin, or to start again
 abbrev pub IsToBegin : (Output → Type 0) → Type 0
-IsToBegin Q = Q outputs.Begin ⊎ ((as_primary : Bool) × Q (outputs.Restart as_primary))
+IsToBegin Q = Q (outputs.Server orders.Begin) ⊎ ((as_primary : Bool) × Q (outputs.Server (orders.Restart as_primary)))
 
 -- its watchdog is fed by an output with this property: on the grant
 -- that is heard in the message of this number, or on acknowledgements
 pub data IsFeedOf (heard : ℕ) (Q : Output → Type 0) (until : Ticks) (basis : Basis) : Type 0 where
-  ByGrant : (is : basis ≡ bases.Grant heard) → (from : Q (outputs.Fed until)) → IsFeedOf heard Q until basis
+  ByGrant : (is : basis ≡ bases.Grant heard) → (from : Q (outputs.Watchdog (feedings.Fed until)))
+      → IsFeedOf heard Q until basis
   ByFailsafe : (members : MemberSet) → (sequence : ℕ) → (since : Ticks)
       → (is : basis ≡ bases.Acknowledgements members sequence)
-      → (from : Q (outputs.FedByFailsafe until members sequence since)) → IsFeedOf heard Q until basis
+      → (from : Q (outputs.Watchdog (feedings.FedByFailsafe until members sequence since)))
+      → IsFeedOf heard Q until basis
 
 -- it takes a hold by an output with this property, for a request of this member
 pub record IsHoldOf (Q : Output → Type 0) (until : Ticks) (from : Member) (sequence : ℕ) : Type 0 where
   pub id : MemberId
   pub at : from.id.number ≡ id.number
-  pub by : Q (outputs.HoldTaken until id sequence)
+  pub by : Q (outputs.Tell (tellings.HoldTaken until id sequence))
 
 -- what an output with this property brings, of an agent of this member
 -- in its incarnation that heard the message of this number
@@ -91,7 +100,7 @@ IsOfInput member incarnation heard Q (kinds.Log (logs.Rewound server from kept a
 IsOfInput member incarnation heard Q (kinds.Log (logs.Copied server from)) = server ≡ server_of member
 IsOfInput member incarnation heard Q (kinds.Log (logs.Wiped server)) = server ≡ server_of member
 IsOfInput member incarnation heard Q (kinds.Watchdog (watchdogs.Armed by until answer)) =
-    (by ≡ member) × (answer ≡ heard) × Q (outputs.Armed until)
+    (by ≡ member) × (answer ≡ heard) × Q (outputs.Watchdog (feedings.Armed until))
 IsOfInput member incarnation heard Q (kinds.Watchdog (watchdogs.Fed by until basis)) =
     (by ≡ member) × IsFeedOf heard Q until basis
 IsOfInput member incarnation heard Q (kinds.Watchdog (watchdogs.HoldTaken by until from run sequence)) =
@@ -101,6 +110,7 @@ IsOfInput member incarnation heard Q (kinds.Watchdog (watchdogs.Measured by from
 IsOfInput member incarnation heard Q (kinds.Replication (replications.RequiredSet server required names)) =
     server ≡ server_of member
 IsOfInput member incarnation heard Q (kinds.Replication (replications.Lacks server)) = server ≡ server_of member
-IsOfInput member incarnation heard Q (kinds.Agent (agents.Passed by)) = (by ≡ member) × Q outputs.ClaimsOutsideSync
+IsOfInput member incarnation heard Q (kinds.Agent (agents.Passed by)) =
+    (by ≡ member) × Q (outputs.Tell tellings.ClaimsOutsideSync)
 IsOfInput member incarnation heard Q (kinds.Note note) = Unit {0}
 IsOfInput member incarnation heard Q _ = ⊥

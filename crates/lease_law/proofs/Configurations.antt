@@ -6,6 +6,9 @@ use Rattle.pat_base.specs.declared.member_set.MemberSet.{MemberSet}
 use Rattle.store_keys.specs.declared.key.Key.TheVariants as keys
 use Rattle.store_keys.specs.declared.txn.Txn.{Txn}
 use Rattle.store_keys.specs.declared.txn.Txn.TheVariants as txns
+use Rattle.store_keys.specs.declared.txn.LeaseTxn.TheVariants as lease_txns
+use Rattle.store_keys.specs.declared.txn.OperatorTxn.TheVariants as operator_txns
+use Rattle.store_keys.specs.declared.txn.SyncTxn.TheVariants as sync_txns
 use Rattle.store_keys.specs.declared.value.HistoryRow.{HistoryRow}
 use Rattle.store_keys.specs.declared.value.KeyEntry.{KeyEntry}
 use Rattle.lease_store.specs.Writes.{writes_of, status_writes, row_writes, failsafe_writes}
@@ -27,21 +30,16 @@ carried-config revision now found (Some end) (Some row) (Some members) = refl
 module _ (H : Option KeyEntry → Type 0) (revision now : ℕ) (by : MemberId) where
   -- where a transaction sets the configuration, this holds of what it sets
   abbrev pub SetsConfig : Option KeyEntry → Txn → Type 0
-  SetsConfig found (txns.SetConfig compared config) =
-      H (found_after_all revision now keys.Config found (writes_of by (txns.SetConfig compared config)))
+  SetsConfig found (txns.Operators (operator_txns.SetConfig compared config)) =
+      H (found_after_all revision now keys.Config found
+      (writes_of by (txns.Operators (operator_txns.SetConfig compared config))))
   SetsConfig found _ = Unit {0}
 
   -- then it holds of the configuration that the transaction leaves, where it held of the one before
   pub config-after : (txn : Txn) (found : Option KeyEntry) → SetsConfig found txn → H found
       → H (found_after_all revision now keys.Config found (writes_of by txn))
-  config-after (txns.Touch info ttl) found is old = old
-  config-after (txns.Create info ttl failsafe sync) found is old = old
-  config-after (txns.Renew compared info ttl status row failsafe) found is old =
+  config-after (txns.Lease (lease_txns.Renew compared info ttl status row failsafe)) found is old =
       subst H (sym (carried-config revision now found status row failsafe)) old
-  config-after (txns.Release compared) found is old = old
-  config-after (txns.Claim compared sync) found is old = old
-  config-after (txns.SetSync compared sync standbys) found is old = old
-  config-after (txns.DropSync compared sync) found is old = old
-  config-after (txns.SetFailover failover ttl) found is old = old
-  config-after (txns.DropFailover compared) found is old = old
-  config-after (txns.SetConfig compared config) found is old = is
+  config-after (txns.Sync (sync_txns.DropSync compared sync)) found is old = old
+  config-after (txns.Operators (operator_txns.SetConfig compared config)) found is old = is
+  config-after _ found is old = old

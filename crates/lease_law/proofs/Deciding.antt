@@ -11,13 +11,14 @@ use Rattle.store_keys.specs.declared.txn.Expected.{Expected}
 use Rattle.store_keys.specs.declared.txn.Expected.TheVariants.{Absent, Revision}
 use Rattle.store_keys.specs.declared.txn.Txn.{Txn}
 use Rattle.store_keys.specs.declared.txn.Txn.TheVariants as txns
+use Rattle.store_keys.specs.declared.txn.LeaseTxn.TheVariants as lease_txns
 use Rattle.store_keys.specs.declared.value.KeyEntry.{KeyEntry}
 use Rattle.store_keys.specs.declared.value.Value.{Value}
 use Rattle.store_keys.specs.declared.value.Value.TheVariants as values
 use Rattle.lease_store.specs.Kinds.{IsOfKind}
 use Rattle.lease_store.specs.KeyOrder.{key_cmp}
 use Rattle.lease_store.specs.Keys.{key_in, present}
-use Rattle.lease_store.specs.Decision.{Decision, Grant as Granting, Refusal as Refusing, compares_of, compare_if, found_in, is_as_expected, decision_if, decision_by, decision_on}
+use Rattle.lease_store.specs.Decision.{Decision, Grant as Granting, Refusal as Refusing, compares_of, compare_if, found_in, is_as_expected, decision_if, decision_by, decision_on, operator_compares, sync_compares}
 use Rattle.lease_store.proofs.Keeping.{kind_found}
 use Rattle.event_book.specs.Facts.{Facts}
 use Rattle.lease_model.specs.Leases.{LeaderKey, FailsafeKey, Create, Renew, Release, Write}
@@ -56,6 +57,7 @@ lease-value (values.Sync key) revision expiry kind leased = absurd kind
 lease-value (values.Status end) revision expiry kind leased = absurd kind
 lease-value (values.History row) revision expiry kind leased = absurd kind
 lease-value (values.Failsafe members) revision expiry kind leased = absurd kind
+lease-value (values.Scheduled planned) revision expiry kind leased = absurd kind
 
 abbrev OfKind : Key → Option KeyEntry → Type 0
 OfKind key found = (found_key : KeyEntry) → found ≡ Some found_key → IsOfKind key found_key.value
@@ -83,6 +85,7 @@ set-value (values.Failover key) revision expiry kind = absurd kind
 set-value (values.Sync key) revision expiry kind = absurd kind
 set-value (values.Status end) revision expiry kind = absurd kind
 set-value (values.History row) revision expiry kind = absurd kind
+set-value (values.Scheduled planned) revision expiry kind = absurd kind
 
 failsafe-cases : (found : Option KeyEntry) → OfKind keys.Failsafe found → (None ≡ found) ⊎ IsSet found
 failsafe-cases None kind = inl refl
@@ -245,9 +248,10 @@ found-decision_if : (pairs : List (Key × KeyEntry)) (now revision by sent : ℕ
     (is_granted (decision_by pairs now (compares_of txn))) (query_of txn)
     ≡ outcome_by (decision_by pairs now (compares_of txn)) now (leader_key_of found)
     (failsafe_key_of listed) revision by sent (query_of txn)
-found-decision_if pairs now revision by sent found listed (txns.Create info ttl failsafe sync) finds leads sets =
+found-decision_if pairs now revision by sent found listed (txns.Lease (lease_txns.Create info ttl failsafe sync)) finds
+    leads sets =
     let others : List (Key × Expected) = compare_if keys.Sync sync in
-    let is : decision_by pairs now (compares_of (txns.Create info ttl failsafe sync))
+    let is : decision_by pairs now (compares_of (txns.Lease (lease_txns.Create info ttl failsafe sync)))
     ≡ by_leader found Absent (by_failsafe listed failsafe (decision_by pairs now others)) =
     leader-decision pairs now found Absent (decision_by pairs now (compare_if keys.Failsafe failsafe ++ others)) finds.0
     ∙ ap (λ (d : Decision). by_leader found Absent d) (failsafe-decision pairs now listed failsafe others finds.1) in
@@ -256,13 +260,14 @@ found-decision_if pairs now revision by sent found listed (txns.Create info ttl 
     ≡ outcome_by d now (leader_key_of found) (failsafe_key_of listed) revision by sent (Create ttl.0 failsafe))
     (sym is)
     (create-decision_if (decision_by pairs now others) now revision by sent ttl.0 failsafe found listed leads sets)
-found-decision_if pairs now revision by sent found listed (txns.Renew compared info ttl status row failsafe) finds leads
+found-decision_if pairs now revision by sent found listed
+    (txns.Lease (lease_txns.Renew compared info ttl status row failsafe)) finds leads
     sets =
     renew-decision_if now revision by sent compared ttl.0 (members_if failsafe) found (failsafe_key_of listed) leads
     ∙ ap (λ (d : Decision). outcome_by d now (leader_key_of found) (failsafe_key_of listed) revision by sent
     (Renew compared ttl.0 (members_if failsafe)))
     (sym (leader-decision pairs now found (Revision compared) Granting finds.0))
-found-decision_if pairs now revision by sent found listed (txns.Release compared) finds leads sets =
+found-decision_if pairs now revision by sent found listed (txns.Lease (lease_txns.Release compared)) finds leads sets =
     release-decision_if now revision by sent compared found (failsafe_key_of listed) leads
     ∙ ap (λ (d : Decision).
     outcome_by d now (leader_key_of found) (failsafe_key_of listed) revision by sent (Release compared))
@@ -270,24 +275,12 @@ found-decision_if pairs now revision by sent found listed (txns.Release compared
 found-decision_if pairs now revision by sent found listed (txns.Touch info ttl) finds leads sets =
     write-decision_if (decision_by pairs now (compares_of (txns.Touch info ttl))) now revision by sent
     (leader_key_of found) (failsafe_key_of listed)
-found-decision_if pairs now revision by sent found listed (txns.Claim compared sync) finds leads sets =
-    write-decision_if (decision_by pairs now (compares_of (txns.Claim compared sync))) now revision by sent
-    (leader_key_of found) (failsafe_key_of listed)
-found-decision_if pairs now revision by sent found listed (txns.SetSync compared sync standbys) finds leads sets =
-    write-decision_if (decision_by pairs now (compares_of (txns.SetSync compared sync standbys))) now revision by sent
-    (leader_key_of found) (failsafe_key_of listed)
-found-decision_if pairs now revision by sent found listed (txns.DropSync compared sync) finds leads sets =
-    write-decision_if (decision_by pairs now (compares_of (txns.DropSync compared sync))) now revision by sent
-    (leader_key_of found) (failsafe_key_of listed)
-found-decision_if pairs now revision by sent found listed (txns.SetFailover failover ttl) finds leads sets =
-    write-decision_if (decision_by pairs now (compares_of (txns.SetFailover failover ttl))) now revision by sent
-    (leader_key_of found) (failsafe_key_of listed)
-found-decision_if pairs now revision by sent found listed (txns.DropFailover compared) finds leads sets =
-    write-decision_if (decision_by pairs now (compares_of (txns.DropFailover compared))) now revision by sent
-    (leader_key_of found) (failsafe_key_of listed)
-found-decision_if pairs now revision by sent found listed (txns.SetConfig compared config) finds leads sets =
-    write-decision_if (decision_by pairs now (compares_of (txns.SetConfig compared config))) now revision by sent
-    (leader_key_of found) (failsafe_key_of listed)
+found-decision_if pairs now revision by sent found listed (txns.Sync txn) finds leads sets =
+    write-decision_if (decision_by pairs now (sync_compares txn)) now revision by sent (leader_key_of found)
+    (failsafe_key_of listed)
+found-decision_if pairs now revision by sent found listed (txns.Operators txn) finds leads sets =
+    write-decision_if (decision_by pairs now (operator_compares txn)) now revision by sent (leader_key_of found)
+    (failsafe_key_of listed)
 
 present-by : (b : Bool) (now expiry : ℕ) (found_key : KeyEntry) → nat_lt now expiry ≡ b → now < expiry
     → cond b (Some found_key) None ≡ Some found_key

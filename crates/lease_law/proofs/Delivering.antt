@@ -7,6 +7,7 @@ use Rattle.store_keys.specs.declared.key.Key.{Key}
 use Rattle.store_keys.specs.declared.txn.Expected.{Expected}
 use Rattle.store_keys.specs.declared.txn.Txn.{Txn}
 use Rattle.store_keys.specs.declared.txn.Txn.TheVariants as txns
+use Rattle.store_keys.specs.declared.txn.LeaseTxn.TheVariants as lease_txns
 use Rattle.store_keys.specs.declared.txn_kind.TxnKind.{TxnKind}
 use Rattle.lease_store.specs.Writes.{is_lease}
 use Rattle.lease_store.specs.Decision.{Decision, Grant as Granting, Refusal as Refusing, decision_on}
@@ -164,8 +165,10 @@ granted-grant : (past : Past) (member incarnation sequence sent : ℕ) (txn : Tx
       sent = sent;
       query = query_of txn;
     })) ≡ lease_given past.clock past.revision past.failsafe sent (query_of txn)
-granted-grant past member incarnation sequence sent (txns.Create info ttl failsafe sync) = refl
-granted-grant past member incarnation sequence sent (txns.Renew compared info ttl status row failsafe) = refl
+granted-grant past member incarnation sequence sent (txns.Lease (lease_txns.Create info ttl failsafe sync)) = refl
+granted-grant past member incarnation sequence sent
+    (txns.Lease (lease_txns.Renew compared info ttl status row failsafe)) =
+    refl
 granted-grant past member incarnation sequence sent _ = refl
 
 delivered-is : (s : State) (i j : ℕ) (granted : Bool) (q : Question) (d : Outcome) → s.flight i ≡ Some (Requested q)

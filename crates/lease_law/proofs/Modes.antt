@@ -1,5 +1,5 @@
 -- Failsafe mode is as it is declared: what is carried from event to event.
-use Rattle.std.proofs.Common.{◌≡◌, ℕ, ◌+◌, Bool, true, false, cond, List, [], ◌∷◌, Option, Some, None, refl, ap, sym, subst}
+use Rattle.std.proofs.Common.{ℕ, ◌+◌, Bool, true, false, cond, List, [], ◌∷◌, Option, Some, None, refl, ap, sym, subst}
 use Rattle.std.specs.FinMap.{find}
 use Rattle.std.specs.Ordering.{nat_cmp, match_ordering}
 use Rattle.std.specs.declared.cmp.Ordering.{Ordering}
@@ -12,6 +12,7 @@ use Rattle.store_keys.specs.declared.key.Key.{Key}
 use Rattle.store_keys.specs.declared.key.Key.TheVariants as keys
 use Rattle.store_keys.specs.declared.txn.Txn.{Txn}
 use Rattle.store_keys.specs.declared.txn.Txn.TheVariants as txns
+use Rattle.store_keys.specs.declared.txn.OperatorTxn.TheVariants as operator_txns
 use Rattle.store_keys.specs.declared.value.KeyEntry.{KeyEntry}
 use Rattle.lease_store.specs.KeyOrder.{key_cmp}
 use Rattle.lease_store.specs.Keys.{Keys, present}
@@ -54,7 +55,7 @@ mode-present mode now pairs kept is =
 -- a granted transaction
 mode-set : (mode : Bool) (revision now : ℕ) (by : MemberId) (txn : Txn) (found : Option KeyEntry)
     → IsModeSet mode txn → SetsConfig (IsModeHeld mode) revision now by found txn
-mode-set mode revision now by (txns.SetConfig compared config) found is = is
+mode-set mode revision now by (txns.Operators (operator_txns.SetConfig compared config)) found is = is
 mode-set mode revision now by _ found is = tt
 
 mode-granted : (mode : Bool) (store : Keys) (now : ℕ) (by : MemberId) (txn : Txn) → IsModeSet mode txn

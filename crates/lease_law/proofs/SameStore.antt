@@ -9,6 +9,7 @@ use Rattle.pat_base.specs.declared.member_set.MemberSet.{MemberSet}
 use Rattle.store_keys.specs.declared.key.Key.TheVariants as keys
 use Rattle.store_keys.specs.declared.txn.Txn.{Txn}
 use Rattle.store_keys.specs.declared.txn.Txn.TheVariants as txns
+use Rattle.store_keys.specs.declared.txn.LeaseTxn.TheVariants as lease_txns
 use Rattle.store_keys.specs.declared.value.KeyEntry.{KeyEntry}
 use Rattle.store_keys.specs.declared.value.Value.{Value}
 use Rattle.store_keys.specs.declared.value.Value.TheVariants as values
@@ -93,6 +94,9 @@ kept-value now revision (values.History row) expiry =
 kept-value now revision (values.Failsafe members) expiry =
     sym (found_key-none (is_present now expiry)
     (Some (record { value = values.Failsafe members; revision = revision; expiry = expiry })) refl)
+kept-value now revision (values.Scheduled planned) expiry =
+    sym (found_key-none (is_present now expiry)
+    (Some (record { value = values.Scheduled planned; revision = revision; expiry = expiry })) refl)
 
 kept-leader : (now : ℕ) (found : Option KeyEntry)
     → leader_kept now (leader_key_of found) ≡ leader_key_of (present now found)
@@ -124,6 +128,7 @@ extended-value now revision ttl old (values.Sync key) expiry = refl
 extended-value now revision ttl old (values.Status end) expiry = refl
 extended-value now revision ttl old (values.History row) expiry = refl
 extended-value now revision ttl old (values.Failsafe members) expiry = refl
+extended-value now revision ttl old (values.Scheduled planned) expiry = refl
 
 extended-leader : (now revision ttl : ℕ) (found : Option KeyEntry)
     → extended_by now revision ttl (leader_key_of found) ≡ leader_key_of (held_renewed revision (now + ttl) found)
@@ -134,8 +139,8 @@ extended-leader now revision ttl (Some found_key) =
 granted-leader : (now revision : ℕ) (by : MemberId) (txn : Txn) (found : Option KeyEntry)
     → leader_granted now revision (leader_key_of found) by.number (query_of txn)
     ≡ leader_key_of (leader_after (revision + 1) now by txn found)
-granted-leader now revision by (txns.Create info ttl failsafe sync) found = refl
-granted-leader now revision by (txns.Renew compared info ttl status row failsafe) found =
+granted-leader now revision by (txns.Lease (lease_txns.Create info ttl failsafe sync)) found = refl
+granted-leader now revision by (txns.Lease (lease_txns.Renew compared info ttl status row failsafe)) found =
     extended-leader now (revision + 1) ttl.0 found
 granted-leader now revision by _ found = refl
 
@@ -150,10 +155,10 @@ leased-renewed revision until (Some found_key) e = later-some until found_key.ex
 
 granted-leased : (now revision : ℕ) (by : MemberId) (txn : Txn) (found : Option KeyEntry) → IsLeased found
     → IsLeased (leader_after revision now by txn found)
-granted-leased now revision by (txns.Create info ttl failsafe sync) found e = refl
-granted-leased now revision by (txns.Renew compared info ttl status row failsafe) found e =
+granted-leased now revision by (txns.Lease (lease_txns.Create info ttl failsafe sync)) found e = refl
+granted-leased now revision by (txns.Lease (lease_txns.Renew compared info ttl status row failsafe)) found e =
     leased-renewed revision (now + ttl.0) found e
-granted-leased now revision by (txns.Release compared) found e = tt
+granted-leased now revision by (txns.Lease (lease_txns.Release compared)) found e = tt
 granted-leased now revision by _ found e = e
 
 carried-failsafe : (revision : ℕ) (members : Option MemberSet) (found : Option KeyEntry)
@@ -165,7 +170,7 @@ carried-failsafe revision (Some members) found = refl
 granted-failsafe : (revision : ℕ) (txn : Txn) (found : Option KeyEntry)
     → failsafe_granted revision (failsafe_key_of found) (query_of txn)
     ≡ failsafe_key_of (failsafe_after (revision + 1) txn found)
-granted-failsafe revision (txns.Renew compared info ttl status row failsafe) found =
+granted-failsafe revision (txns.Lease (lease_txns.Renew compared info ttl status row failsafe)) found =
     carried-failsafe (revision + 1) failsafe found
 granted-failsafe revision _ found = refl
 
@@ -176,7 +181,7 @@ endless-written revision (Some members) found e = refl
 
 granted-endless : (revision : ℕ) (txn : Txn) (found : Option KeyEntry) → IsEndless found
     → IsEndless (failsafe_after revision txn found)
-granted-endless revision (txns.Renew compared info ttl status row failsafe) found e =
+granted-endless revision (txns.Lease (lease_txns.Renew compared info ttl status row failsafe)) found e =
     endless-written revision failsafe found e
 granted-endless revision _ found e = e
 
@@ -191,15 +196,17 @@ extended-present clock revision ttl (Some key) old k e =
 granted-present : (clock revision by : ℕ) (leader : Option LeaderKey) (txn : Txn) → IsSpannedTxn txn
     → ((k : LeaderKey) → leader ≡ Some k → clock < k.expiry) → (k : LeaderKey)
     → leader_granted clock revision leader by (query_of txn) ≡ Some k → clock < k.expiry
-granted-present clock revision by leader (txns.Create info ttl failsafe sync) span old k e = omega (
+granted-present clock revision by leader (txns.Lease (lease_txns.Create info ttl failsafe sync)) span old k e = omega (
   arith,
   span,
   ap (λ (x : LeaderKey). x.expiry)
       (some-is (record { holder = by; revision = revision + 1; expiry = clock + ttl.0 }) k e),
 )
-granted-present clock revision by leader (txns.Renew compared info ttl status row failsafe) span old k e =
+granted-present clock revision by leader (txns.Lease (lease_txns.Renew compared info ttl status row failsafe)) span old
+    k e =
     extended-present clock (revision + 1) ttl.0 leader old k e
-granted-present clock revision by leader (txns.Release compared) span old k e = absurd (none-some k e)
+granted-present clock revision by leader (txns.Lease (lease_txns.Release compared)) span old k e =
+    absurd (none-some k e)
 granted-present clock revision by leader _ span old k e = old k e
 
 kept-present : (b : Bool) (now : ℕ) (key k : LeaderKey) → nat_le key.expiry now ≡ b → kept_if b key ≡ Some k

@@ -12,6 +12,7 @@ use Rattle.store_keys.specs.declared.key.Key.{Key}
 use Rattle.store_keys.specs.declared.key.Key.TheVariants as keys
 use Rattle.store_keys.specs.declared.txn.Txn.{Txn}
 use Rattle.store_keys.specs.declared.txn.Txn.TheVariants as txns
+use Rattle.store_keys.specs.declared.txn.OperatorTxn.TheVariants as operator_txns
 use Rattle.store_keys.specs.declared.value.KeyEntry.{KeyEntry}
 use Rattle.lease_store.specs.KeyOrder.{key_cmp}
 use Rattle.lease_store.specs.Keys.{Keys, is_present, present}
@@ -55,7 +56,7 @@ unpaused-snapshot now pairs kept is = subst (λ (o : Option KeyEntry). IsUnpause
 -- a granted transaction
 unpaused-set : (revision now : ℕ) (by : MemberId) (txn : Txn) (found : Option KeyEntry) → IsUnpaused txn
     → SetsConfig IsUnpausedHeld revision now by found txn
-unpaused-set revision now by (txns.SetConfig compared config) found is = is
+unpaused-set revision now by (txns.Operators (operator_txns.SetConfig compared config)) found is = is
 unpaused-set revision now by _ found is = tt
 
 config-written : (revision now : ℕ) (by : MemberId) (txn : Txn) (found : Option KeyEntry) → IsUnpaused txn

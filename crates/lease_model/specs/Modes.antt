@@ -5,6 +5,7 @@ use Rattle.store_keys.specs.declared.key.Key.{Key}
 use Rattle.store_keys.specs.declared.key.Key.TheVariants as keys
 use Rattle.store_keys.specs.declared.txn.Txn.{Txn}
 use Rattle.store_keys.specs.declared.txn.Txn.TheVariants as txns
+use Rattle.store_keys.specs.declared.txn.OperatorTxn.TheVariants as operator_txns
 use Rattle.store_keys.specs.declared.value.KeyEntry.{KeyEntry}
 use Rattle.store_keys.specs.declared.value.Value.{Value}
 use Rattle.store_keys.specs.declared.value.Value.TheVariants as values
@@ -51,7 +52,7 @@ pub record IsDeclaredMode (mode : Bool) (facts : Facts) : Type 0 where
 
 -- a granted configuration has the mode so
 abbrev pub IsModeSet : Bool → Txn → Type 0
-IsModeSet mode (txns.SetConfig revision config) = config.config.failsafe_mode ≡ mode
+IsModeSet mode (txns.Operators (operator_txns.SetConfig revision config)) = config.config.failsafe_mode ≡ mode
 IsModeSet mode _ = Unit {0}
 
 -- no configuration is granted in this event that has the mode otherwise

@@ -2,7 +2,9 @@
 use Rattle.std.specs.Prelude.{ℕ, ◌+◌, max, Bool, true, false, List, [], ◌∷◌, Option, Some, None}
 use Rattle.pat_base.specs.declared.member_set.MemberSet.{MemberSet}
 use Rattle.store_keys.specs.declared.txn.Txn.{Txn}
+use Rattle.store_keys.specs.declared.txn.LeaseTxn.{LeaseTxn}
 use Rattle.store_keys.specs.declared.txn.Txn.TheVariants as txns
+use Rattle.store_keys.specs.declared.txn.LeaseTxn.TheVariants as lease_txns
 use Rattle.event_book.specs.declared.event.Event.{Event}
 use Rattle.event_book.specs.declared.event.EventKind.{EventKind}
 use Rattle.event_book.specs.declared.event.EventKind.TheVariants as kinds
@@ -29,11 +31,15 @@ abbrev pub members_if : Option MemberSet → Option (ℕ → Bool)
 members_if None = None
 members_if (Some set) = Some (set_members set)
 
--- what the lease reads of a transaction
+-- what the lease reads of a transaction on the leader key
+abbrev pub lease_query : LeaseTxn → Query
+lease_query (lease_txns.Create info ttl failsafe sync) = Create ttl.0 failsafe
+lease_query (lease_txns.Renew revision info ttl status row failsafe) = Renew revision ttl.0 (members_if failsafe)
+lease_query (lease_txns.Release revision) = Release revision
+
+-- of any: the others write
 abbrev pub query_of : Txn → Query
-query_of (txns.Create info ttl failsafe sync) = Create ttl.0 failsafe
-query_of (txns.Renew revision info ttl status row failsafe) = Renew revision ttl.0 (members_if failsafe)
-query_of (txns.Release revision) = Release revision
+query_of (txns.Lease txn) = lease_query txn
 query_of _ = Write
 
 -- the ttl that a create or a renewal asks for, in ticks; 0 for other questions

@@ -8,6 +8,7 @@ use Rattle.store_keys.specs.declared.value.Value.{Value}
 use Rattle.store_keys.specs.declared.value.Value.TheVariants as values
 use Rattle.store_keys.specs.declared.txn.Txn.{Txn}
 use Rattle.store_keys.specs.declared.txn.Txn.TheVariants as txns
+use Rattle.store_keys.specs.declared.txn.LeaseTxn.TheVariants as lease_txns
 use Rattle.lease_store.specs.KeyOrder.{key_cmp}
 use Rattle.event_book.specs.declared.event.EventKind.{EventKind}
 use Rattle.event_book.specs.declared.event.EventKind.TheVariants as kinds
@@ -53,7 +54,7 @@ IsEndless (Some found_key) = found_key.expiry ≡ None
 
 -- a create asks for a lease of at least one tick
 abbrev pub IsSpannedTxn : Txn → Type 0
-IsSpannedTxn (txns.Create info ttl failsafe sync) = 0 < ttl.0
+IsSpannedTxn (txns.Lease (lease_txns.Create info ttl failsafe sync)) = 0 < ttl.0
 IsSpannedTxn _ = Unit {0}
 
 -- a leader key that this event creates isn't absent at once

@@ -32,6 +32,9 @@ use Rattle.agent_model.specs.declared.knowledge.PendingQuestion.{PendingQuestion
 use Rattle.agent_model.specs.declared.machine.Machine.{Machine}
 use Rattle.agent_model.specs.declared.output.Output.{Output}
 use Rattle.agent_model.specs.declared.output.Output.TheVariants as outputs
+use Rattle.agent_model.specs.declared.output.Feeding.TheVariants as feedings
+use Rattle.agent_model.specs.declared.output.Outgoing.TheVariants as outgoing
+use Rattle.agent_model.specs.declared.output.Telling.TheVariants as tellings
 use Rattle.agent_model.specs.Agents.{AgentFacts, Outcome, outcome_from}
 use Rattle.agent_model.specs.Outputs.{with_output}
 use Rattle.agent_model.specs.Reconciling.{reconciled}
@@ -304,9 +307,10 @@ module _ (H : Type 0) (moments : Moments) (cluster : Cluster) (member : Member) 
 
     -- by the word of nobody
     alone-feeds : (output : Output) → FeedsAlone Now output → FeedsIt output
-    alone-feeds (outputs.Armed until) feeds = absurd feeds
-    alone-feeds (outputs.Fed until) feeds = absurd feeds
-    alone-feeds (outputs.FedByFailsafe until members sequence since) feeds = λ m taken runs_are clock.
+    alone-feeds (outputs.Watchdog (feedings.Armed until)) feeds = absurd feeds
+    alone-feeds (outputs.Watchdog (feedings.Fed until)) feeds = absurd feeds
+    alone-feeds (outputs.Watchdog (feedings.FedByFailsafe until members sequence since)) feeds =
+        λ m taken runs_are clock.
         subst (IsEarliest m M (bases.Acknowledgements members sequence))
         (clock ∙ kept.clock ∙ knows.sending.clock ∙ ap (λ (t : Ticks). t.0) (sym feeds.1))
         (fed-alone m M members sequence feeds.0)
@@ -314,9 +318,9 @@ module _ (H : Type 0) (moments : Moments) (cluster : Cluster) (member : Member) 
 
     -- on a message alone
     heard-feeds : H → (output : Output) → FeedsOnNone output → FeedsIt output
-    heard-feeds h (outputs.Armed until) feeds = h
-    heard-feeds h (outputs.Fed until) feeds = h
-    heard-feeds h (outputs.FedByFailsafe until members sequence since) feeds = absurd feeds
+    heard-feeds h (outputs.Watchdog (feedings.Armed until)) feeds = h
+    heard-feeds h (outputs.Watchdog (feedings.Fed until)) feeds = h
+    heard-feeds h (outputs.Watchdog (feedings.FedByFailsafe until members sequence since)) feeds = absurd feeds
     heard-feeds h _ feeds = tt
 
     told-quietly : H → PutsQuietly After → Tells heard
@@ -407,9 +411,9 @@ module _ (H : Type 0) (moments : Moments) (cluster : Cluster) (member : Member) 
     b-quiet = fronts-quiet Before b fronts
 
     silent-feeds : (output : Output) → IsSilent output → FeedsIt It acts it-stays output
-    silent-feeds (outputs.FedByFailsafe until members number since) is = absurd is
-    silent-feeds (outputs.Armed until) is = h
-    silent-feeds (outputs.Fed until) is = h
+    silent-feeds (outputs.Watchdog (feedings.FedByFailsafe until members number since)) is = absurd is
+    silent-feeds (outputs.Watchdog (feedings.Armed until)) is = h
+    silent-feeds (outputs.Watchdog (feedings.Fed until)) is = h
     silent-feeds _ is = tt
 
     front-feeds : All (FeedsIt It acts it-stays) b.outputs
@@ -466,7 +470,7 @@ module _ (H : Type 0) (moments : Moments) (cluster : Cluster) (member : Member) 
           (subst (λ (l : List (Option AgentFacts)). IsGiven Then.runs l R) (sym same-agents) given-first)
 
       abbrev Hold : Output
-      Hold = outputs.HoldTaken (span_after Now ttl) from sequence
+      Hold = outputs.Tell (tellings.HoldTaken (span_after Now ttl) from sequence)
 
       abbrev Holds : Option Member → List Event
       Holds found = events_of First2
@@ -558,18 +562,18 @@ module _ (H : Type 0) (moments : Moments) (cluster : Cluster) (member : Member) 
         (table It acts it-stays, sends It acts it-stays))
       where
         yes : Output
-        yes = outputs.FailsafeAnswer from run sequence true
+        yes = outputs.Message (outgoing.FailsafeAnswer from run sequence true)
 
         hold : Output
-        hold = outputs.HoldTaken (span_after Now ttl) from sequence
+        hold = outputs.Tell (tellings.HoldTaken (span_after Now ttl) from sequence)
 
         accepts : may_hold (shown Now b) (awaits_lease b.knows.waited) ≡ true
-            → Numbers (with_output (outputs.FailsafeAnswer from run sequence true)
-            (with_output (outputs.HoldTaken (span_after Now ttl) from sequence) b.outputs))
+            → Numbers (with_output (outputs.Message (outgoing.FailsafeAnswer from run sequence true))
+            (with_output (outputs.Tell (tellings.HoldTaken (span_after Now ttl) from sequence)) b.outputs))
             → Measures Then First
             (each (output_events member message) First
-            (with_output (outputs.FailsafeAnswer from run sequence true)
-            (with_output (outputs.HoldTaken (span_after Now ttl) from sequence) b.outputs)))
+            (with_output (outputs.Message (outgoing.FailsafeAnswer from run sequence true))
+            (with_output (outputs.Tell (tellings.HoldTaken (span_after Now ttl) from sequence)) b.outputs)))
         accepts may numbers =
             let inner : List Output = b.outputs ++ hold ∷ [] in
             let tables : All IsOfTable b.outputs =
@@ -586,17 +590,19 @@ module _ (H : Type 0) (moments : Moments) (cluster : Cluster) (member : Member) 
             (λ third. one-told member message _ _ yes third
             (yes-told tables tells third (slice_get (First3 tables tells).facts.members from.number) refl))))
 
-        refuses : Numbers (with_output (outputs.FailsafeAnswer from run sequence false) b.outputs)
+        refuses : Numbers (with_output (outputs.Message (outgoing.FailsafeAnswer from run sequence false)) b.outputs)
             → Measures Then First
             (each (output_events member message) First
-            (with_output (outputs.FailsafeAnswer from run sequence false) b.outputs))
+            (with_output (outputs.Message (outgoing.FailsafeAnswer from run sequence false)) b.outputs))
         refuses numbers =
-            each-it It acts it-stays (with_output (outputs.FailsafeAnswer from run sequence false) b.outputs)
-            (all-quiet-fit 0 (with_output (outputs.FailsafeAnswer from run sequence false) b.outputs)
-            (All-push IsQuiet b.outputs (outputs.FailsafeAnswer from run sequence false) b-quiet refl))
+            each-it It acts it-stays
+            (with_output (outputs.Message (outgoing.FailsafeAnswer from run sequence false)) b.outputs)
+            (all-quiet-fit 0 (with_output (outputs.Message (outgoing.FailsafeAnswer from run sequence false)) b.outputs)
+            (All-push IsQuiet b.outputs
+            (outputs.Message (outgoing.FailsafeAnswer from run sequence false)) b-quiet refl))
             numbers.0 numbers.1
             (All-push (FeedsIt It acts it-stays) b.outputs
-            (outputs.FailsafeAnswer from run sequence false) front-feeds tt)
+            (outputs.Message (outgoing.FailsafeAnswer from run sequence false)) front-feeds tt)
 
   -- ---- an answer to a failsafe request
   pub told-answered : (from : MemberId) (sequence : ℕ) (accepted : Bool) (sent : Ticks) → H
@@ -650,7 +656,7 @@ module _ (H : Type 0) (moments : Moments) (cluster : Cluster) (member : Member) 
 
       feeds : (output : Output) → FeedsSo Before from sequence accepted sent output
           → FeedsIt (heards.FailsafeAnswered from sequence accepted sent) acts stays output
-      feeds (outputs.FedByFailsafe until members fed since) all = λ m taken runs_are clock.
+      feeds (outputs.Watchdog (feedings.FedByFailsafe until members fed since)) all = λ m taken runs_are clock.
           let ask : Ask = ask_heard agent.knows.failsafe from true sent in
           let same : moments.taken ≡ m.taken =
           sym (taken ∙ (kept (heards.FailsafeAnswered from sequence accepted sent) acts stays).taken) in
@@ -668,8 +674,8 @@ module _ (H : Type 0) (moments : Moments) (cluster : Cluster) (member : Member) 
           (subst (λ (l : List Taking). IsCounted l M (moments.runs M) sequence ask) same
           (counted all.waited all.is all.staying all.sequence_is all.accepts)))
           all.all))
-      feeds (outputs.Armed until) all = h
-      feeds (outputs.Fed until) all = h
+      feeds (outputs.Watchdog (feedings.Armed until)) all = h
+      feeds (outputs.Watchdog (feedings.Fed until)) all = h
       feeds _ all = tt
 
   -- ---- any other message

@@ -21,6 +21,9 @@ use Rattle.event_book.specs.Kinds.{AllAre}
 use Rattle.event_book.specs.Premises.{IsTaken, Moments, Taking, moments_after, taken_with}
 use Rattle.agent_model.specs.declared.output.Output.{Output}
 use Rattle.agent_model.specs.declared.output.Output.TheVariants as outputs
+use Rattle.agent_model.specs.declared.output.Feeding.TheVariants as feedings
+use Rattle.agent_model.specs.declared.output.Outgoing.TheVariants as outgoing
+use Rattle.agent_model.specs.declared.output.Telling.TheVariants as tellings
 use Rattle.agent_model.specs.declared.output.Target.TheVariants as targets
 use Rattle.agent_model.specs.Agents.{AgentFacts}
 use Rattle.agent_outputs.specs.Orders.{IsOfTable}
@@ -168,22 +171,22 @@ record Requests (at : ℕ) (output : Output) : Type 0 where
   id : MemberId
   sequence : ℕ
   ttl : Ticks
-  is : output ≡ outputs.Send (targets.Member id) sequence (bodies.FailsafeRequest ttl)
+  is : output ≡ outputs.Message (outgoing.Send (targets.Member id) sequence (bodies.FailsafeRequest ttl))
   low : at ≤ id.number
 
 fits-kind : (at : ℕ) (output : Output) → FitsOne at output
     → (IsQuiet output × (next at output ≡ at)) ⊎ Requests at output
-fits-kind at (outputs.Send targets.Store sequence body) fits = inl (tt, refl)
-fits-kind at (outputs.Send (targets.Member id) sequence body) fits = by body fits
+fits-kind at (outputs.Message (outgoing.Send targets.Store sequence body)) fits = inl (tt, refl)
+fits-kind at (outputs.Message (outgoing.Send (targets.Member id) sequence body)) fits = by body fits
   where
     by : (body : Body) → FitsSend at (targets.Member id) body
         → (AsksNobody (targets.Member id) body × (next_send at (targets.Member id) body ≡ at))
-        ⊎ Requests at (outputs.Send (targets.Member id) sequence body)
+        ⊎ Requests at (outputs.Message (outgoing.Send (targets.Member id) sequence body))
     by (bodies.FailsafeRequest ttl) fits =
         inr (record { id = id; sequence = sequence; ttl = ttl; is = refl; low = fits })
     by _ fits = inl (tt, refl)
-fits-kind at (outputs.HoldTaken until from sequence) fits = inl (fits, refl)
-fits-kind at (outputs.FailsafeAnswer to run sequence accepted) fits = inl (fits, refl)
+fits-kind at (outputs.Tell (tellings.HoldTaken until from sequence)) fits = inl (fits, refl)
+fits-kind at (outputs.Message (outgoing.FailsafeAnswer to run sequence accepted)) fits = inl (fits, refl)
 fits-kind at _ fits = inl (tt, refl)
 
 some-some : (x y : AgentFacts) → ◌≡◌ {A = Option (Option AgentFacts)} (Some (Some x)) (Some (Some y)) → x ≡ y
@@ -202,9 +205,9 @@ each-append f cluster (x ∷ xs) ys =
 
 -- an output by which no watchdog is fed
 abbrev FeedsNone : Output → Type 0
-FeedsNone (outputs.Armed until) = ⊥
-FeedsNone (outputs.Fed until) = ⊥
-FeedsNone (outputs.FedByFailsafe until members sequence since) = ⊥
+FeedsNone (outputs.Watchdog (feedings.Armed until)) = ⊥
+FeedsNone (outputs.Watchdog (feedings.Fed until)) = ⊥
+FeedsNone (outputs.Watchdog (feedings.FedByFailsafe until members sequence since)) = ⊥
 FeedsNone _ = Unit {0}
 
 abbrev pub IsAny : Output → Type 0
@@ -277,18 +280,21 @@ module _ (member : Member) (incarnation : ℕ) (message : HeardMessage) where
       (output-mine member incarnation message.number FeedsNone cluster message refl runs output table none))
 
   abbrev FeedsAt : Moments → Cluster → Output → Type 0
-  FeedsAt moments cluster (outputs.Armed until) = IsHeardAt moments cluster message
-  FeedsAt moments cluster (outputs.Fed until) = IsHeardAt moments cluster message
-  FeedsAt moments cluster (outputs.FedByFailsafe until members sequence since) =
+  FeedsAt moments cluster (outputs.Watchdog (feedings.Armed until)) = IsHeardAt moments cluster message
+  FeedsAt moments cluster (outputs.Watchdog (feedings.Fed until)) = IsHeardAt moments cluster message
+  FeedsAt moments cluster (outputs.Watchdog (feedings.FedByFailsafe until members sequence since)) =
       IsEarliest moments M (bases.Acknowledgements members sequence) since.0
   FeedsAt moments cluster _ = Unit {0}
 
   output-measured : (moments : Moments) (since : Ticks) (cluster : Cluster) (output : Output)
       → RunsAmong member incarnation cluster.facts → IsOfTable output → FeedsAt moments cluster output
       → AreMeasured moments since (Brings cluster output)
-  output-measured moments since cluster (outputs.Armed until) runs table feeds = (tt, (feeds.known, tt))
-  output-measured moments since cluster (outputs.Fed until) runs table feeds = (tt, (feeds.known, tt))
-  output-measured moments since cluster (outputs.FedByFailsafe until members sequence from) runs table feeds =
+  output-measured moments since cluster (outputs.Watchdog (feedings.Armed until)) runs table feeds =
+      (tt, (feeds.known, tt))
+  output-measured moments since cluster (outputs.Watchdog (feedings.Fed until)) runs table feeds =
+      (tt, (feeds.known, tt))
+  output-measured moments since cluster (outputs.Watchdog (feedings.FedByFailsafe until members sequence from)) runs
+      table feeds =
       (tt, (record { none_earlier = feeds.none_earlier; one = feeds.one }, tt))
   output-measured moments since cluster output runs table feeds = silent moments since cluster output runs table tt
 
@@ -329,17 +335,18 @@ module _ (member : Member) (incarnation : ℕ) (message : HeardMessage) where
 
     -- an output that feeds does so on what is heard, or from when the first acknowledged
     abbrev pub Feeds : Output → Type 0
-    Feeds (outputs.Armed until) = H
-    Feeds (outputs.Fed until) = H
-    Feeds (outputs.FedByFailsafe until members sequence since) = (moments : Moments) → moments.taken ≡ T
+    Feeds (outputs.Watchdog (feedings.Armed until)) = H
+    Feeds (outputs.Watchdog (feedings.Fed until)) = H
+    Feeds (outputs.Watchdog (feedings.FedByFailsafe until members sequence since)) =
+        (moments : Moments) → moments.taken ≡ T
         → moments.runs ≡ R → moments.clock ≡ C → IsEarliest moments M (bases.Acknowledgements members sequence) since.0
     Feeds _ = Unit {0}
 
     feeds-at : (moments : Moments) (cluster : Cluster) (at : ℕ) (output : Output) → Mid moments cluster at
         → Feeds output → FeedsAt moments cluster output
-    feeds-at moments cluster at (outputs.Armed until) mid feeds = mid.heard feeds
-    feeds-at moments cluster at (outputs.Fed until) mid feeds = mid.heard feeds
-    feeds-at moments cluster at (outputs.FedByFailsafe until members sequence since) mid feeds =
+    feeds-at moments cluster at (outputs.Watchdog (feedings.Armed until)) mid feeds = mid.heard feeds
+    feeds-at moments cluster at (outputs.Watchdog (feedings.Fed until)) mid feeds = mid.heard feeds
+    feeds-at moments cluster at (outputs.Watchdog (feedings.FedByFailsafe until members sequence since)) mid feeds =
         feeds moments mid.taken mid.runs_are mid.clock
     feeds-at moments cluster at _ mid feeds = tt
 
@@ -380,7 +387,7 @@ module _ (member : Member) (incarnation : ℕ) (message : HeardMessage) where
     told-request : (moments : Moments) (cluster : Cluster) (at : ℕ) (id : MemberId) (sequence : ℕ) (ttl : Ticks)
         → Mid moments cluster at → low < sequence → sequence ≤ after.knows.sequence → at ≤ id.number
         → Measures moments cluster
-        (Brings cluster (outputs.Send (targets.Member id) sequence (bodies.FailsafeRequest ttl)))
+        (Brings cluster (outputs.Message (outgoing.Send (targets.Member id) sequence (bodies.FailsafeRequest ttl))))
     told-request moments cluster at id sequence ttl mid later counted least =
         by (slice_get cluster.facts.processes M) (slice_get cluster.facts.members id.number) refl refl
       where
@@ -419,7 +426,7 @@ module _ (member : Member) (incarnation : ℕ) (message : HeardMessage) where
     request-adds : (cluster : Cluster) (id : MemberId) (sequence : ℕ) (ttl : Ticks)
         → ((n : ℕ) (peer : Member) → slice_get cluster.facts.members n ≡ Some peer → peer.id.number ≡ n)
         → AllAre (AddsOnly (AsksAt id.number))
-        (Brings cluster (outputs.Send (targets.Member id) sequence (bodies.FailsafeRequest ttl)))
+        (Brings cluster (outputs.Message (outgoing.Send (targets.Member id) sequence (bodies.FailsafeRequest ttl))))
     request-adds cluster id sequence ttl members =
         by (slice_get cluster.facts.processes M) (slice_get cluster.facts.members id.number) refl
       where
@@ -461,7 +468,8 @@ module _ (member : Member) (incarnation : ℕ) (message : HeardMessage) where
               (All-tail (SendsBetween low after.knows.sequence) output more sends) (All-tail Feeds output more feeds))
           | inr asks ↦
               let send : Output =
-              outputs.Send (targets.Member asks.id) asks.sequence (bodies.FailsafeRequest asks.ttl) in
+              outputs.Message (outgoing.Send (targets.Member asks.id) asks.sequence
+              (bodies.FailsafeRequest asks.ttl)) in
               let number = subst (SendsBetween low after.knows.sequence) asks.is
               (All-head (SendsBetween low after.knows.sequence) output more sends) in
               let tells : Measures moments cluster (Brings cluster send) =

@@ -66,7 +66,7 @@ module _ (head : HeadText) (few : length (names_of head) ≤ MOST_MEMBERS) where
   upheld-quiet book cluster events good all =
       upheld-own head book cluster events good (all-more IsQuiet Own events quiet-own all)
 
-  pub found-own : (cluster : Cluster) (found : Option EventKind) → HoldsIf Own found
+  found-own : (cluster : Cluster) (found : Option EventKind) → HoldsIf Own found
       → AllAre Own (events_of cluster (kinds_of found))
   found-own cluster found is = all-kinds Own cluster (kinds_of found) (one-kind Own found is)
 
@@ -75,7 +75,7 @@ module _ (head : HeadText) (few : length (names_of head) ≤ MOST_MEMBERS) where
   lost-own cluster true number = (tt, tt)
   lost-own cluster false number = tt
 
-  pub sends-own : (cluster : Cluster) (message : Message) → HasDeclaredEnds head message
+  sends-own : (cluster : Cluster) (message : Message) → HasDeclaredEnds head message
       → AllAre Own (send_events cluster message)
   sends-own cluster message own = (own, lost-own _ _ _)
 

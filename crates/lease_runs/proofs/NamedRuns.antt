@@ -4,23 +4,17 @@ use Rattle.pat_base.specs.declared.member_id.TheConstants.{MOST_MEMBERS}
 use Rattle.store_keys.specs.declared.action.OperatorAction.{OperatorAction}
 use Rattle.cluster_model.specs.declared.step.Step.{Step}
 use Rattle.script_model.specs.Script.{HeadText, IsHead, names_of}
-use Rattle.event_book.specs.declared.agent_process.AgentProcess.{AgentProcess}
 use Rattle.event_book.specs.declared.event.AgentEvent.TheVariants.{Operated, Woken}
 use Rattle.event_book.specs.declared.event.Event.{Event}
 use Rattle.event_book.specs.declared.event.EventKind.{EventKind}
 use Rattle.event_book.specs.declared.event.EventKind.TheVariants as kinds
-use Rattle.event_book.specs.declared.event.MessageEvent.TheVariants.{Delivered, Sent}
-use Rattle.event_book.specs.declared.event.ServerEvent.TheVariants as servers
+use Rattle.event_book.specs.declared.event.MessageEvent.TheVariants.{Delivered}
 use Rattle.event_book.specs.declared.link.LinkEnd.{LinkEnd}
 use Rattle.event_book.specs.declared.link.LinkEnd.TheVariants as ends
 use Rattle.event_book.specs.declared.member.Member.{Member}
-use Rattle.event_book.specs.declared.member.ServerOf.{ServerOf}
-use Rattle.event_book.specs.declared.message.Body.{Body}
-use Rattle.event_book.specs.declared.message.Body.TheVariants as bodies
 use Rattle.event_book.specs.Kinds.{AllAre}
 use Rattle.agent_model.specs.declared.heard.Heard.TheVariants.{Operated as HearsOperator, Wake}
 use Rattle.agent_model.specs.declared.output.Output.{Output}
-use Rattle.agent_model.specs.declared.output.Output.TheVariants as outputs
 use Rattle.agent_model.specs.declared.output.Target.{Target}
 use Rattle.agent_model.specs.declared.output.Target.TheVariants as targets
 use Rattle.agent_model.specs.Agents.{Outcome}
@@ -28,28 +22,22 @@ use Rattle.cluster_model.specs.declared.heard_message.HeardMessage.{HeardMessage
 use Rattle.cluster_model.specs.Cluster.{cluster_after}
 use Rattle.cluster_model.specs.Hearing.{heard_from}
 use Rattle.cluster_model.specs.Inputs.{outcome_of, outcome_of_heard, outputs_of}
-use Rattle.cluster_model.specs.Messages.{agent_message, heard_message, input_events, no_message, output_events, receiver_of, replying_events, sending_events}
+use Rattle.cluster_model.specs.Messages.{heard_message, input_events, no_message, output_events, receiver_of}
 use Rattle.cluster_model.specs.Next.{run_events}
-use Rattle.cluster_model.specs.Orders.{hold_taken}
 use Rattle.cluster_model.specs.Parts.{event_of}
 use Rattle.cluster_model.specs.Requests.{action_of}
 use Rattle.cluster_model.specs.Starting.{cluster_of}
 use Rattle.cluster_model.specs.State.{Cluster}
-use Rattle.cluster_model.proofs.Founds.{holds-mapped}
-use Rattle.cluster_model.proofs.Lists.{all-more}
+use Rattle.cluster_model.proofs.Outputs.{HoldsOfOutputs, output-holds}
 use Rattle.lease_model.proofs.Tools.{none-some}
 use Rattle.run_promise.specs.Members.{declared_members, IsDeclared}
-use Rattle.lease_parts.specs.Machines.{run_in, run_now}
 use Rattle.run_promise.specs.Parts.{PartsUphold}
 use Rattle.run_promise.specs.Promise.{Upholds, UpholdsAlways}
-use Rattle.run_promise.proofs.Members.{declared-at, declared-named, few-names, declared-in, numbered}
+use Rattle.run_promise.proofs.Members.{declared-at, declared-named, few-names, declared-in}
 use Rattle.run_promise.proofs.Upholding.{upheld-then, upholds-all}
 use Rattle.run_promise.proofs.Walking.{upholds-run}
-use Rattle.lease_inputs.specs.InputEvents.{IsOfInput}
-use Rattle.lease_inputs.proofs.InputEvents.{output-mine}
-use Rattle.lease_inputs.proofs.InputNumbers.{no-sent, no_message as sends_none}
 use Rattle.summary_model.specs.Listed.{NamesServer}
-use Rattle.lease_runs.proofs.NamedParts.{found-own, sends-own, upheld-arrival, upholds-acknowledge, upholds-command, upholds-promote, upholds-receive, upholds-restart, upholds-tick}
+use Rattle.lease_runs.proofs.NamedParts.{upheld-arrival, upholds-acknowledge, upholds-command, upholds-promote, upholds-receive, upholds-restart, upholds-tick}
 use Rattle.lease_runs.proofs.Naming.{IsDeclaredEnd, IsOwn, NamesSoFar, composable, names_told, upheld-own}
 
 module _ (head : HeadText) (few : length (names_of head) ≤ MOST_MEMBERS) where
@@ -76,64 +64,47 @@ module _ (head : HeadText) (few : length (names_of head) ≤ MOST_MEMBERS) where
 
   -- ---- an output of the agent of a declared member
   module _ (member : Member) (is : IsDeclared head member) where
-    sending-own : (cluster : Cluster) (found : Option AgentProcess) (to : Option LinkEnd) (sequence : ℕ) (body : Body)
-        → IsOwnReceiver to
-        → AllAre Own (sending_events cluster member found to sequence body)
-    sending-own cluster None to sequence body own = tt
-    sending-own cluster (Some process) None sequence body own = tt
-    sending-own cluster (Some process) (Some to) sequence body own =
-        sends-own head few cluster (agent_message member to process.incarnation sequence body) (is, own)
-
-    replying-own : (cluster : Cluster) (to : Option LinkEnd) (incarnation sequence : ℕ) (body : Body) → IsOwnReceiver to
-        → AllAre Own (replying_events cluster member to incarnation sequence body)
-    replying-own cluster None incarnation sequence body own = tt
-    replying-own cluster (Some to) incarnation sequence body own =
-        sends-own head few cluster (agent_message member to incarnation sequence body) (is, own)
-
-    -- what comes of an output that sends no message
-    mine-own : (incarnation heard : ℕ) (kind : EventKind) → IsOfInput member incarnation heard sends_none kind
-        → Own kind
-    mine-own incarnation heard (kinds.Message (Sent number message)) mine =
-        absurd (no-sent member incarnation message mine)
-    mine-own incarnation heard (kinds.Server (servers.Began server timeline)) mine =
-        subst (λ (s : ServerOf). slice_get (names_of head) s.id.number ≡ Some s.name) (sym mine.0)
-        (declared-named head few member is)
-    mine-own incarnation heard _ mine = tt
-
-    output-own : (heard : HeardMessage) (output : Output) (cluster : Cluster)
-        → cluster.facts.members ≡ declared_members head
-        → AllAre Own (output_events member heard cluster output)
-    output-own heard (outputs.Send to sequence body) cluster members =
-        sending-own cluster (slice_get cluster.facts.processes member.id.number)
-        (receiver_of cluster.facts.members to) sequence body
-        (receiver-declared cluster.facts.members members to)
-    output-own heard (outputs.Answer to incarnation sequence answer) cluster members =
-        replying-own cluster (receiver_of cluster.facts.members (targets.Member to)) incarnation sequence
-        (bodies.Answer answer)
-        (receiver-declared cluster.facts.members members (targets.Member to))
-    output-own heard (outputs.FailsafeAnswer to incarnation sequence accepted) cluster members =
-        replying-own cluster (receiver_of cluster.facts.members (targets.Member to)) incarnation sequence
-        (bodies.FailsafeAnswer accepted)
-        (receiver-declared cluster.facts.members members (targets.Member to))
-    output-own heard (outputs.HoldTaken until from sequence) cluster members =
-        let found = slice_get cluster.facts.members from.number in
-        let hold = hold_taken member until heard.incarnation sequence in
-        found-own head few cluster (option_map hold found) (holds-mapped Own hold found (λ m. tt))
-    output-own heard output cluster members =
-        let incarnation = run_in cluster.facts.processes member.id.number in
-        all-more (IsOfInput member incarnation heard.number sends_none) Own
-        (output_events member heard cluster output) (mine-own incarnation heard.number)
-        (output-mine member incarnation heard.number sends_none cluster heard refl (record {
-          process = λ process found. sym (ap run_now found);
-          numbered = λ n peer found.
-              numbered head few n peer (ap (λ (ms : List Member). slice_get ms n) (sym members) ∙ found);
-        }) output tt tt)
+    holds-own : (cluster : Cluster) → cluster.facts.members ≡ declared_members head
+        → HoldsOfOutputs Own cluster member
+    holds-own cluster members = record {
+      messages = record {
+        sent = λ target to found incarnation sequence body.
+            (is, subst IsOwnReceiver found (receiver-declared cluster.facts.members members target));
+        lost = tt;
+      };
+      orders = λ order. record {
+        begins = λ lets timeline. declared-named head few member is;
+        lacks = λ lets. tt;
+        starts_as_primary = λ lets. tt;
+        starts_as_replica = tt;
+        follows = λ leader. tt;
+        says = λ reason. tt;
+        ends = λ lets. tt;
+        stops = λ lets. tt;
+        wiped = λ lets. tt;
+        rewound = λ lets leader r. tt;
+        copied = λ lets leader. tt;
+      };
+      feedings = record {
+        measured = λ since. tt;
+        armed = λ until answer. tt;
+        fed = λ until basis. tt;
+        disarmed = tt;
+      };
+      required = λ required names. tt;
+      tellings = λ telling. record {
+        answers = λ answers reply. tt;
+        holds = λ until incarnation sequence from. tt;
+        passes = λ passes. tt;
+      };
+      notes = record { agent = λ note about. tt; stays = tt };
+    }
 
     upholds-output : (heard : HeardMessage) (output : Output)
         → UpholdsAlways (names_told head) (λ cluster. output_events member heard cluster output)
     upholds-output heard output book cluster good =
         upheld-own head book cluster (output_events member heard cluster output) good
-        (output-own heard output cluster good.members)
+        (output-holds Own cluster member heard (holds-own cluster good.members) output)
 
     -- what it does behind an event
     upheld-input : (book : List Event) (cluster : Cluster) (kind : EventKind) (heard : HeardMessage)

@@ -26,6 +26,11 @@ use Rattle.agent_model.specs.declared.knowledge.Question.{Question}
 use Rattle.agent_model.specs.declared.knowledge.Question.TheVariants.{ComparingPositions, FindingCandidate, Creating, Reading, Renewing, Claiming, Syncing, StayingPrimary}
 use Rattle.agent_model.specs.declared.output.Output.{Output}
 use Rattle.agent_model.specs.declared.output.Output.TheVariants as outputs
+use Rattle.agent_model.specs.declared.output.Feeding.TheVariants as feedings
+use Rattle.agent_model.specs.declared.output.Noting.TheVariants as notings
+use Rattle.agent_model.specs.declared.output.Outgoing.TheVariants as outgoing
+use Rattle.agent_model.specs.declared.output.ServerOrder.TheVariants as orders
+use Rattle.agent_model.specs.declared.output.Telling.TheVariants as tellings
 use Rattle.agent_model.specs.declared.output.Target.{Target}
 use Rattle.agent_model.specs.declared.output.Target.TheVariants as targets
 use Rattle.agent_model.specs.declared.why.Why.{Why}
@@ -155,7 +160,8 @@ takes-so : (now ttl : Ticks) (revision : ℕ) (o b : Outcome) → awaits_stay b.
     → StaysSo o (takes_key now ttl revision b)
 takes-so now ttl revision o b none =
     let back : Outcome =
-    gives_back revision (record b { outputs = with_output (outputs.Note agent_notes.CannotArm) b.outputs }) in
+    gives_back revision
+    (record b { outputs = with_output (outputs.Note (notings.Agent agent_notes.CannotArm)) b.outputs }) in
     let arm : Outcome = arming now ttl b in
     if-cases (StaysSo o) (may_take now b.knows b.machine) (arms now ttl revision b) (gives_back revision b)
     (λ _. if-cases (StaysSo o) (is_refusing b.machine.watchdog.mode b.machine.watchdog.works) back
@@ -219,15 +225,15 @@ AsksNobody (targets.Member id) (bodies.FailsafeRequest ttl) = ⊥
 AsksNobody (targets.Member id) _ = Unit {0}
 
 abbrev pub IsQuiet : Output → Type 0
-IsQuiet (outputs.Send to sequence body) = AsksNobody to body
-IsQuiet (outputs.HoldTaken until from sequence) = sequence ≡ 0
-IsQuiet (outputs.FailsafeAnswer to run sequence accepted) = accepted ≡ false
+IsQuiet (outputs.Message (outgoing.Send to sequence body)) = AsksNobody to body
+IsQuiet (outputs.Tell (tellings.HoldTaken until from sequence)) = sequence ≡ 0
+IsQuiet (outputs.Message (outgoing.FailsafeAnswer to run sequence accepted)) = accepted ≡ false
 IsQuiet _ = Unit {0}
 
 silent-quiet : (output : Output) → IsSilent output → IsQuiet output
-silent-quiet (outputs.Send to sequence body) e = absurd e
-silent-quiet (outputs.HoldTaken until from sequence) e = absurd e
-silent-quiet (outputs.FailsafeAnswer to run sequence accepted) e = absurd e
+silent-quiet (outputs.Message (outgoing.Send to sequence body)) e = absurd e
+silent-quiet (outputs.Tell (tellings.HoldTaken until from sequence)) e = absurd e
+silent-quiet (outputs.Message (outgoing.FailsafeAnswer to run sequence accepted)) e = absurd e
 silent-quiet _ e = tt
 
 pub fronts-quiet : (o b : Outcome) → Fronts o b → All IsQuiet b.outputs
@@ -376,15 +382,15 @@ false-if false none = refl
 
 put-quiet : (F : MemberSet → ℕ → Type 0) (o after : Outcome) (output : Output)
     → MayPut (quiet_grounds F) o after output → IsQuiet output
-put-quiet F o after (outputs.Send targets.Store sequence body) may = tt
-put-quiet F o after (outputs.Send (targets.Member id) sequence body) may = by body may.2
+put-quiet F o after (outputs.Message (outgoing.Send targets.Store sequence body)) may = tt
+put-quiet F o after (outputs.Message (outgoing.Send (targets.Member id) sequence body)) may = by body may.2
   where
     by : (body : Body) → MayAskMember (quiet_grounds F) sequence body → AsksNobody (targets.Member id) body
     by (bodies.FailsafeRequest ttl) asks = absurd asks
     by _ asks = tt
-put-quiet F o after (outputs.HoldTaken until from sequence) may =
+put-quiet F o after (outputs.Tell (tellings.HoldTaken until from sequence)) may =
     elim may [ inl mine ↦ mine.0 | inr asked ↦ absurd asked.1 ]
-put-quiet F o after (outputs.FailsafeAnswer to run sequence accepted) may = false-if accepted may
+put-quiet F o after (outputs.Message (outgoing.FailsafeAnswer to run sequence accepted)) may = false-if accepted may
 put-quiet F o after _ may = tt
 
 -- who is woken and begins to wait for no acknowledgements sends no failsafe request
@@ -406,25 +412,26 @@ wake-quiet now points o alone silent counted so =
     ]
 
     put : (output : Output) → MayPut (staying now (woken now o) G) o (woken now o) output → IsQuiet output
-    put (outputs.Send targets.Store sequence body) may = tt
-    put (outputs.Send (targets.Member id) sequence body) may = by body may.2
+    put (outputs.Message (outgoing.Send targets.Store sequence body)) may = tt
+    put (outputs.Message (outgoing.Send (targets.Member id) sequence body)) may = by body may.2
       where
         by : (body : Body) → MayAskMember (staying now (woken now o) G) sequence body
             → AsksNobody (targets.Member id) body
         by (bodies.FailsafeRequest ttl) asks = absurd (asks-not sequence ttl may.0 asks)
         by _ asks = tt
-    put (outputs.HoldTaken until from sequence) may = elim may [ inl mine ↦ mine.0 | inr asked ↦ absurd asked.1 ]
-    put (outputs.FailsafeAnswer to run sequence accepted) may = false-if accepted may
+    put (outputs.Tell (tellings.HoldTaken until from sequence)) may =
+        elim may [ inl mine ↦ mine.0 | inr asked ↦ absurd asked.1 ]
+    put (outputs.Message (outgoing.FailsafeAnswer to run sequence accepted)) may = false-if accepted may
     put _ may = tt
 
 -- no watchdog is fed on acknowledgements by this output
 abbrev pub FeedsOnNone : Output → Type 0
-FeedsOnNone (outputs.FedByFailsafe until members sequence since) = ⊥
+FeedsOnNone (outputs.Watchdog (feedings.FedByFailsafe until members sequence since)) = ⊥
 FeedsOnNone _ = Unit {0}
 
 put-none : (o after : Outcome) (output : Output)
     → MayPut (quiet_grounds (λ members sequence. ⊥)) o after output → FeedsOnNone output
-put-none o after (outputs.FedByFailsafe until members sequence since) may = absurd may
+put-none o after (outputs.Watchdog (feedings.FedByFailsafe until members sequence since)) may = absurd may
 put-none o after _ may = tt
 
 -- so are all outputs of an input that hears neither a failsafe request nor an answer to one, and isn't woken
@@ -492,7 +499,7 @@ pub record FeedsOnAll (o : Outcome) (from : MemberId) (sequence : ℕ) (accepted
   pub all : moment_of_all (ask_heard o.knows.failsafe from true sent) ≡ Some since
 
 abbrev pub FeedsSo : Outcome → MemberId → ℕ → Bool → Ticks → Output → Type 0
-FeedsSo o from sequence accepted sent (outputs.FedByFailsafe until members fed since) =
+FeedsSo o from sequence accepted sent (outputs.Watchdog (feedings.FedByFailsafe until members fed since)) =
     FeedsOnAll o from sequence accepted sent members fed since
 FeedsSo o from sequence accepted sent _ = Unit {0}
 
@@ -516,7 +523,7 @@ counted-feeds now points o alone silent from sequence accepted sent = by b.knows
     P x = All (FeedsSo o from sequence accepted sent) x.outputs
 
     silent-so : (output : Output) → IsSilent output → FeedsSo o from sequence accepted sent output
-    silent-so (outputs.FedByFailsafe until members fed since) e = absurd e
+    silent-so (outputs.Watchdog (feedings.FedByFailsafe until members fed since)) e = absurd e
     silent-so _ e = tt
 
     all : P b
@@ -525,7 +532,8 @@ counted-feeds now points o alone silent from sequence accepted sent = by b.knows
 
     ends : (role : RoleFacts) → P (unacknowledged_as now role (waiting_no_more b))
     ends (Leader held) =
-        All-push (FeedsSo o from sequence accepted sent) b.outputs (outputs.Stop FailsafeNotAcknowledged) all tt
+        All-push (FeedsSo o from sequence accepted sent) b.outputs
+        (outputs.Server (orders.Stop FailsafeNotAcknowledged)) all tt
     ends Follower = all
     ends (Holder held) = all
     ends (Ready held) = all
@@ -537,7 +545,7 @@ counted-feeds now points o alone silent from sequence accepted sent = by b.knows
         → All (FeedsSo o from sequence accepted sent) (fed_by_failsafe deadline members sequence since b.outputs)
     fed None members since is = all
     fed (Some until) members since is = All-push (FeedsSo o from sequence accepted sent) b.outputs
-        (outputs.FedByFailsafe until members sequence since) all is
+        (outputs.Watchdog (feedings.FedByFailsafe until members sequence since)) all is
 
     counted-if : (waited : PendingQuestion) → b.knows.waited ≡ Some waited → is_staying waited.question ≡ true
         → waited.sequence ≡ sequence → accepted ≡ true → (moment : Option Ticks)
@@ -551,7 +559,7 @@ counted-feeds now points o alone silent from sequence accepted sent = by b.knows
         (λ _. All-push (FeedsSo o from sequence accepted sent)
         (fed_by_failsafe (deadline_after now waited.ttl x.machine.watchdog) x.knows.failsafe.members
         waited.sequence since b.outputs)
-        outputs.StaysByFailsafe
+        (outputs.Note notings.StaysByFailsafe)
         (subst (λ (n : ℕ). All (FeedsSo o from sequence accepted sent)
         (fed_by_failsafe (deadline_after now waited.ttl x.machine.watchdog) x.knows.failsafe.members n since b.outputs))
         (sym number)
@@ -597,7 +605,7 @@ FitsSend at (targets.Member id) (bodies.FailsafeRequest ttl) = at ≤ id.number
 FitsSend at (targets.Member id) _ = Unit {0}
 
 abbrev pub FitsOne : ℕ → Output → Type 0
-FitsOne at (outputs.Send to sequence body) = FitsSend at to body
+FitsOne at (outputs.Message (outgoing.Send to sequence body)) = FitsSend at to body
 FitsOne at output = IsQuiet output
 
 abbrev pub next_send : ℕ → Target → Body → ℕ
@@ -606,7 +614,7 @@ next_send at (targets.Member id) (bodies.FailsafeRequest ttl) = id.number + 1
 next_send at (targets.Member id) _ = at
 
 abbrev pub next : ℕ → Output → ℕ
-next at (outputs.Send to sequence body) = next_send at to body
+next at (outputs.Message (outgoing.Send to sequence body)) = next_send at to body
 next at _ = at
 
 abbrev pub FitsFrom : ℕ → List Output → Type 0
@@ -619,15 +627,15 @@ last_of at [] = at
 last_of at (output ∷ more) = last_of (next at output) more
 
 quiet-fits : (at : ℕ) (output : Output) → IsQuiet output → FitsOne at output × (next at output ≡ at)
-quiet-fits at (outputs.Send targets.Store sequence body) quiet = (tt, refl)
-quiet-fits at (outputs.Send (targets.Member id) sequence body) quiet = by body quiet
+quiet-fits at (outputs.Message (outgoing.Send targets.Store sequence body)) quiet = (tt, refl)
+quiet-fits at (outputs.Message (outgoing.Send (targets.Member id) sequence body)) quiet = by body quiet
   where
     by : (body : Body) → AsksNobody (targets.Member id) body
         → FitsSend at (targets.Member id) body × (next_send at (targets.Member id) body ≡ at)
     by (bodies.FailsafeRequest ttl) asks = absurd asks
     by _ asks = (tt, refl)
-quiet-fits at (outputs.HoldTaken until from sequence) quiet = (quiet, refl)
-quiet-fits at (outputs.FailsafeAnswer to run sequence accepted) quiet = (quiet, refl)
+quiet-fits at (outputs.Tell (tellings.HoldTaken until from sequence)) quiet = (quiet, refl)
+quiet-fits at (outputs.Message (outgoing.FailsafeAnswer to run sequence accepted)) quiet = (quiet, refl)
 quiet-fits at _ quiet = (tt, refl)
 
 pub all-quiet-fit : (at : ℕ) (outs : List Output) → All IsQuiet outs → FitsFrom at outs
@@ -672,7 +680,7 @@ requested-one members number ttl count (Some m) outs at old =
     (λ _. record { fits = old.fits; low = let low : last_of 0 outs ≤ count = old.low in omega (arith, low) })
   where
     send : Output
-    send = outputs.Send (targets.Member m) number (bodies.FailsafeRequest ttl)
+    send = outputs.Message (outgoing.Send (targets.Member m) number (bodies.FailsafeRequest ttl))
 
 requested-first : (members : MemberSet) (number : ℕ) (ttl : Ticks) (count : ℕ) (outs : List Output)
     → Requested 0 outs → Requested count (requesting_first members number ttl count outs)

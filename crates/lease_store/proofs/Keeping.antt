@@ -17,6 +17,9 @@ use Rattle.store_keys.specs.declared.value.KeyEntry.{KeyEntry}
 use Rattle.store_keys.specs.declared.value.HistoryRow.{HistoryRow}
 use Rattle.store_keys.specs.declared.txn.Txn.{Txn}
 use Rattle.store_keys.specs.declared.txn.Txn.TheVariants as txns
+use Rattle.store_keys.specs.declared.txn.LeaseTxn.TheVariants as lease_txns
+use Rattle.store_keys.specs.declared.txn.OperatorTxn.TheVariants as operator_txns
+use Rattle.store_keys.specs.declared.txn.SyncTxn.TheVariants as sync_txns
 use Rattle.lease_store.specs.KeyOrder.{key_cmp}
 use Rattle.lease_store.specs.Kinds.{IsOfKind}
 use Rattle.lease_store.specs.Kept.{AreOfKind, IsLasting, IsKept}
@@ -214,8 +217,8 @@ fit-failsafe (Some members) = (tt, tt)
 
 fit : (by : MemberId) (txn : Txn) → AllFit (writes_of by txn)
 fit by (txns.Touch info ttl) = ((tt, refl), tt)
-fit by (txns.Create info ttl failsafe sync) = ((tt, refl), ((tt, refl), tt))
-fit by (txns.Renew revision info ttl status row failsafe) = (
+fit by (txns.Lease (lease_txns.Create info ttl failsafe sync)) = ((tt, refl), ((tt, refl), tt))
+fit by (txns.Lease (lease_txns.Renew revision info ttl status row failsafe)) = (
   refl,
   (
     (tt, refl),
@@ -223,10 +226,12 @@ fit by (txns.Renew revision info ttl status row failsafe) = (
         (fit-append (row_writes row) (failsafe_writes failsafe) (fit-row row) (fit-failsafe failsafe)),
   ),
 )
-fit by (txns.Release revision) = (refl, tt)
-fit by (txns.DropSync revision sync) = (refl, tt)
-fit by (txns.SetFailover failover ttl) = ((tt, refl), tt)
-fit by (txns.DropFailover revision) = (refl, tt)
+fit by (txns.Lease (lease_txns.Release revision)) = (refl, tt)
+fit by (txns.Sync (sync_txns.DropSync revision sync)) = (refl, tt)
+fit by (txns.Operators (operator_txns.SetFailover failover ttl)) = ((tt, refl), tt)
+fit by (txns.Operators (operator_txns.DropFailover revision)) = (refl, tt)
+fit by (txns.Operators (operator_txns.Unschedule scheduled)) = (refl, tt)
+fit by (txns.Operators (operator_txns.Fire revision scheduled failover ttl)) = ((tt, refl), (refl, tt))
 fit by _ = (tt, tt)
 
 -- a granted transaction keeps what holds of the pairs of a store

@@ -7,7 +7,7 @@ use Rattle.std.proofs.lemmas.Cmp.{on_total, then_total}
 use Rattle.std.proofs.lemmas.Map.Lookups.{CmpEqualImpliesEq, exact_pairs, exact_unsigned}
 use Rattle.pat_base.specs.declared.member_id.MemberId.{MemberId}
 use Rattle.store_keys.specs.declared.key.Key.{Key}
-use Rattle.store_keys.specs.declared.key.Key.TheVariants.{Leader, Config, Member, Failover, Sync, Status, History, Failsafe}
+use Rattle.store_keys.specs.declared.key.Key.TheVariants.{Leader, Config, Member, Failover, Sync, Status, History, Failsafe, Scheduled}
 use Rattle.lease_store.specs.KeyOrder.{key_rank_of, key_number_of, key_cmp}
 use Rattle.pat_base.specs.declared.member_id.TheConstants.{MOST_MEMBERS}
 
@@ -29,6 +29,7 @@ same_parts Sync Sync p q = refl
 same_parts Status Status p q = refl
 same_parts (History m) (History n) p q = ap History q
 same_parts Failsafe Failsafe p q = refl
+same_parts Scheduled Scheduled p q = refl
 same_parts _ _ p q = absurd (omega (arith, p))
 
 pub keys_total : IsTotalOrder key_cmp

@@ -1,5 +1,5 @@
 -- What a granted transaction leaves at one key, without the others.
-use Rattle.std.proofs.Common.{◌≡◌, ℕ, ◌+◌, ◌++◌, List, [], ◌∷◌, Option, Some, None, refl, sym, ap, ◌∙◌, cond, Bool, true, false, not}
+use Rattle.std.proofs.Common.{◌≡◌, ℕ, ◌+◌, ◌++◌, List, [], ◌∷◌, Option, Some, None, unwrap_or, refl, sym, ap, ◌∙◌, cond, Bool, true, false, not}
 use Rattle.std.specs.Ordering.{eq_by_cmp}
 use Rattle.std.specs.FinMap.{find}
 use Rattle.pat_base.specs.declared.lsn.Lsn.{Lsn}
@@ -9,6 +9,9 @@ use Rattle.store_keys.specs.declared.key.Key.{Key}
 use Rattle.store_keys.specs.declared.key.Key.TheVariants as keys
 use Rattle.store_keys.specs.declared.txn.Txn.{Txn}
 use Rattle.store_keys.specs.declared.txn.Txn.TheVariants as txns
+use Rattle.store_keys.specs.declared.txn.LeaseTxn.TheVariants as lease_txns
+use Rattle.store_keys.specs.declared.txn.OperatorTxn.TheVariants as operator_txns
+use Rattle.store_keys.specs.declared.txn.SyncTxn.TheVariants as sync_txns
 use Rattle.store_keys.specs.declared.value.HistoryRow.{HistoryRow}
 use Rattle.store_keys.specs.declared.value.Value.{Value}
 use Rattle.store_keys.specs.declared.value.Value.TheVariants as values
@@ -84,11 +87,11 @@ find_all_written revision now q es (write ∷ writes) =
 
 -- ---- the leader key
 abbrev pub leader_after : ℕ → ℕ → MemberId → Txn → Option KeyEntry → Option KeyEntry
-leader_after revision now by (txns.Create info ttl failsafe sync) found =
+leader_after revision now by (txns.Lease (lease_txns.Create info ttl failsafe sync)) found =
     Some (record { value = values.Leader by; revision = revision; expiry = Some (record { 0 = now + ttl.0 }) })
-leader_after revision now by (txns.Renew compared info ttl status row failsafe) found =
+leader_after revision now by (txns.Lease (lease_txns.Renew compared info ttl status row failsafe)) found =
     renewed revision (now + ttl.0) found
-leader_after revision now by (txns.Release compared) found = None
+leader_after revision now by (txns.Lease (lease_txns.Release compared)) found = None
 leader_after revision now by _ found = found
 
 set-other : (revision now : ℕ) (q key : Key) (value : Value) (found : Option KeyEntry) (more : List Write)
@@ -123,9 +126,11 @@ leader-carried revision now found (Some members) = refl
 
 leader-pairs_after : (revision now : ℕ) (by : MemberId) (txn : Txn) (found : Option KeyEntry)
     → found_after_all revision now keys.Leader found (writes_of by txn) ≡ leader_after revision now by txn found
-leader-pairs_after revision now by (txns.Renew compared info ttl status row failsafe) found =
+leader-pairs_after revision now by (txns.Lease (lease_txns.Renew compared info ttl status row failsafe)) found =
     carried revision now keys.Leader (renewed revision (now + ttl.0) found) status row failsafe refl (λ timeline. refl)
     ∙ leader-carried revision now (renewed revision (now + ttl.0) found) failsafe
+leader-pairs_after revision now by (txns.Sync (sync_txns.DropSync compared sync)) found = refl
+leader-pairs_after revision now by (txns.Operators (operator_txns.DropFailover compared)) found = refl
 leader-pairs_after revision now by _ found = refl
 
 -- what a granted transaction leaves at the leader key
@@ -143,7 +148,7 @@ failsafe_written revision (Some members) found =
     Some (record { value = values.Failsafe members; revision = revision; expiry = None })
 
 abbrev pub failsafe_after : ℕ → Txn → Option KeyEntry → Option KeyEntry
-failsafe_after revision (txns.Renew compared info ttl status row failsafe) found =
+failsafe_after revision (txns.Lease (lease_txns.Renew compared info ttl status row failsafe)) found =
     failsafe_written revision failsafe found
 failsafe_after revision _ found = found
 
@@ -155,9 +160,11 @@ failsafe-carried revision now found (Some members) = refl
 
 failsafe-pairs_after : (revision now : ℕ) (by : MemberId) (txn : Txn) (found : Option KeyEntry)
     → found_after_all revision now keys.Failsafe found (writes_of by txn) ≡ failsafe_after revision txn found
-failsafe-pairs_after revision now by (txns.Renew compared info ttl status row failsafe) found =
+failsafe-pairs_after revision now by (txns.Lease (lease_txns.Renew compared info ttl status row failsafe)) found =
     carried revision now keys.Failsafe found status row failsafe refl (λ timeline. refl)
     ∙ failsafe-carried revision now found failsafe
+failsafe-pairs_after revision now by (txns.Sync (sync_txns.DropSync compared sync)) found = refl
+failsafe-pairs_after revision now by (txns.Operators (operator_txns.DropFailover compared)) found = refl
 failsafe-pairs_after revision now by _ found = refl
 
 -- what a granted transaction leaves at the failsafe key
@@ -170,11 +177,11 @@ find_failsafe_after store now by txn =
 
 -- ---- the sync key
 abbrev pub sync_after : ℕ → MemberId → Txn → Option KeyEntry → Option KeyEntry
-sync_after revision by (txns.Claim compared sync) found =
-    Some (record { value = sync_value by nobody; revision = revision; expiry = None })
-sync_after revision by (txns.SetSync compared sync standbys) found =
-    Some (record { value = sync_value by standbys; revision = revision; expiry = None })
-sync_after revision by (txns.DropSync compared sync) found = None
+sync_after revision by (txns.Sync (sync_txns.Claim compared sync)) found =
+    Some (record { value = sync_value by nobody 0; revision = revision; expiry = None })
+sync_after revision by (txns.Sync (sync_txns.SetSync compared sync standbys quorum)) found =
+    Some (record { value = sync_value by standbys (unwrap_or quorum 0); revision = revision; expiry = None })
+sync_after revision by (txns.Sync (sync_txns.DropSync compared sync)) found = None
 sync_after revision by _ found = found
 
 sync-carried : (revision now : ℕ) (found : Option KeyEntry) (failsafe : Option MemberSet)
@@ -184,9 +191,11 @@ sync-carried revision now found (Some members) = refl
 
 sync-pairs_after : (revision now : ℕ) (by : MemberId) (txn : Txn) (found : Option KeyEntry)
     → found_after_all revision now keys.Sync found (writes_of by txn) ≡ sync_after revision by txn found
-sync-pairs_after revision now by (txns.Renew compared info ttl status row failsafe) found =
+sync-pairs_after revision now by (txns.Lease (lease_txns.Renew compared info ttl status row failsafe)) found =
     carried revision now keys.Sync found status row failsafe refl (λ timeline. refl)
     ∙ sync-carried revision now found failsafe
+sync-pairs_after revision now by (txns.Sync (sync_txns.DropSync compared sync)) found = refl
+sync-pairs_after revision now by (txns.Operators (operator_txns.DropFailover compared)) found = refl
 sync-pairs_after revision now by _ found = refl
 
 -- what a granted transaction leaves at the sync key

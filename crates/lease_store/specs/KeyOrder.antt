@@ -3,7 +3,7 @@ use Rattle.std.specs.Prelude.{ℕ}
 use Rattle.std.specs.declared.cmp.Ordering.{Ordering}
 use Rattle.std.specs.Ordering.{nat_cmp, ordering_then}
 use Rattle.store_keys.specs.declared.key.Key.{Key}
-use Rattle.store_keys.specs.declared.key.Key.TheVariants.{Leader, Config, Member, Failover, Sync, Status, History, Failsafe}
+use Rattle.store_keys.specs.declared.key.Key.TheVariants.{Leader, Config, Member, Failover, Sync, Status, History, Failsafe, Scheduled}
 
 -- the place of a kind among all kinds
 abbrev pub key_rank_of : Key → ℕ
@@ -15,6 +15,7 @@ key_rank_of Sync = 4
 key_rank_of Status = 5
 key_rank_of (History timeline) = 6
 key_rank_of Failsafe = 7
+key_rank_of Scheduled = 8
 
 -- which key of its kind
 abbrev pub key_number_of : Key → ℕ

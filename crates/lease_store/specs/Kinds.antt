@@ -15,4 +15,5 @@ IsOfKind keys.Sync (values.Sync sync) = Unit {0}
 IsOfKind keys.Status (values.Status end) = Unit {0}
 IsOfKind (keys.History timeline) (values.History row) = row.timeline ≡ timeline
 IsOfKind keys.Failsafe (values.Failsafe members) = Unit {0}
+IsOfKind keys.Scheduled (values.Scheduled planned) = Unit {0}
 IsOfKind _ _ = ⊥

@@ -3,14 +3,14 @@ ghost use Rattle.std.specs.Prelude.{◌≡◌, ◌++◌, ◌∷◌, [], option_c
 ghost use Rattle.std.specs.FinMap.{find};
 ghost use Rattle.lease_store.specs.KeyOrder.{key_cmp};
 ghost use Rattle.lease_store.specs.Keys.{is_present, key_in};
-ghost use Rattle.lease_store.specs.Decision.{found_in, compare_if, decision_by, compares_of};
+ghost use Rattle.lease_store.specs.Decision.{found_in, compare_if, decision_by, compares_of, lease_compares, operator_compares, sync_compares};
 ghost use Rattle.lease_store.specs.Answers.{check_result_of};
 
 use crate::StoreRefusal;
 use crate::order::compare;
 use pat_base::{Shared, Ticks};
 use std::cmp::Ordering;
-use store_keys::{Expected, Key, KeyEntry, Txn};
+use store_keys::{Expected, Key, KeyEntry, LeaseTxn, OperatorTxn, SyncTxn, Txn};
 
 /// Whether a key of this expiry is present.
 pub fn is_present(now: Ticks, expiry: Option<Ticks>) -> bool
@@ -87,6 +87,20 @@ fn compare_sync(
     compare_key(entries, now, Key::Sync, sync)
 }
 
+/// Refuses a leader key and then a schedule that aren't of these revisions, and then a failover key that is present.
+fn compare_schedule(
+    entries: &[(Key, Shared<KeyEntry>)],
+    now: Ticks,
+    revision: u64,
+    scheduled: u64,
+) -> Result<(), StoreRefusal>
+    ensures { result ≡ check_result_of (decision_by entries.now now.0 ((Key.Leader, Expected.Revision revision) ∷ (Key.Scheduled, Expected.Revision scheduled) ∷ (Key.Failover, Expected.Absent) ∷ [])) }
+{
+    compare_key(entries, now, Key::Leader, Expected::Revision(revision))?;
+    compare_key(entries, now, Key::Scheduled, Expected::Revision(scheduled))?;
+    compare_key(entries, now, Key::Failover, Expected::Absent)
+}
+
 /// Refuses a key that isn't as it was read, where it was.
 fn compare_read(
     entries: &[(Key, Shared<KeyEntry>)],
@@ -122,18 +136,69 @@ pub fn check(entries: &[(Key, Shared<KeyEntry>)], now: Ticks, txn: &Txn) -> Resu
 {
     match txn {
         Txn::Touch { .. } => Ok(()),
-        Txn::Create { failsafe, sync, .. } => compare_absent(entries, now, *failsafe, *sync),
-        Txn::Renew { revision, .. } | Txn::Release { revision } | Txn::DropFailover { revision } =>
-            { compare_key(entries, now, Key::Leader, Expected::Revision(*revision)) }
-        Txn::Claim { revision, sync } | Txn::SetSync { revision, sync, .. } => {
+        Txn::Lease(txn) => check_lease(entries, now, txn),
+        Txn::Sync(txn) => check_sync(entries, now, txn),
+        Txn::Operators(txn) => check_operator(entries, now, txn),
+    }
+}
+
+fn check_lease(
+    entries: &[(Key, Shared<KeyEntry>)],
+    now: Ticks,
+    txn: &LeaseTxn,
+) -> Result<(), StoreRefusal>
+    ensures { result ≡ check_result_of (decision_by entries.now now.0 (lease_compares txn.now)) }
+{
+    match txn {
+        LeaseTxn::Create { failsafe, sync, .. } => compare_absent(entries, now, *failsafe, *sync),
+        LeaseTxn::Renew { revision, .. } | LeaseTxn::Release { revision } => {
+            compare_key(entries, now, Key::Leader, Expected::Revision(*revision))
+        }
+    }
+}
+
+fn check_sync(
+    entries: &[(Key, Shared<KeyEntry>)],
+    now: Ticks,
+    txn: &SyncTxn,
+) -> Result<(), StoreRefusal>
+    ensures { result ≡ check_result_of (decision_by entries.now now.0 (sync_compares txn.now)) }
+{
+    match txn {
+        SyncTxn::Claim { revision, sync } | SyncTxn::SetSync { revision, sync, .. } => {
             compare_sync(entries, now, *revision, *sync)
         }
-        Txn::DropSync { revision, sync } => {
+        SyncTxn::DropSync { revision, sync } => {
             compare_sync(entries, now, *revision, Expected::Revision(*sync))
         }
-        Txn::SetFailover { .. } => compare_key(entries, now, Key::Failover, Expected::Absent),
-        Txn::SetConfig { revision, .. } => {
+    }
+}
+
+fn check_operator(
+    entries: &[(Key, Shared<KeyEntry>)],
+    now: Ticks,
+    txn: &OperatorTxn,
+) -> Result<(), StoreRefusal>
+    ensures { result ≡ check_result_of (decision_by entries.now now.0 (operator_compares txn.now)) }
+{
+    match txn {
+        OperatorTxn::SetFailover { .. } => {
+            compare_key(entries, now, Key::Failover, Expected::Absent)
+        }
+        OperatorTxn::DropFailover { revision } => {
+            compare_key(entries, now, Key::Leader, Expected::Revision(*revision))
+        }
+        OperatorTxn::SetConfig { revision, .. } => {
             compare_key(entries, now, Key::Config, Expected::Revision(*revision))
         }
+        OperatorTxn::Schedule { .. } => compare_key(entries, now, Key::Scheduled, Expected::Absent),
+        OperatorTxn::Unschedule { scheduled } => {
+            compare_key(entries, now, Key::Scheduled, Expected::Revision(*scheduled))
+        }
+        OperatorTxn::Fire {
+            revision,
+            scheduled,
+            ..
+        } => compare_schedule(entries, now, *revision, *scheduled),
     }
 }

@@ -18,7 +18,7 @@ mod writes;
 pub use compares::key_entry_at;
 pub use copies::Copies;
 pub use granted::Granted;
-pub use laws::{fencing, stores_are_kept};
+pub use laws::{a_schedule_fires_once, fencing, stores_are_kept, what_is_gone_stays_gone};
 pub use refusal::StoreRefusal;
 pub use sorting::in_key_order;
 pub use store::Store;

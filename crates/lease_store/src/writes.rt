@@ -1,10 +1,10 @@
 //! What granted transactions write.
-ghost use Rattle.std.specs.Prelude.{◌≡◌, ◌≤◌, ◌<◌, ◌+◌, ◌++◌, ◌∷◌, [], ◌^◌, Some, None, IsTrue, IfOk, OnOk, OnErr};
+ghost use Rattle.std.specs.Prelude.{◌≡◌, ◌≤◌, ◌<◌, ◌+◌, ◌++◌, ◌∷◌, List, [], ◌^◌, Some, None, IsTrue, IfOk, OnOk, OnErr};
 ghost use Rattle.std.specs.FinMap.{find};
 ghost use Rattle.lease_store.specs.Expiries.{AreExpiriesOf};
 ghost use Rattle.lease_store.specs.Kept.{IsKept};
 ghost use Rattle.lease_store.specs.KeyOrder.{key_cmp};
-ghost use Rattle.lease_store.specs.Writes.{Leases as LeasesKey, Extends, Sets, writes_of, pairs_over, puts_of, puts_of_all, deleted_key, extended_expiry, ttl_of, is_lease, status_writes, row_writes, failsafe_writes, sync_value};
+ghost use Rattle.lease_store.specs.Writes.{Leases as LeasesKey, Extends, Sets, writes_of, pairs_over, puts_of, puts_of_all, deleted_key, without_if, extended_expiry, ttl_of, lease_ttl, operator_ttl, lease_writes, sync_writes, operator_writes, is_lease, status_writes, row_writes, failsafe_writes, sync_value};
 ghost use Rattle.pat_base.specs.Moments.{latest};
 
 use crate::compares::key_entry_at;
@@ -12,7 +12,10 @@ use crate::entries::{Entries, delete, put_all};
 use crate::expiries::Expiries;
 use pat_base::{Lsn, MemberId, MemberSet, Shared, Ticks};
 use std::alloc::AllocError;
-use store_keys::{ConfigValue, HistoryRow, Key, KeyEntry, MemberInfo, SyncKey, Txn, Value};
+use store_keys::{
+    ConfigValue, HistoryRow, Key, KeyEntry, LeaseTxn, MemberInfo, OperatorTxn, SyncKey, SyncTxn,
+    Txn, Value,
+};
 
 /// The most keys that one transaction writes.
 const MOST: usize = 5;
@@ -28,7 +31,10 @@ pub struct Stamp {
 pub fn is_lease(txn: &Txn) -> bool
     ensures { result ≡ is_lease txn.now }
 {
-    matches!(txn, Txn::Create { .. } | Txn::Renew { .. })
+    matches!(
+        txn,
+        Txn::Lease(LeaseTxn::Create { .. }) | Txn::Lease(LeaseTxn::Renew { .. })
+    )
 }
 
 /// The key that a transaction takes out, if it takes one out.
@@ -36,16 +42,20 @@ fn deleted_key(txn: &Txn) -> Option<Key>
     ensures { result ≡ deleted_key txn.now }
 {
     match txn {
-        Txn::Release { .. } => Some(Key::Leader),
-        Txn::DropSync { .. } => Some(Key::Sync),
-        Txn::DropFailover { .. } => Some(Key::Failover),
+        Txn::Lease(LeaseTxn::Release { .. }) => Some(Key::Leader),
+        Txn::Sync(SyncTxn::DropSync { .. }) => Some(Key::Sync),
+        Txn::Operators(OperatorTxn::DropFailover { .. }) => Some(Key::Failover),
+        Txn::Operators(OperatorTxn::Unschedule { .. } | OperatorTxn::Fire { .. }) => {
+            Some(Key::Scheduled)
+        }
         Txn::Touch { .. }
-        | Txn::Create { .. }
-        | Txn::Renew { .. }
-        | Txn::Claim { .. }
-        | Txn::SetSync { .. }
-        | Txn::SetFailover { .. }
-        | Txn::SetConfig { .. } => None,
+        | Txn::Lease(LeaseTxn::Create { .. })
+        | Txn::Lease(LeaseTxn::Renew { .. })
+        | Txn::Sync(SyncTxn::Claim { .. })
+        | Txn::Sync(SyncTxn::SetSync { .. })
+        | Txn::Operators(OperatorTxn::SetFailover { .. })
+        | Txn::Operators(OperatorTxn::SetConfig { .. })
+        | Txn::Operators(OperatorTxn::Schedule { .. }) => None,
     }
 }
 
@@ -67,16 +77,20 @@ pub fn grant(
     ensures expiries { AreExpiriesOf entries.new.items expiries.new.items }
     ensures err { OnErr result (entries.new.items ≡ entries.old.items) }
 {
-    match deleted_key(txn) {
-        Some(key) => {
-            delete(entries, expiries, key);
-            Ok(())
-        }
-        None => {
-            let puts = puts_of(entries, stamp, by, txn)?;
-            put_all(entries, expiries, puts)?;
-            Ok(())
-        }
+    let puts = puts_of(entries, stamp, by, txn)?;
+    put_all(entries, expiries, puts)?;
+    take_out(entries, expiries, deleted_key(txn));
+    Ok(())
+}
+
+/// Holds nothing at a key from now on, if there is one to take out.
+fn take_out(entries: &mut Entries, expiries: &mut Expiries, key: Option<Key>)
+    requires expiries { AreExpiriesOf entries.old.items expiries.old.items }
+    ensures entries { entries.new.items ≡ without_if key entries.old.items }
+    ensures expiries { AreExpiriesOf entries.new.items expiries.new.items }
+{
+    if let Some(key) = key {
+        delete(entries, expiries, key);
     }
 }
 
@@ -111,11 +125,30 @@ fn add_puts(
 {
     match txn {
         Txn::Touch { info, ttl } => tell(puts, stamp, by, *info, *ttl),
-        Txn::Create { info, ttl, .. } => {
+        Txn::Lease(txn) => add_lease_puts(puts, entries, stamp, by, txn),
+        Txn::Sync(txn) => add_sync_puts(puts, stamp, by, txn),
+        Txn::Operators(txn) => add_operator_puts(puts, stamp, txn),
+    }
+}
+
+fn add_lease_puts(
+    puts: &mut Vec<(Key, Shared<KeyEntry>)>,
+    entries: &Entries,
+    stamp: Stamp,
+    by: MemberId,
+    txn: &LeaseTxn,
+) -> Result<(), AllocError>
+    requires none { puts.old.items ≡ [] }
+    requires moment { stamp.at.0 ≤ latest }
+    requires span { lease_ttl txn.now ≤ 2 ^ 40 }
+    ensures { OnOk result (puts.new.items ≡ puts_of_all stamp.revision stamp.at.0 entries.now.items (lease_writes by txn.now)) }
+{
+    match txn {
+        LeaseTxn::Create { info, ttl, .. } => {
             lease(puts, stamp, Key::Leader, Value::Leader(by), *ttl)?;
             tell(puts, stamp, by, *info, *ttl)
         }
-        Txn::Renew {
+        LeaseTxn::Renew {
             info,
             ttl,
             status,
@@ -129,13 +162,49 @@ fn add_puts(
             set_row(puts, stamp, *row)?;
             set_failsafe(puts, stamp, *failsafe)
         }
-        Txn::Claim { .. } => set_sync(puts, stamp, by, MemberSet::empty()),
-        Txn::SetSync { standbys, .. } => set_sync(puts, stamp, by, *standbys),
-        Txn::SetFailover { failover, ttl } => {
+        LeaseTxn::Release { .. } => Ok(()),
+    }
+}
+
+fn add_sync_puts(
+    puts: &mut Vec<(Key, Shared<KeyEntry>)>,
+    stamp: Stamp,
+    by: MemberId,
+    txn: &SyncTxn,
+) -> Result<(), AllocError>
+    requires none { puts.old.items ≡ [] }
+    ensures { OnOk result ((pairs : List (Key × KeyEntry)) → puts.new.items ≡ puts_of_all stamp.revision stamp.at.0 pairs (sync_writes by txn.now)) }
+{
+    match txn {
+        SyncTxn::Claim { .. } => set_sync(puts, stamp, by, MemberSet::empty(), 0),
+        SyncTxn::SetSync {
+            standbys,
+            quorum,
+            ..
+        } => set_sync(puts, stamp, by, *standbys, quorum.unwrap_or(0)),
+        SyncTxn::DropSync { .. } => Ok(()),
+    }
+}
+
+fn add_operator_puts(
+    puts: &mut Vec<(Key, Shared<KeyEntry>)>,
+    stamp: Stamp,
+    txn: &OperatorTxn,
+) -> Result<(), AllocError>
+    requires none { puts.old.items ≡ [] }
+    requires moment { stamp.at.0 ≤ latest }
+    requires span { operator_ttl txn.now ≤ 2 ^ 40 }
+    ensures { OnOk result ((pairs : List (Key × KeyEntry)) → puts.new.items ≡ puts_of_all stamp.revision stamp.at.0 pairs (operator_writes txn.now)) }
+{
+    match txn {
+        OperatorTxn::SetFailover { failover, ttl } | OperatorTxn::Fire { failover, ttl, .. } => {
             lease(puts, stamp, Key::Failover, Value::Failover(*failover), *ttl)
         }
-        Txn::SetConfig { config, .. } => set_config(puts, stamp, config),
-        Txn::Release { .. } | Txn::DropSync { .. } | Txn::DropFailover { .. } => Ok(()),
+        OperatorTxn::DropFailover { .. } | OperatorTxn::Unschedule { .. } => Ok(()),
+        OperatorTxn::SetConfig { config, .. } => set_config(puts, stamp, config),
+        OperatorTxn::Schedule { planned } => {
+            set(puts, stamp, Key::Scheduled, Value::Scheduled(*planned))
+        }
     }
 }
 
@@ -242,14 +311,19 @@ fn set_sync(
     stamp: Stamp,
     leader: MemberId,
     standbys: MemberSet,
+    quorum: u8,
 ) -> Result<(), AllocError>
-    ensures { OnOk result (puts.new.items ≡ puts.old.items ++ puts_of stamp.revision stamp.at.0 [] (Sets Key.Sync (sync_value leader standbys))) }
+    ensures { OnOk result (puts.new.items ≡ puts.old.items ++ puts_of stamp.revision stamp.at.0 [] (Sets Key.Sync (sync_value leader standbys quorum))) }
 {
     set(
         puts,
         stamp,
         Key::Sync,
-        Value::Sync(SyncKey { leader, standbys }),
+        Value::Sync(SyncKey {
+            leader,
+            standbys,
+            quorum,
+        }),
     )
 }
 

@@ -35,6 +35,7 @@ under-its-timeline keys.Failover (values.History found) row kind is = absurd kin
 under-its-timeline keys.Sync (values.History found) row kind is = absurd kind
 under-its-timeline keys.Status (values.History found) row kind is = absurd kind
 under-its-timeline keys.Failsafe (values.History found) row kind is = absurd kind
+under-its-timeline keys.Scheduled (values.History found) row kind is = absurd kind
 under-its-timeline key (values.Leader member) row kind is = absurd (none-some row is)
 under-its-timeline key (values.Config config) row kind is = absurd (none-some row is)
 under-its-timeline key (values.Member info) row kind is = absurd (none-some row is)
@@ -42,6 +43,7 @@ under-its-timeline key (values.Failover failover) row kind is = absurd (none-som
 under-its-timeline key (values.Sync sync) row kind is = absurd (none-some row is)
 under-its-timeline key (values.Status end) row kind is = absurd (none-some row is)
 under-its-timeline key (values.Failsafe members) row kind is = absurd (none-some row is)
+under-its-timeline key (values.Scheduled planned) row kind is = absurd (none-some row is)
 
 -- the timelines that are found rise behind this one
 abbrev Behind : ℕ → List HistoryRow → Type 0

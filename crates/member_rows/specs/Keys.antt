@@ -1,8 +1,6 @@
 -- What the keys of a cluster tell beside its members.
-use Rattle.std.specs.Prelude.{ℕ, ◌==◌, ◌-◌, Bool, false, Option, Some, None}
+use Rattle.std.specs.Prelude.{ℕ, ◌-◌, Option, Some, None}
 use Rattle.pat_base.specs.declared.lsn.Lsn.{Lsn}
-use Rattle.pat_base.specs.declared.member_id.MemberId.{MemberId}
-use Rattle.cluster_view.specs.declared.snapshot.LeaderEntry.{LeaderEntry}
 use Rattle.cluster_view.specs.KeyValues.{status_in, sync_in}
 use Rattle.cluster_view.specs.Snapshots.{SnapshotFacts, leader_in}
 use Rattle.member_rows.specs.declared.keys.ClusterKeys.{ClusterKeys}
@@ -10,11 +8,6 @@ use Rattle.member_rows.specs.declared.keys.ClusterKeys.{ClusterKeys}
 -- who leads, who replicates synchronously, and where the leader's log ends
 abbrev pub keys_in : SnapshotFacts → ClusterKeys
 keys_in snapshot = record { leader = leader_in snapshot; sync = sync_in snapshot; status = status_in snapshot }
-
--- the leader key names the member
-abbrev pub leads : MemberId → Option LeaderEntry → Bool
-leads member None = false
-leads member (Some leader) = leader.holder.number == member.number
 
 -- how many bytes a member's log ends behind where the leader's does, as that one told last: 0 where it ends
 -- further on, or the leader told nothing yet. Nothing where the member's own end isn't known, and only there

@@ -1,9 +1,9 @@
 //! What the keys of a cluster tell beside its members: who leads, who replicates synchronously, and where the leader's log ends.
 ghost use Rattle.std.specs.Prelude.{◌≡◌};
-ghost use Rattle.member_rows.specs.Keys.{keys_in, leads, lag_bytes};
+ghost use Rattle.member_rows.specs.Keys.{keys_in, lag_bytes};
 
 use cluster_view::{LeaderEntry, Snapshot};
-use pat_base::{Lsn, MemberId};
+use pat_base::Lsn;
 use store_keys::SyncKey;
 
 /// What a list of members reads of a snapshot beside the members.
@@ -25,16 +25,6 @@ pub fn keys_in(snapshot: &Snapshot) -> ClusterKeys
         leader: snapshot.leader(),
         sync: snapshot.sync(),
         status: snapshot.status(),
-    }
-}
-
-/// Whether the leader key names the member.
-pub fn leads(member: MemberId, leader: Option<LeaderEntry>) -> bool
-    ensures { result ≡ leads member leader }
-{
-    match leader {
-        None => false,
-        Some(leader) => leader.holder.number == member.number,
     }
 }
 

@@ -9,7 +9,7 @@ mod rows;
 mod standbys;
 
 pub use endings::{END_REASON, endings_of};
-pub use keys::{ClusterKeys, keys_in, lag_bytes, leads};
+pub use keys::{ClusterKeys, keys_in, lag_bytes};
 pub use laws::{each_member_has_one_row, rows_stand_by_name, timelines_rise};
 pub use rows::{Row, declared_in, rows_of};
 pub use standbys::names_standby;

@@ -20,7 +20,7 @@ use Rattle.cluster_view.specs.declared.snapshot.LeaderEntry.{LeaderEntry}
 use Rattle.cluster_view.specs.declared.view.AgentView.{AgentView}
 use Rattle.cluster_config.specs.ConfigReading.{json_of}
 use Rattle.cluster_view.specs.KeyValues.{config_in, failover_in, active_sync_in, info_in}
-use Rattle.cluster_view.specs.Naming.{is_standby}
+use Rattle.cluster_view.specs.Naming.{is_standby, leads}
 use Rattle.cluster_view.specs.Snapshots.{SnapshotFacts, leader_in}
 use Rattle.leader_race.specs.Eligibility.{may_fail_over}
 use Rattle.leader_race.proofs.Barring.{no, no-bar}
@@ -31,7 +31,7 @@ use Rattle.operator_keys.specs.declared.asked.Named.TheVariants as named
 use Rattle.pat_base.specs.MemberNames.{has_name, member_named}
 use Rattle.operator_keys.specs.Asking.{member_or_unknown, named_by, is_same_text, asked_by, is_nobody, member_if}
 use Rattle.operator_keys.specs.Bodies.{text_at}
-use Rattle.operator_keys.specs.Candidates.{leads, names_leader, info_of, anyone_may_take_over}
+use Rattle.operator_keys.specs.Candidates.{names_leader, info_of, anyone_may_take_over}
 use Rattle.operator_keys.specs.Checks.{switchover_key, failover_key, switchover_of, failover_of}
 use Rattle.operator_keys.specs.Laws.{MayFollow, IsCalled}
 use Rattle.operator_answers.specs.Statuses.{bad_request, precondition_failed}

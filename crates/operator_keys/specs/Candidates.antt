@@ -1,5 +1,5 @@
 -- Who leads and who may take over, by a snapshot.
-use Rattle.std.specs.Prelude.{◌==◌, ◌&&◌, not, Bool, false, Option, Some, None}
+use Rattle.std.specs.Prelude.{◌&&◌, not, Bool, false, Option, Some, None}
 use Rattle.std.specs.List.{list_any}
 use Rattle.pat_base.specs.declared.member_id.MemberId.{MemberId}
 use Rattle.store_keys.specs.declared.key.Key.{Key}
@@ -9,14 +9,10 @@ use Rattle.store_keys.specs.declared.value.Value.{Value}
 use Rattle.cluster_view.specs.declared.snapshot.LeaderEntry.{LeaderEntry}
 use Rattle.cluster_view.specs.KeyValues.{info_by, info_in}
 use Rattle.cluster_view.specs.Snapshots.{SnapshotFacts, leader_in}
+use Rattle.cluster_view.specs.Naming.{leads}
 use Rattle.leader_race.specs.Eligibility.{may_fail_over}
 use Rattle.operator_keys.specs.declared.asked.Named.{Named}
 use Rattle.operator_keys.specs.declared.asked.Named.TheVariants as named
-
--- the member leads
-abbrev pub leads : MemberId → Option LeaderEntry → Bool
-leads member None = false
-leads member (Some leader) = leader.holder.number == member.number
 
 -- the one who is named leads
 abbrev pub names_leader : Named → Option LeaderEntry → Bool

@@ -11,8 +11,8 @@ use Rattle.store_keys.specs.declared.value.MemberInfo.{MemberInfo}
 use Rattle.cluster_config.specs.SettingTable.{IsWithin, ttl_range}
 use Rattle.cluster_view.specs.KeyValues.{config_in, info_in}
 use Rattle.cluster_view.specs.Snapshots.{SnapshotFacts, leader_in}
+use Rattle.cluster_view.specs.Naming.{leads}
 use Rattle.leader_race.specs.Eligibility.{may_fail_over}
-use Rattle.operator_keys.specs.Candidates.{leads}
 
 -- a member may follow whoever leads: it is another one, it has a member key, and by that key it may fail over
 pub record MayFollow (member : MemberId) (seen : SnapshotFacts) : Type 0 where

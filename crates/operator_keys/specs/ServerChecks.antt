@@ -4,8 +4,7 @@ use Rattle.pat_base.specs.declared.server_state.State.{State}
 use Rattle.pat_base.specs.declared.server_state.State.TheVariants as states
 use Rattle.pat_base.specs.ServerState.{live}
 use Rattle.cluster_view.specs.declared.view.AgentView.{AgentView}
-use Rattle.cluster_view.specs.declared.view.RoleWord.{RoleWord}
-use Rattle.cluster_view.specs.declared.view.RoleWord.TheVariants as roles
+use Rattle.cluster_view.specs.Roles.{has_key}
 use Rattle.operator_answers.specs.declared.answer_text.Text.TheVariants as texts
 use Rattle.operator_keys.specs.declared.refusal.Refused.{Refused}
 use Rattle.operator_keys.specs.Refusals.{refused_where}
@@ -16,15 +15,6 @@ abbrev pub is_running : State → Bool
 is_running states.Primary = true
 is_running states.Replica = true
 is_running _ = false
-
--- an agent in this role has the leader key
-abbrev pub has_key : RoleWord → Bool
-has_key roles.Follower = false
-has_key roles.Holder = true
-has_key roles.Ready = true
-has_key roles.Leader = true
-has_key roles.Ending = true
-has_key roles.Unleased = false
 
 -- what refuses a restart; nothing where the server runs
 abbrev pub restart_refusal : AgentView → Option Refused

@@ -1,23 +1,13 @@
 //! Who leads and who may take over, by a snapshot.
 ghost use Rattle.std.specs.Prelude.{◌≡◌};
 ghost use Rattle.leader_race.specs.Eligibility.{may_fail_over};
-ghost use Rattle.operator_keys.specs.Candidates.{leads, names_leader, info_of, may_take_over, may_take_over_by, anyone_may_take_over};
+ghost use Rattle.operator_keys.specs.Candidates.{names_leader, info_of, may_take_over, may_take_over_by, anyone_may_take_over};
 
 use crate::asked::Named;
-use cluster_view::{LeaderEntry, Snapshot, info_by};
+use cluster_view::{LeaderEntry, Snapshot, info_by, leads};
 use leader_race::may_fail_over;
 use pat_base::{MemberId, Tags};
 use store_keys::{Key, MemberInfo, Value};
-
-/// Whether the member leads.
-pub(crate) fn leads(member: MemberId, leader: Option<LeaderEntry>) -> bool
-    ensures { result ≡ leads member leader }
-{
-    match leader {
-        None => false,
-        Some(leader) => leader.holder.number == member.number,
-    }
-}
 
 /// Whether the one who is named leads.
 pub(crate) fn names_leader(who: Named, leader: Option<LeaderEntry>) -> bool

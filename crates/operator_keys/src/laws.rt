@@ -11,7 +11,7 @@ ghost use Rattle.cluster_view.specs.KeyValues.{config_in, failover_in, active_sy
 ghost use Rattle.cluster_view.specs.Naming.{is_standby};
 ghost use Rattle.cluster_view.specs.Snapshots.{SnapshotFacts, leader_in};
 ghost use Rattle.operator_keys.specs.Bodies.{text_at};
-ghost use Rattle.operator_keys.specs.Candidates.{leads, anyone_may_take_over};
+ghost use Rattle.operator_keys.specs.Candidates.{anyone_may_take_over};
 ghost use Rattle.operator_keys.specs.Checks.{switchover_of, failover_of};
 ghost use Rattle.operator_keys.specs.FailsafeChecks.{failsafe_of};
 ghost use Rattle.operator_keys.specs.Laws.{AsksForHold, MayFollow, IsCalled};

@@ -1,11 +1,11 @@
 //! The checks of restarts and reinitializations.
 ghost use Rattle.std.specs.Prelude.{◌≡◌};
 ghost use Rattle.std.specs.Result.{result_err};
-ghost use Rattle.operator_keys.specs.ServerChecks.{is_running, has_key, restart_refusal, reinit_refusal};
+ghost use Rattle.operator_keys.specs.ServerChecks.{is_running, restart_refusal, reinit_refusal};
 
 use crate::Refused;
 use crate::refusal::{judged, refused_where};
-use cluster_view::{AgentView, RoleWord};
+use cluster_view::AgentView;
 use operator_answers::{SERVICE_UNAVAILABLE, Text};
 use pat_base::State;
 
@@ -28,7 +28,7 @@ pub fn check_reinit(view: &AgentView<'_>) -> Result<(), Refused>
     ensures { result_err result ≡ reinit_refusal view.now }
 {
     judged(refused_where(
-        has_key(view.role) || view.state.live(),
+        view.role.has_key() || view.state.live(),
         SERVICE_UNAVAILABLE,
         Text::IsLeader,
     ))
@@ -39,14 +39,4 @@ fn is_running(state: State) -> bool
     ensures { result ≡ is_running state }
 {
     matches!(state, State::Primary | State::Replica)
-}
-
-/// Whether an agent in this role has the leader key.
-fn has_key(role: RoleWord) -> bool
-    ensures { result ≡ has_key role }
-{
-    match role {
-        RoleWord::Holder | RoleWord::Ready | RoleWord::Leader | RoleWord::Ending => true,
-        RoleWord::Follower | RoleWord::Unleased => false,
-    }
 }

@@ -1,9 +1,9 @@
 -- Members in and out of a set of 16 bits.
-use Rattle.std.proofs.Common.{◌≡◌, ◌≢◌, ℕ, ◌<◌, ◌≤◌, ◌*◌, ◌%◌, ◌^◌, min, arith, bit_and, w16, sym, ◌∙◌, ap, inl, inr, Option, Some, None, IfSome}
+use Rattle.std.proofs.Common.{◌≡◌, ◌≢◌, ℕ, ◌<◌, ◌≤◌, ◌*◌, ◌-◌, ◌%◌, ◌^◌, min, arith, bit_and, w16, sym, ◌∙◌, ap, inl, inr, Option, Some, None, IfSome}
 use Rattle.std.specs.Int.{bit_at, bit_not}
 use Rattle.std.proofs.lemmas.Bool.{cases_lt}
 use Rattle.std.proofs.lemmas.Nat.{and_le_l}
-use Rattle.std.proofs.lemmas.Nat.Bits.{bit_at_and, bit_at_clear_other, bit_at_above, same_from_bits}
+use Rattle.std.proofs.lemmas.Nat.Bits.{bit_at-lt, bit_at_and, bit_at_not, bit_at_clear_other, bit_at_above, same_from_bits}
 use Rattle.pat_base.specs.declared.member_id.MemberId.{MemberId}
 
 -- taking one member out leaves the others
@@ -15,6 +15,23 @@ clear_other n k small within i other =
       | inl lt ↦ bit_at_clear_other w16 n k within i lt other
       | inr ge ↦
           bit_at_above (bit_and n mask) 16 i (omega (arith, and_le_l n mask)) ge ∙ sym (bit_at_above n 16 i small ge)
+    ]
+
+-- the members of one set that aren't in the other
+min-not : (x y : ℕ) → x < 2 → y < 2 → min x (1 - y) ≡ x - y
+min-not x y one other = omega arith
+
+pub bit_at-difference : (n m : ℕ) → n < 2 ^ 16 → m < 2 ^ 16 → (k : ℕ)
+    → bit_at (bit_and n (bit_not w16 m)) k ≡ bit_at n k - bit_at m k
+bit_at-difference n m small other k =
+    elim (cases_lt k 16) [
+      | inl lt ↦
+          bit_at_and n (bit_not w16 m) k ∙ ap (λ t. min (bit_at n k) t) (bit_at_not w16 m k other lt)
+          ∙ min-not (bit_at n k) (bit_at m k) (bit_at-lt n k) (bit_at-lt m k)
+      | inr ge ↦
+          let both = bit_at_above (bit_and n (bit_not w16 m)) 16 k (omega (arith, and_le_l n (bit_not w16 m))) ge in
+          let one = bit_at_above n 16 k small ge in
+          omega (arith, both, one)
     ]
 
 -- a set without one of its members is less as a number

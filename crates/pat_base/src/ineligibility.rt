@@ -24,6 +24,8 @@ pub enum Ineligibility {
     OtherWrites(MemberId),
     /// This member's log is longer.
     Ahead(MemberId),
+    /// Fewer standbys can be compared than may lack an acknowledged commit, with quorum commit.
+    TooFewAnswers,
     /// This member's log ends at the same position, and its priority is higher.
     Priority(MemberId),
 }

@@ -1,5 +1,5 @@
 //! Sets of members.
-ghost use Rattle.std.specs.Prelude.{ℕ, ◌≡◌, ◌≢◌, ◌<◌, ◌≤◌, ◌==◌, ◌↔◌, min, max, IsTrue, IsSome, IfSome, count_ones};
+ghost use Rattle.std.specs.Prelude.{ℕ, ◌≡◌, ◌≢◌, ◌-◌, ◌<◌, ◌≤◌, ◌==◌, ◌↔◌, min, max, IsTrue, IsSome, IfSome, count_ones};
 ghost use Rattle.std.specs.Int.{bit_at};
 
 use crate::MemberId;
@@ -80,6 +80,15 @@ impl MemberSet {
     {
         MemberSet {
             bits: self.bits & other.bits,
+        }
+    }
+
+    /// The members of this set that aren't in the other.
+    pub fn difference(self, other: MemberSet) -> MemberSet
+        ensures { (k : ℕ) → bit_at result.bits k ≡ bit_at self.bits k - bit_at other.bits k }
+    {
+        MemberSet {
+            bits: self.bits & !other.bits,
         }
     }
 

@@ -56,4 +56,6 @@ pub enum Required {
     AnyOne,
     /// It waits for each of these replicas.
     All(MemberSet),
+    /// It waits for so many of these replicas, whichever they are: quorum commit.
+    AtLeast { number: u8, of: MemberSet },
 }

@@ -5,8 +5,8 @@ ghost use Rattle.patronictl.specs.Members.{cluster_title, lag_cell, lag_cell_of,
 
 use crate::lag::megabytes;
 use crate::role::role_word;
-use cluster_view::Snapshot;
-use member_rows::{ClusterKeys, Row, keys_in, lag_bytes, leads, names_standby, rows_of};
+use cluster_view::{Snapshot, leads};
+use member_rows::{ClusterKeys, Row, keys_in, lag_bytes, names_standby, rows_of};
 use pat_base::Name;
 use std::alloc::{AllocError, Global};
 use text_table::{Alignment, Cells, Table};

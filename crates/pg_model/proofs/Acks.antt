@@ -3,25 +3,16 @@ use Rattle.std.proofs.Common.{◌≡◌, ℕ, zero, suc, ◌+◌, ◌<◌, ◌==
 use Rattle.std.specs.Prelude.{Any}
 use Rattle.std.specs.List.{list_any}
 use Rattle.std.specs.Int.{bit_at}
-use Rattle.std.proofs.lemmas.Bool.{and_parts, and_from}
+use Rattle.std.proofs.lemmas.Bool.{and_parts, and_from, leb-true, le-leb}
 use Rattle.std.proofs.lemmas.Bool.Decides.{nat_tests}
 use Rattle.std.proofs.lemmas.List.Folds.{Any-from_list_any, list_any-from_Any}
 use Rattle.pat_base.specs.declared.lsn.Lsn.{Lsn}
 use Rattle.pat_base.specs.declared.member_set.MemberSet.{MemberSet}
 use Rattle.pat_base.specs.declared.server_state.Required.{Required}
 use Rattle.pat_base.specs.declared.server_state.Required.TheVariants as required
-use Rattle.pg_model.specs.Replication.{reaches, is_free, all_reach, is_met, Reaches, MeetsRequired}
-
-reaches-to : (end : Lsn) (c : Option Lsn) → reaches end c ≡ true → Reaches end c
-reaches-to end None h = absurd (clash h)
-  where
-    clash : false ≡ true → ⊥
-    clash h = cc
-reaches-to end (Some position) h = grind (arith, nat_tests)
-
-reaches-from : (end : Lsn) (c : Option Lsn) → Reaches end c → reaches end c ≡ true
-reaches-from end None h = absurd h
-reaches-from end (Some position) h = grind (arith, nat_tests)
+use Rattle.pg_model.specs.Replication.{reaches, is_free, all_reach, sure_count, is_met, Reaches, MeetsRequired}
+use Rattle.pg_model.proofs.Enough.{enough-to, enough-from}
+use Rattle.pg_model.proofs.Reaching.{reaches-to, reaches-from}
 
 any-to : (end : Lsn) (cs : List (Option Lsn)) → list_any (reaches end) cs ≡ true → Any (Reaches end) cs
 any-to end cs h =
@@ -77,6 +68,8 @@ is_met-to required.Nobody end cs h = tt
 is_met-to required.AnyOne end cs h = any-to end cs h
 is_met-to (required.All members) end cs h =
     λ k lt bit. all-to 0 members end cs h k lt (subst (λ (n : ℕ). bit_at members.bits n ≡ 1) (omega arith) bit)
+is_met-to (required.AtLeast number of) end cs h =
+    enough-to number of end cs (leb-true number (sure_count 0 of end cs) h)
 
 pub is_met-from : (list : Required) (end : Lsn) (cs : List (Option Lsn)) → MeetsRequired list end cs
     → IsTrue (is_met list end cs)
@@ -84,3 +77,5 @@ is_met-from required.Nobody end cs h = refl
 is_met-from required.AnyOne end cs h = any-from end cs h
 is_met-from (required.All members) end cs h =
     all-from 0 members end cs (λ k lt bit. h k lt (subst (λ (n : ℕ). bit_at members.bits n ≡ 1) (omega arith) bit))
+is_met-from (required.AtLeast number of) end cs h =
+    le-leb number (sure_count 0 of end cs) (enough-from number of end cs h)

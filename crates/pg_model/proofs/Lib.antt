@@ -1,4 +1,6 @@
 pub mod Acks
+pub mod Enough
 pub mod Lists
 pub mod News
+pub mod Reaching
 pub mod Rewinds

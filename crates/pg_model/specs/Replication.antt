@@ -1,5 +1,5 @@
 -- Commits, streaming and acknowledgement.
-use Rattle.std.specs.Prelude.{ℕ, ◌≡◌, ◌≤◌, ◌<◌, ◌+◌, ◌-◌, ◌++◌, ◌==◌, ◌&&◌, ◌||◌, nat_le, min, if◌then◌else◌, not, Bool, true, false, IsSomeAnd, Any, ⊤, List, [], ◌∷◌, length, drop, Option, Some, None, slice_set, slice_index_or}
+use Rattle.std.specs.Prelude.{ℕ, ◌≡◌, ◌≤◌, ◌<◌, ◌+◌, ◌-◌, ◌++◌, ◌==◌, ◌&&◌, ◌||◌, nat_le, min, if◌then◌else◌, not, Bool, true, false, IsSomeAnd, Any, ⊤, List, [], ◌∷◌, length, drop, Option, Some, None, slice_set, slice_index_or, count_ones}
 use Rattle.std.specs.List.{list_any}
 use Rattle.std.specs.Int.{bit_at}
 use Rattle.pat_base.specs.declared.lsn.Lsn.{Lsn}
@@ -114,11 +114,22 @@ all_reach number members end [] = true
 all_reach number members end (confirmed ∷ more) =
     is_free members number end confirmed && all_reach (number + 1) members end more
 
+-- a member of the set has confirmed the end of a commit
+abbrev pub is_sure : MemberSet → ℕ → Lsn → Option Lsn → Bool
+is_sure members number end confirmed = (bit_at members.bits number == 1) && reaches end confirmed
+
+-- how many members of the set, of those from this number on, have
+abbrev pub sure_count : ℕ → MemberSet → Lsn → List (Option Lsn) → ℕ
+sure_count number members end [] = 0
+sure_count number members end (confirmed ∷ more) =
+    (if is_sure members number end confirmed then 1 else 0) + sure_count (number + 1) members end more
+
 -- the end of a commit is confirmed by whom it waits for
 abbrev pub is_met : Required → Lsn → List (Option Lsn) → Bool
 is_met required.Nobody end confirmed = true
 is_met required.AnyOne end confirmed = list_any (reaches end) confirmed
 is_met (required.All members) end confirmed = all_reach 0 members end confirmed
+is_met (required.AtLeast number of) end confirmed = nat_le number (sure_count 0 of end confirmed)
 
 -- the oldest of these commits may be acknowledged
 abbrev pub first_is_met : Required → List (Option Lsn) → List Waiting → Bool
@@ -146,9 +157,18 @@ acknowledged s = if may_acknowledge s then record s { waiting = drop 1 s.waiting
 abbrev pub Reaches : Lsn → Option Lsn → Type 0
 Reaches end confirmed = IsSomeAnd confirmed (λ position. end.position ≤ position.position)
 
--- the end of a commit is confirmed by whom it waits for: by nobody, by any one member, or by each member of a set
+-- these members of a set are so many, and each has confirmed the end of a commit
+pub record EnoughReach (number : ℕ) (of : MemberSet) (end : Lsn) (confirmed : List (Option Lsn)) : Type 0 where
+  pub members : MemberSet
+  pub enough : number ≤ count_ones members.bits
+  pub within : (member : ℕ) → bit_at members.bits member ≡ 1 → bit_at of.bits member ≡ 1
+  pub each : (member : ℕ) → bit_at members.bits member ≡ 1 → Reaches end (slice_index_or confirmed member None)
+
+-- the end of a commit is confirmed by whom it waits for: by nobody, by any one
+-- member, by each member of a set, or by so many of one, whichever they are
 abbrev pub MeetsRequired : Required → Lsn → List (Option Lsn) → Type 0
 MeetsRequired required.Nobody end confirmed = ⊤
 MeetsRequired required.AnyOne end confirmed = Any (Reaches end) confirmed
 MeetsRequired (required.All members) end confirmed = (member : ℕ) → member < length confirmed
     → bit_at members.bits member ≡ 1 → Reaches end (slice_index_or confirmed member None)
+MeetsRequired (required.AtLeast number of) end confirmed = EnoughReach number of end confirmed

@@ -7,7 +7,7 @@ ghost use Rattle.pat_base.specs.Lsn.{lsn_at};
 ghost use Rattle.wal_model.specs.Log.{end_of, IsPrefixOf, received};
 ghost use Rattle.pg_model.specs.Facts.{fresh, entries_of, is_replica, is_creating, is_down, is_up, is_running, has_data};
 ghost use Rattle.pg_model.specs.Running.{reserved, promoted, started, starting, replica_started, primary_started, stopping, crashed, crashed_state, wiped, restarted, ticked, delayed};
-ghost use Rattle.pg_model.specs.Replication.{following, committed, stream_of, streamed, confirming, is_met, all_reach, next_acknowledged, acknowledged, may_acknowledge, reaches, is_free};
+ghost use Rattle.pg_model.specs.Replication.{following, committed, stream_of, streamed, confirming, is_met, all_reach, next_acknowledged, acknowledged, may_acknowledge, reaches, is_free, is_sure, sure_count};
 ghost use Rattle.pg_model.specs.declared.answers.CommitFault.TheVariants as commit_faults;
 ghost use Rattle.pg_model.specs.declared.answers.StreamFault.TheVariants as stream_faults;
 ghost use Rattle.pat_base.specs.declared.member_id.TheConstants.{MOST_MEMBERS};
@@ -633,6 +633,7 @@ fn is_met(required: Required, end: Lsn, confirmed: &[Option<Lsn>]) -> bool
         Required::Nobody => true,
         Required::AnyOne => any_reaches(end, confirmed),
         Required::All(members) => all_reach(members, end, confirmed),
+        Required::AtLeast { number, of } => number <= sure_count(of, end, confirmed),
     }
 }
 
@@ -659,6 +660,32 @@ fn all_reach(members: MemberSet, end: Lsn, confirmed: &[Option<Lsn>]) -> bool
         }
     }
     true
+}
+
+/// How many members of the set confirmed the end of a commit.
+fn sure_count(members: MemberSet, end: Lsn, confirmed: &[Option<Lsn>]) -> u8
+    requires { length confirmed.now ≡ MOST_MEMBERS }
+    ensures { result ≡ sure_count 0 members end confirmed.now }
+{
+    let mut sure = 0;
+    for number in 0..MOST_MEMBERS as u8 {
+        if is_sure(
+            members,
+            MemberId { number },
+            end,
+            confirmed[number as usize],
+        ) {
+            sure += 1;
+        }
+    }
+    sure
+}
+
+/// Whether a member of the set confirmed the end of a commit.
+fn is_sure(members: MemberSet, member: MemberId, end: Lsn, position: Option<Lsn>) -> bool
+    ensures { result ≡ is_sure members member.number end position }
+{
+    members.contains(member) && reaches(end, position)
 }
 
 /// Whether a member isn't waited for: it is not in the set, or confirmed the end of the commit.

@@ -14,7 +14,7 @@ use Rattle.store_keys.specs.declared.value.SyncKey.{SyncKey}
 use Rattle.store_keys.specs.declared.value.Value.{Value}
 use Rattle.store_keys.specs.declared.value.Value.TheVariants as values
 use Rattle.cluster_view.specs.KeyValues.{sync_by}
-use Rattle.cluster_view.specs.Snapshots.{SnapshotFacts}
+use Rattle.cluster_view.specs.Snapshots.{SnapshotFacts, found_by}
 use Rattle.event_book.specs.declared.event.AgentEvent.TheVariants as agents
 use Rattle.event_book.specs.declared.event.Event.{Event}
 use Rattle.event_book.specs.declared.event.EventKind.{EventKind}
@@ -34,7 +34,7 @@ use Rattle.agent_model.specs.declared.knowledge.SyncRead.{SyncRead}
 use Rattle.agent_model.specs.declared.machine.Machine.{Machine}
 use Rattle.agent_model.specs.declared.who.Who.{Who}
 use Rattle.agent_model.specs.Agents.{AgentFacts, Outcome, outcome_from}
-use Rattle.agent_model.specs.Synchronous.{sync_read_by, sync_read_in, sync_read_of_entry}
+use Rattle.agent_model.specs.Synchronous.{sync_read_by, sync_read_in, sync_read_at}
 use Rattle.agent_model.specs.Table.{step}
 use Rattle.agent_roles.proofs.Knowing.{step-onward}
 use Rattle.cluster_model.specs.Cluster.{agent_after, agent_facts_after, agent_facts_reached, agent_facts_reached_at, agent_facts_with, cluster_after, cluster_over}
@@ -59,7 +59,7 @@ KnowRead start book known =
     (m : ℕ) (agent : AgentFacts) → slice_get known m ≡ Some (Some agent) → KnowsRead start book m agent
 
 -- a sync key that was read stands in its entry
-entry-is : (found : Option KeyEntry) (read : SyncRead) → sync_read_of_entry found ≡ Some read
+entry-is : (found : Option KeyEntry) (read : SyncRead) → found_by sync_read_at found ≡ Some read
     → (stored : KeyEntry) × (found ≡ Some stored) × (stored.value ≡ values.Sync read.key)
     × (stored.revision ≡ read.revision)
 entry-is None read e = absurd (none-some read e)

@@ -24,6 +24,11 @@ use Rattle.agent_model.specs.declared.knowledge.SyncRead.{SyncRead}
 use Rattle.agent_model.specs.declared.why.Why.TheVariants.{HandOver, Lost}
 use Rattle.agent_model.specs.declared.output.Output.{Output}
 use Rattle.agent_model.specs.declared.output.Output.TheVariants as outputs
+use Rattle.agent_model.specs.declared.output.Feeding.TheVariants as feedings
+use Rattle.agent_model.specs.declared.output.Noting.TheVariants as notings
+use Rattle.agent_model.specs.declared.output.Outgoing.TheVariants as outgoing
+use Rattle.agent_model.specs.declared.output.ServerOrder.TheVariants as orders
+use Rattle.agent_model.specs.declared.output.Telling.TheVariants as tellings
 use Rattle.agent_model.specs.declared.output.Target.TheVariants as targets
 use Rattle.agent_model.specs.declared.who.Who.{Who}
 use Rattle.agent_model.specs.declared.why.Why.{Why}
@@ -61,10 +66,10 @@ IsInquiry _ = Unit {0}
 
 -- U holds where the member tells that the sync key doesn't name it, and F where its watchdog is armed or fed by a grant
 abbrev pub TellsOnly : Type 0 → Type 0 → Output → Type 0
-TellsOnly U F outputs.ClaimsOutsideSync = U
-TellsOnly U F (outputs.Armed until) = F
-TellsOnly U F (outputs.Fed until) = F
-TellsOnly U F (outputs.Send to sequence body) = IsInquiry body
+TellsOnly U F (outputs.Tell tellings.ClaimsOutsideSync) = U
+TellsOnly U F (outputs.Watchdog (feedings.Armed until)) = F
+TellsOnly U F (outputs.Watchdog (feedings.Fed until)) = F
+TellsOnly U F (outputs.Message (outgoing.Send to sequence body)) = IsInquiry body
 TellsOnly U F _ = Unit {0}
 
 module _ (U F : Type 0) where
@@ -80,14 +85,14 @@ module _ (U F : Type 0) where
   -- ---- lists of outputs
   fine-disarmed : (deadline : Option Ticks) (outs : List Output) → All Only outs → All Only (disarmed deadline outs)
   fine-disarmed None outs all = all
-  fine-disarmed (Some until) outs all = more outs outputs.Disarmed all tt
+  fine-disarmed (Some until) outs all = more outs (outputs.Watchdog feedings.Disarmed) all tt
 
   fine-ask : (who : Who) (sequence : ℕ) (member : Option MemberId) (outs : List Output) → All Only outs
       → All Only (asking_one who sequence member outs)
   fine-ask who sequence None outs all = all
   fine-ask who sequence (Some member) outs all = if-cases (All Only) (is_other who member)
-      (with_output (outputs.Send (targets.Member member) sequence bodies.Ask) outs) outs
-      (λ _. more outs (outputs.Send (targets.Member member) sequence bodies.Ask) all tt) (λ _. all)
+      (with_output (outputs.Message (outgoing.Send (targets.Member member) sequence bodies.Ask)) outs) outs
+      (λ _. more outs (outputs.Message (outgoing.Send (targets.Member member) sequence bodies.Ask)) all tt) (λ _. all)
 
   fine-asks : (who : Who) (sequence count : ℕ) (outs : List Output) → All Only outs
       → All Only (asking_first who sequence count outs)
@@ -105,7 +110,7 @@ module _ (U F : Type 0) where
       → All Only outs → All Only (fed_by_failsafe deadline members sequence since outs)
   fine-failsafe None members sequence since outs all = all
   fine-failsafe (Some until) members sequence since outs all =
-      more outs (outputs.FedByFailsafe until members sequence since) all tt
+      more outs (outputs.Watchdog (feedings.FedByFailsafe until members sequence since)) all tt
 
   -- ---- what comes before an input
   fine-ended : (why : Why) (held : ℕ) (o : Outcome) → Fine o → Fine (has_ended why held o)
@@ -126,19 +131,20 @@ module _ (U F : Type 0) where
 
   fine-replies : (o : Outcome) → Fine o → ReplyRows Fine o
   fine-replies o all =
-      record { kept = all; answers = λ request told. more o.outputs (outputs.Told request told) all tt }
+      record { kept = all; answers = λ request told. more o.outputs (outputs.Tell (tellings.Told request told)) all tt }
 
   fine-judged : (now : Ticks) (o : Outcome) → Fine o → Fine (judged now o)
   fine-judged now o all = judged-by Fine now o (more o.outputs _ all tt)
-      (λ bar. more (with_output (outputs.Note (agent_notes.DoesNotRace bar)) o.outputs) _
-      (more o.outputs (outputs.Note (agent_notes.DoesNotRace bar)) all tt) tt)
+      (λ bar. more (with_output (outputs.Note (notings.Agent (agent_notes.DoesNotRace bar))) o.outputs) _
+      (more o.outputs (outputs.Note (notings.Agent (agent_notes.DoesNotRace bar))) all tt) tt)
 
   fine-handover : (now : Ticks) (held : ℕ) (o : Outcome) → Fine o → HandoverRows Fine now held o
   fine-handover now held o all = record {
     kept = all;
     clears = λ compared. more o.outputs _ all tt;
-    hands = λ candidate. more (with_output (outputs.Note (agent_notes.HandsOver candidate)) o.outputs) outputs.ShutDown
-        (more o.outputs (outputs.Note (agent_notes.HandsOver candidate)) all tt) tt;
+    hands = λ candidate. more (with_output (outputs.Note (notings.Agent (agent_notes.HandsOver candidate))) o.outputs)
+        (outputs.Server orders.ShutDown)
+        (more o.outputs (outputs.Note (notings.Agent (agent_notes.HandsOver candidate))) all tt) tt;
   }
 
   -- ---- a read
@@ -146,19 +152,20 @@ module _ (U F : Type 0) where
   fine-follows now leader o all = let x : Outcome = led_by_another o in
       let row : Outcome = follow_row (may_start_behind o.knows) now leader o.machine.server.state x in
       let first : Fine row = follow-by Fine (may_start_behind o.knows) now leader o.machine.server.state x all
-      (more o.outputs (outputs.StartReplica (Some leader)) all tt) (more o.outputs (outputs.Follow leader) all tt)
-      (more o.outputs outputs.ShutDown all tt) in
+      (more o.outputs (outputs.Server (orders.StartReplica (Some leader))) all tt)
+      (more o.outputs (outputs.Server (orders.Follow leader)) all tt)
+      (more o.outputs (outputs.Server orders.ShutDown) all tt) in
       let told : Fine (touching row) = more row.outputs _ first tt in
       repaired-by Fine leader (repair_of o.knows.settings leader o.machine.server) (touching row) told
-      (λ r. more (touching row).outputs (outputs.Repair leader r) told tt)
+      (λ r. more (touching row).outputs (outputs.Server (orders.Repair leader r)) told tt)
 
   fine-free : (now : Ticks) (o : Outcome) → Fine o → Fine (finds_free now o)
   fine-free now o all = free-by Fine now (record o { role = Follower }) (record {
-    starts = more (with_output (outputs.StartReplica None) o.outputs) _
-        (more o.outputs (outputs.StartReplica None) all tt) tt;
+    starts = more (with_output (outputs.Server (orders.StartReplica None)) o.outputs) _
+        (more o.outputs (outputs.Server (orders.StartReplica None)) all tt) tt;
     touches = more o.outputs _ all tt;
-    bars = λ bar. more (with_output (outputs.Note (agent_notes.DoesNotRace bar)) o.outputs) _
-        (more o.outputs (outputs.Note (agent_notes.DoesNotRace bar)) all tt) tt;
+    bars = λ bar. more (with_output (outputs.Note (notings.Agent (agent_notes.DoesNotRace bar))) o.outputs) _
+        (more o.outputs (outputs.Note (notings.Agent (agent_notes.DoesNotRace bar))) all tt) tt;
     judges = fine-judged now (unheard (record o { role = Follower })) all;
     asks = fine-asks o.knows.who (o.knows.sequence + 1) MOST_MEMBERS o.outputs all;
   })
@@ -171,21 +178,22 @@ module _ (U F : Type 0) where
         kept = all;
         quiet = all;
         other = all;
-        leader = λ held _. more o.outputs (outputs.Stop LeaderKeyLost) all tt;
-        unleased = λ _. more o.outputs (outputs.Stop LeaderKeyLost) all tt;
+        leader = λ held _. more o.outputs (outputs.Server (orders.Stop LeaderKeyLost)) all tt;
+        unleased = λ _. more o.outputs (outputs.Server (orders.Stop LeaderKeyLost)) all tt;
         renews = λ _ leader _ _. more o.outputs _ all tt;
         touches = more o.outputs _ all tt;
         follows = λ leader _ _. fine-follows now leader.holder read all;
         free = λ _ _. fine-free now read all;
-        runs_on = λ _. more o.outputs (outputs.Note agent_notes.RunsWithoutKey) all tt;
-        asks_on = λ _. more (with_output (outputs.Note agent_notes.RunsWithoutKey) o.outputs) _
-            (more o.outputs (outputs.Note agent_notes.RunsWithoutKey) all tt) tt;
+        runs_on = λ _. more o.outputs (outputs.Note (notings.Agent agent_notes.RunsWithoutKey)) all tt;
+        asks_on = λ _. more (with_output (outputs.Note (notings.Agent agent_notes.RunsWithoutKey)) o.outputs) _
+            (more o.outputs (outputs.Note (notings.Agent agent_notes.RunsWithoutKey)) all tt) tt;
       })
 
   -- ---- refusals, and what other members ask and answer
   fine-postpones : (deadline : Option Ticks) (outs : List Output) → All Only outs
-      → All Only (with_output (outputs.Note agent_notes.PostponesPromotion) (disarmed deadline outs))
-  fine-postpones deadline outs all = more (disarmed deadline outs) (outputs.Note agent_notes.PostponesPromotion)
+      → All Only (with_output (outputs.Note (notings.Agent agent_notes.PostponesPromotion)) (disarmed deadline outs))
+  fine-postpones deadline outs all =
+      more (disarmed deadline outs) (outputs.Note (notings.Agent agent_notes.PostponesPromotion))
       (fine-disarmed deadline outs all) tt
 
   fine-refused : (now : Ticks) (sequence : ℕ) (o : Outcome) → Fine o → Fine (refused_any now sequence o)
@@ -193,11 +201,11 @@ module _ (U F : Type 0) where
       (refused-by Fine now sequence o (record {
         kept = all;
         quiet = all;
-        leader = λ held _. more o.outputs (outputs.Stop LeaderKeyLost) all tt;
-        unleased = λ _. more o.outputs (outputs.Stop LeaderKeyLost) all tt;
+        leader = λ held _. more o.outputs (outputs.Server (orders.Stop LeaderKeyLost)) all tt;
+        unleased = λ _. more o.outputs (outputs.Server (orders.Stop LeaderKeyLost)) all tt;
         follower = λ held _. all;
         ready = λ held _. fine-postpones o.machine.watchdog.deadline o.outputs all;
-        runs_on = λ _. more o.outputs (outputs.Note agent_notes.RunsWithoutKey) all tt;
+        runs_on = λ _. more o.outputs (outputs.Note (notings.Agent agent_notes.RunsWithoutKey)) all tt;
       }))
 
   fine-answered : (now : Ticks) (sequence : ℕ) (answer : PeerAnswer) (o : Outcome) → Fine o
@@ -218,26 +226,29 @@ module _ (U F : Type 0) where
         quiet = all;
         counts = λ _ _. all;
         counts_late = λ _ _ _. all;
-        stays = λ _ _ waited _ _ since _ _. more _ outputs.StaysByFailsafe
+        stays = λ _ _ waited _ _ since _ _. more _ (outputs.Note notings.StaysByFailsafe)
             (fine-failsafe (deadline_after now waited.ttl o.machine.watchdog)
             (counting from sent o).knows.failsafe.members waited.sequence since o.outputs all) tt;
-        fails = λ held _ _. more o.outputs (outputs.Stop FailsafeNotAcknowledged) all tt;
+        fails = λ held _ _. more o.outputs (outputs.Server (orders.Stop FailsafeNotAcknowledged)) all tt;
       })
 
   fine-stay-asked : (now : Ticks) (from : MemberId) (incarnation sequence : ℕ) (ttl : Ticks) (o : Outcome) → Fine o
       → Fine (failsafe_asked now from incarnation sequence ttl o)
   fine-stay-asked now from incarnation sequence ttl o all = failsafe-asked-by Fine now from incarnation sequence ttl o
-      (λ _. more _ (outputs.FailsafeAnswer from incarnation sequence true)
-      (more o.outputs (outputs.HoldTaken _ from sequence) all tt) tt)
-      (more o.outputs (outputs.FailsafeAnswer from incarnation sequence false) all tt)
+      (λ _. more _ (outputs.Message (outgoing.FailsafeAnswer from incarnation sequence true))
+      (more o.outputs (outputs.Tell (tellings.HoldTaken _ from sequence)) all tt) tt)
+      (more o.outputs (outputs.Message (outgoing.FailsafeAnswer from incarnation sequence false)) all tt)
 
   -- ---- a wake, and what an operator asks
   fine-request : (members : MemberSet) (sequence : ℕ) (ttl : Ticks) (member : Option MemberId) (outs : List Output)
       → All Only outs → All Only (requesting_one members sequence ttl member outs)
   fine-request members sequence ttl None outs all = all
   fine-request members sequence ttl (Some member) outs all = if-cases (All Only) (has members member.number)
-      (with_output (outputs.Send (targets.Member member) sequence (bodies.FailsafeRequest ttl)) outs) outs
-      (λ _. more outs (outputs.Send (targets.Member member) sequence (bodies.FailsafeRequest ttl)) all tt) (λ _. all)
+      (with_output (outputs.Message (outgoing.Send (targets.Member member) sequence (bodies.FailsafeRequest ttl))) outs)
+      outs
+      (λ _.
+      more outs (outputs.Message (outgoing.Send (targets.Member member) sequence (bodies.FailsafeRequest ttl))) all tt)
+      (λ _. all)
 
   fine-requests : (members : MemberSet) (sequence : ℕ) (ttl : Ticks) (count : ℕ) (outs : List Output) → All Only outs
       → All Only (requesting_first members sequence ttl count outs)
@@ -250,14 +261,14 @@ module _ (U F : Type 0) where
   fine-overdue now o all = overdue-by Fine now o (record {
     kept = all;
     quiet = all;
-    leader = λ held _. more o.outputs (outputs.Stop StoreOutOfReach) all tt;
+    leader = λ held _. more o.outputs (outputs.Server (orders.Stop StoreOutOfReach)) all tt;
     seeks = λ held _. fine-requests (others_known o.knows) (o.knows.sequence + 1)
         (lease_span o.knows.settings) MOST_MEMBERS o.outputs all;
-    alone = λ held _. more _ outputs.StaysByFailsafe
+    alone = λ held _. more _ (outputs.Note notings.StaysByFailsafe)
         (fine-failsafe (deadline_after now (lease_span o.knows.settings) o.machine.watchdog)
         (others_known o.knows) o.knows.sequence now o.outputs all) tt;
-    silent = λ held _. more o.outputs (outputs.Stop FailsafeNotAcknowledged) all tt;
-    unleased = λ _. more o.outputs (outputs.Stop StoreOutOfReach) all tt;
+    silent = λ held _. more o.outputs (outputs.Server (orders.Stop FailsafeNotAcknowledged)) all tt;
+    unleased = λ _. more o.outputs (outputs.Server (orders.Stop StoreOutOfReach)) all tt;
     judges = λ _. fine-judged now o all;
     ready = λ held _. fine-postpones o.machine.watchdog.deadline o.outputs all;
     checks = λ held _. fine-handover now held o all;
@@ -267,7 +278,8 @@ module _ (U F : Type 0) where
   fine-turned now o all = turn-by Fine now o (record {
     kept = all;
     quiet = all;
-    reads = λ _. more o.outputs (outputs.Send targets.Store (o.knows.sequence + 1) bodies.Read) all tt;
+    reads =
+        λ _. more o.outputs (outputs.Message (outgoing.Send targets.Store (o.knows.sequence + 1) bodies.Read)) all tt;
   })
 
   fine-woken : (now : Ticks) (o : Outcome) → Fine (reconciled now o) → Fine (woken now o)
@@ -280,13 +292,15 @@ module _ (U F : Type 0) where
       → Fine (operated now request asked o)
   fine-operated now request asked o all = operated-by Fine now request asked o (record {
     asks = λ operation txn is.
-        more o.outputs (outputs.Send targets.Store (o.knows.sequence + 1) (bodies.Request txn)) all tt;
-    restarts = λ told. more (restarting now o).outputs (outputs.Told request told)
-        (more o.outputs (outputs.Restart (is_primary o.machine.server.state)) all tt) tt;
-    wipes = λ told. more (wiping o).outputs (outputs.Told request told) (more o.outputs outputs.Wipe all tt) tt;
-    holds = λ ttl told _. more _ (outputs.Told request told)
-        (more o.outputs (outputs.HoldTaken (span_after now ttl) o.knows.who.me unnumbered) all tt) tt;
-    refuses = λ told. more o.outputs (outputs.Told request told) all tt;
+        more o.outputs
+        (outputs.Message (outgoing.Send targets.Store (o.knows.sequence + 1) (bodies.Request txn))) all tt;
+    restarts = λ told. more (restarting now o).outputs (outputs.Tell (tellings.Told request told))
+        (more o.outputs (outputs.Server (orders.Restart (is_primary o.machine.server.state))) all tt) tt;
+    wipes = λ told. more (wiping o).outputs (outputs.Tell (tellings.Told request told))
+        (more o.outputs (outputs.Server orders.Wipe) all tt) tt;
+    holds = λ ttl told _. more _ (outputs.Tell (tellings.Told request told))
+        (more o.outputs (outputs.Tell (tellings.HoldTaken (span_after now ttl) o.knows.who.me unnumbered)) all tt) tt;
+    refuses = λ told. more o.outputs (outputs.Tell (tellings.Told request told)) all tt;
   })
 
 -- ---- a grant
@@ -327,38 +341,42 @@ module _ (U F : Type 0) (now : Ticks) (sequence : ℕ) (grant : Granted) (snapsh
       kept = goes _ row.outs row.turn row.who;
       clears = λ compared. goes _ (onto led _ row tt) row.turn row.who;
       hands = λ candidate. goes _
-          (more U F (with_output (outputs.Note (agent_notes.HandsOver candidate)) led.outputs) outputs.ShutDown
-          (onto led (outputs.Note (agent_notes.HandsOver candidate)) row tt) tt)
+          (more U F (with_output (outputs.Note (notings.Agent (agent_notes.HandsOver candidate))) led.outputs)
+          (outputs.Server orders.ShutDown)
+          (onto led (outputs.Note (notings.Agent (agent_notes.HandsOver candidate))) row tt) tt)
           row.turn row.who;
     };
   }
 
   fed-outs : (deadline : Option Ticks) → F → All (TellsOnly U F) (fed_until deadline b.outputs)
   fed-outs None is = all
-  fed-outs (Some until) is = more U F b.outputs (outputs.Fed until) all is
+  fed-outs (Some until) is = more U F b.outputs (outputs.Watchdog (feedings.Fed until)) all is
 
   armed-outs : (deadline : Option Ticks) → F → All (TellsOnly U F) (armed deadline b.outputs)
   armed-outs None is = all
-  armed-outs (Some until) is = more U F b.outputs (outputs.Armed until) all is
+  armed-outs (Some until) is = more U F b.outputs (outputs.Watchdog (feedings.Armed until)) all is
 
   disabled-outs : (renews : Bool) (deadline : Option Ticks)
       → All (TellsOnly U F) (disabling_told renews deadline b.outputs)
   disabled-outs renews None = all
   disabled-outs true (Some until) =
-      more U F (with_output outputs.Disarmed b.outputs) (outputs.Note agent_notes.DisablesWatchdog)
-      (more U F b.outputs outputs.Disarmed all tt) tt
-  disabled-outs false (Some until) = more U F b.outputs outputs.Disarmed all tt
+      more U F (with_output (outputs.Watchdog feedings.Disarmed) b.outputs)
+      (outputs.Note (notings.Agent agent_notes.DisablesWatchdog))
+      (more U F b.outputs (outputs.Watchdog feedings.Disarmed) all tt) tt
+  disabled-outs false (Some until) = more U F b.outputs (outputs.Watchdog feedings.Disarmed) all tt
 
   module _ (passes : is_named_if b.knows.who.me b.knows.turn_sync ≡ false → U) (feeds : F) where
     passed : (named : Bool) → (named ≡ false → U) → (outs : List Output) → All (TellsOnly U F) outs
         → All (TellsOnly U F) (told_passing named outs)
     passed true is outs told = told
-    passed false is outs told = more U F outs outputs.ClaimsOutsideSync told (is refl)
+    passed false is outs told = more U F outs (outputs.Tell tellings.ClaimsOutsideSync) told (is refl)
 
     -- the member takes the leader key
     begins-row : (revision : ℕ) (x : Outcome) → Row x → Row (begins_or_claims now revision x)
     begins-row revision x row = begins-or-claims-by Row now revision x
-        (goes _ (more U F (with_output (outputs.Require (unnamed x.knows.turn_settings)) x.outputs) outputs.Begin
+        (goes _
+        (more U F (with_output (outputs.Require (unnamed x.knows.turn_settings)) x.outputs)
+        (outputs.Server orders.Begin)
         (onto x (outputs.Require (unnamed x.knows.turn_settings)) row tt) tt) row.turn row.who)
         (goes _ (more U F (passing x).outputs _
         (passed (is_named_if x.knows.who.me x.knows.turn_sync)
@@ -374,8 +392,8 @@ module _ (U F : Type 0) (now : Ticks) (sequence : ℕ) (grant : Granted) (snapsh
 
     cannot-row : (revision : ℕ) → Row (cannot_arm revision Told)
     cannot-row revision = goes (cannot_arm revision Told)
-        (more U F (with_output (outputs.Note agent_notes.CannotArm) b.outputs) _
-        (more U F b.outputs (outputs.Note agent_notes.CannotArm) all tt) tt) refl refl
+        (more U F (with_output (outputs.Note (notings.Agent agent_notes.CannotArm)) b.outputs) _
+        (more U F b.outputs (outputs.Note (notings.Agent agent_notes.CannotArm)) all tt) tt) refl refl
 
     armed-row : (ttl : Ticks) → Row (arming now ttl Told)
     armed-row ttl =
@@ -393,10 +411,11 @@ module _ (U F : Type 0) (now : Ticks) (sequence : ℕ) (grant : Granted) (snapsh
           let row : Row led =
           goes led (fed-outs (deadline_after now ttl b.machine.watchdog) feeds) refl refl in
           renewed-by Row now ttl grant.revision Told
-          (goes _ (onto led (outputs.Stop StartTooLong) row tt) refl refl) (duty-rows grant.revision led row);
+          (goes _ (onto led (outputs.Server (orders.Stop StartTooLong)) row tt) refl refl)
+          (duty-rows grant.revision led row);
       unleased = λ _. if-cases Row (is_refusing b.machine.watchdog.mode b.machine.watchdog.works)
           (unleased_unarmed now Told) (takes_over now grant.revision (arming now ttl Told))
-          (λ _. goes _ (onto Told (outputs.Stop WatchdogNotArmed) told-row tt) refl refl)
+          (λ _. goes _ (onto Told (outputs.Server (orders.Stop WatchdogNotArmed)) told-row tt) refl refl)
           (λ _. goes _ (armed-row ttl).outs refl refl);
       takes = λ _. if-cases Row (may_take now Told.knows b.machine) (arms now ttl grant.revision Told)
           (gives_back grant.revision Told)
@@ -407,8 +426,9 @@ module _ (U F : Type 0) (now : Ticks) (sequence : ℕ) (grant : Granted) (snapsh
       keeps_late = λ held _. let kept : Outcome = kept_on grant.revision Told in
           let row : Row kept = goes kept all refl refl in
           judges-start-by Row now grant.revision kept
-          (goes _ (onto kept (outputs.Stop StartTooLong) row tt) refl refl) (duty-rows grant.revision kept row);
-      ends_late = λ _. goes _ (onto Told (outputs.Stop WatchdogNotArmed) told-row tt) refl refl;
+          (goes _ (onto kept (outputs.Server (orders.Stop StartTooLong)) row tt) refl refl)
+          (duty-rows grant.revision kept row);
+      ends_late = λ _. goes _ (onto Told (outputs.Server (orders.Stop WatchdogNotArmed)) told-row tt) refl refl;
       refuses_late = λ _. cannot-row grant.revision;
       returns_late = λ _. back-row grant.revision Told told-row;
       leads_in_pause = λ renews _ held _. let led : Outcome = leading_in_pause renews grant.revision Told in
@@ -448,7 +468,8 @@ module _ (U : Type 0) (now : Ticks) (sequence : ℕ) (grant : Granted) (snapshot
       (record {
         other = does Seen all refl refl;
         begins = λ revision _. does (begins now revision Seen)
-            (more U Mine (with_output (outputs.Require (unnamed b.knows.turn_settings)) b.outputs) outputs.Begin
+            (more U Mine (with_output (outputs.Require (unnamed b.knows.turn_settings)) b.outputs)
+            (outputs.Server orders.Begin)
             (more U Mine b.outputs (outputs.Require (unnamed b.knows.turn_settings)) all tt) tt) refl refl;
         postpones = λ revision _. does (postpones revision Seen)
             (fine-postpones U Mine b.machine.watchdog.deadline b.outputs all) refl refl;
@@ -459,7 +480,8 @@ module _ (U : Type 0) (now : Ticks) (sequence : ℕ) (grant : Granted) (snapshot
   grant-does : Does (granted_any now sequence grant snapshot b)
   grant-does = granted-any-by Does now sequence grant snapshot b (does b all refl refl) (record {
     kept = does (learned snapshot b) all refl refl;
-    answers = λ request told. does _ (more U Mine b.outputs (outputs.Told request told) all tt) refl refl;
+    answers =
+        λ request told. does _ (more U Mine b.outputs (outputs.Tell (tellings.Told request told)) all tt) refl refl;
   }) own-does
 
 -- ---- a whole input
@@ -538,9 +560,10 @@ module _ (now : Ticks) (points : List HistoryPoint) (agent : AgentFacts) (machin
       }
     where
       weaker : (U V F G : Type 0) → (U → V) → (F → G) → (output : Output) → TellsOnly U F output → TellsOnly V G output
-      weaker U V F G first second outputs.ClaimsOutsideSync is = first is
-      weaker U V F G first second (outputs.Armed until) is = second is
-      weaker U V F G first second (outputs.Fed until) is = second is
+      weaker U V F G first second (outputs.Tell tellings.ClaimsOutsideSync) is = first is
+      weaker U V F G first second (outputs.Watchdog (feedings.Armed until)) is = second is
+      weaker U V F G first second (outputs.Watchdog (feedings.Fed until)) is = second is
+      weaker U V F G first second (outputs.Message (outgoing.Send to sequence body)) is = is
       weaker U V F G first second _ is = is
 
   -- what an input tells

@@ -6,11 +6,14 @@ use Rattle.pat_base.specs.LsnText.{lsn_text}
 use Rattle.pat_base.specs.Name.{name_bytes}
 use Rattle.pat_base.specs.declared.name.Name.{Name}
 use Rattle.pat_base.specs.declared.server_state.Required.{Required}
-use Rattle.pat_base.specs.declared.server_state.Required.TheVariants.{Nobody, AnyOne, All}
+use Rattle.pat_base.specs.declared.server_state.Required.TheVariants.{Nobody, AnyOne, All, AtLeast}
 use Rattle.script_words.specs.Numbers.{number}
 use Rattle.script_words.proofs.NumberLaws.{number-decimal}
 use Rattle.store_keys.specs.declared.txn.Txn.{Txn}
 use Rattle.store_keys.specs.declared.txn.Txn.TheVariants as txns
+use Rattle.store_keys.specs.declared.txn.LeaseTxn.TheVariants as lease_txns
+use Rattle.store_keys.specs.declared.txn.OperatorTxn.TheVariants as operator_txns
+use Rattle.store_keys.specs.declared.txn.SyncTxn.TheVariants as sync_txns
 use Rattle.event_book.specs.Listing.{listed}
 use Rattle.event_book.specs.NoteText.{answered_line, note_line}
 use Rattle.event_book.specs.Reasons.{agent_note_text, ineligibility_text, name_or_another, reason_text}
@@ -85,6 +88,16 @@ worded : (tick : ℕ) (name : Name) (words text : List ℕ) (happening : Happeni
 worded tick name words text happening fits e = line-of-name tick name (words ++ text)
     (words ++ (text ++ 10 ∷ [])) happening fits (sym (append_assoc words text (10 ∷ []))) e
 
+-- words, a text, and another behind it
+worded-on : (tick : ℕ) (name : Name) (words text behind : List ℕ) (happening : Happening) → tick < 2 ^ 64
+    → named_of (words ++ (text ++ behind)) ≡ Some happening
+    → IsReadAs (decimal tick ++ (32 ∷ (name_bytes name ++ (32 ∷ (words ++ (text ++ (behind ++ 10 ∷ [])))))))
+    (one_told tick name happening)
+worded-on tick name words text behind happening fits e = line-of-name tick name (words ++ (text ++ behind))
+    (words ++ (text ++ (behind ++ 10 ∷ []))) happening fits
+    (ap (λ t. words ++ t) (sym (append_assoc text behind (10 ∷ [])))
+    ∙ sym (append_assoc words (text ++ behind) (10 ∷ []))) e
+
 agent-read : (tick : ℕ) (event : AgentEvent) → tick < 2 ^ 64
     → IsReadAgain (agent_line tick event) (told_in_agent tick event)
 agent-read tick (agents.Suspended agent) fits =
@@ -148,22 +161,30 @@ watchdog-read trace tick (watchdogs.HoldTaken member until from incarnation sequ
 
 write-read : (tick : ℕ) (name : Name) (txn : Txn) (standbys : List Name) → tick < 2 ^ 64
     → IsReadAgain (granted_line tick (name_bytes name) txn standbys) (told_in_write tick name txn)
-write-read tick name (txns.Create info ttl failsafe sync) standbys fits =
+write-read tick name (txns.Lease (lease_txns.Create info ttl failsafe sync)) standbys fits =
     plain tick name (codes "takes the leader key") happenings.TakesKey fits (form-read happenings.TakesKey [] refl refl)
-write-read tick name (txns.Release revision) standbys fits = plain tick name
+write-read tick name (txns.Lease (lease_txns.Release revision)) standbys fits = plain tick name
     (codes "releases the leader key") happenings.ReleasesKey fits (form-read happenings.ReleasesKey [] refl refl)
-write-read tick name (txns.Claim revision sync) standbys fits = plain tick name
+write-read tick name (txns.Sync (sync_txns.Claim revision sync)) standbys fits = plain tick name
     (codes "claims the sync key") happenings.ClaimsSync fits (form-read happenings.ClaimsSync [] refl refl)
-write-read tick name (txns.SetSync revision sync members) standbys fits =
+write-read tick name (txns.Sync (sync_txns.SetSync revision sync members None)) standbys fits =
     worded tick name (codes "publishes sync standbys ") (listed (codes "none") standbys) happenings.PublishesSync fits
     (form-read happenings.PublishesSync (listed (codes "none") standbys) refl refl)
-write-read tick name (txns.DropSync revision sync) standbys fits = plain tick name
+write-read tick name (txns.Sync (sync_txns.SetSync revision sync members (Some may_lack))) standbys fits =
+    worded-on tick name (codes "publishes sync standbys ") (listed (codes "none") standbys)
+    (codes " quorum " ++ decimal may_lack) happenings.PublishesSync fits
+    (form-read happenings.PublishesSync (listed (codes "none") standbys ++ (codes " quorum " ++ decimal may_lack))
+    refl refl)
+write-read tick name (txns.Sync (sync_txns.DropSync revision sync)) standbys fits = plain tick name
     (codes "removes the sync key") happenings.RemovesSync fits (form-read happenings.RemovesSync [] refl refl)
-write-read tick name (txns.SetFailover failover ttl) standbys fits = plain tick name
+write-read tick name (txns.Operators (operator_txns.SetFailover failover ttl)) standbys fits = plain tick name
     (codes "writes the failover key") happenings.WritesFailover fits (form-read happenings.WritesFailover [] refl refl)
-write-read tick name (txns.DropFailover revision) standbys fits = plain tick name
+write-read tick name (txns.Operators (operator_txns.Fire revision scheduled failover ttl)) standbys fits =
+    plain tick name
+    (codes "writes the failover key") happenings.WritesFailover fits (form-read happenings.WritesFailover [] refl refl)
+write-read tick name (txns.Operators (operator_txns.DropFailover revision)) standbys fits = plain tick name
     (codes "clears the failover key") happenings.ClearsFailover fits (form-read happenings.ClearsFailover [] refl refl)
-write-read tick name (txns.SetConfig revision config) standbys fits =
+write-read tick name (txns.Operators (operator_txns.SetConfig revision config)) standbys fits =
     plain tick name (codes "changes the configuration") happenings.ChangesConfiguration fits
     (form-read happenings.ChangesConfiguration [] refl refl)
 write-read tick name _ standbys fits = tt
@@ -223,6 +244,10 @@ required-read tick name AnyOne names fits = worded tick name (codes "requires ")
 required-read tick name (All members) names fits =
     worded tick name (codes "requires ") (listed (codes "no standby") names) happenings.Requires fits
     (form-read happenings.Requires (listed (codes "no standby") names) refl refl)
+required-read tick name (AtLeast number of) names fits =
+    worded-on tick name (codes "requires ") (decimal number) (codes " of " ++ listed (codes "no standby") names)
+    happenings.Requires fits
+    (form-read happenings.Requires (decimal number ++ (codes " of " ++ listed (codes "no standby") names)) refl refl)
 
 -- a line of the key store that begins with no name
 expires-line : (tick : ℕ) (holder : Name) → tick < 2 ^ 64

@@ -3,6 +3,9 @@ use Rattle.std.specs.Prelude.{ℕ, ◌≡◌, ◌<◌, ◌^◌, List, [], ◌∷
 use Rattle.pat_base.specs.declared.name.Name.{Name}
 use Rattle.store_keys.specs.declared.txn.Txn.{Txn}
 use Rattle.store_keys.specs.declared.txn.Txn.TheVariants as txns
+use Rattle.store_keys.specs.declared.txn.LeaseTxn.TheVariants as lease_txns
+use Rattle.store_keys.specs.declared.txn.OperatorTxn.TheVariants as operator_txns
+use Rattle.store_keys.specs.declared.txn.SyncTxn.TheVariants as sync_txns
 use Rattle.event_book.specs.declared.agent_note.AgentNote.{AgentNote}
 use Rattle.event_book.specs.declared.agent_note.AgentNote.TheVariants as agent_notes
 use Rattle.event_book.specs.declared.event.AgentEvent.{AgentEvent}
@@ -33,14 +36,20 @@ of_one tick name happening = Some (record { tick = tick; of = Some name; happeni
 
 -- what is told of a granted write
 abbrev pub told_in_write : ℕ → Name → Txn → Option Told
-told_in_write tick name (txns.Create info ttl failsafe sync) = of_one tick name happenings.TakesKey
-told_in_write tick name (txns.Release revision) = of_one tick name happenings.ReleasesKey
-told_in_write tick name (txns.Claim revision sync) = of_one tick name happenings.ClaimsSync
-told_in_write tick name (txns.SetSync revision sync members) = of_one tick name happenings.PublishesSync
-told_in_write tick name (txns.DropSync revision sync) = of_one tick name happenings.RemovesSync
-told_in_write tick name (txns.SetFailover failover ttl) = of_one tick name happenings.WritesFailover
-told_in_write tick name (txns.DropFailover revision) = of_one tick name happenings.ClearsFailover
-told_in_write tick name (txns.SetConfig revision config) = of_one tick name happenings.ChangesConfiguration
+told_in_write tick name (txns.Lease (lease_txns.Create info ttl failsafe sync)) = of_one tick name happenings.TakesKey
+told_in_write tick name (txns.Lease (lease_txns.Release revision)) = of_one tick name happenings.ReleasesKey
+told_in_write tick name (txns.Sync (sync_txns.Claim revision sync)) = of_one tick name happenings.ClaimsSync
+told_in_write tick name (txns.Sync (sync_txns.SetSync revision sync members may_lack)) =
+    of_one tick name happenings.PublishesSync
+told_in_write tick name (txns.Sync (sync_txns.DropSync revision sync)) = of_one tick name happenings.RemovesSync
+told_in_write tick name (txns.Operators (operator_txns.SetFailover failover ttl)) =
+    of_one tick name happenings.WritesFailover
+told_in_write tick name (txns.Operators (operator_txns.Fire revision scheduled failover ttl)) =
+    of_one tick name happenings.WritesFailover
+told_in_write tick name (txns.Operators (operator_txns.DropFailover revision)) =
+    of_one tick name happenings.ClearsFailover
+told_in_write tick name (txns.Operators (operator_txns.SetConfig revision config)) =
+    of_one tick name happenings.ChangesConfiguration
 told_in_write tick name _ = None
 
 -- of the key store

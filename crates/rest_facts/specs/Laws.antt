@@ -13,7 +13,7 @@ use Rattle.cluster_view.specs.KeyValues.{sync_in}
 use Rattle.cluster_view.specs.Naming.{is_standby}
 use Rattle.cluster_view.specs.Snapshots.{SnapshotFacts}
 use Rattle.rest_facts.specs.Lags.{limit_of, status_on}
-use Rattle.rest_facts.specs.Members.{has_key}
+use Rattle.cluster_view.specs.Roles.{has_key}
 use Rattle.rest_facts.specs.Turns.{config_on, primary_span, other_span}
 
 -- an agent's role holds the leader key

@@ -4,8 +4,6 @@ use Rattle.pat_base.specs.declared.member_id.MemberId.{MemberId}
 use Rattle.pat_base.specs.declared.server_state.State.{State}
 use Rattle.pat_base.specs.declared.server_state.State.TheVariants as states
 use Rattle.store_keys.specs.declared.value.SyncKey.{SyncKey}
-use Rattle.cluster_view.specs.declared.view.RoleWord.{RoleWord}
-use Rattle.cluster_view.specs.declared.view.RoleWord.TheVariants as roles
 use Rattle.cluster_view.specs.KeyValues.{sync_in}
 use Rattle.cluster_view.specs.Naming.{is_standby}
 use Rattle.cluster_view.specs.Snapshots.{SnapshotFacts}
@@ -19,15 +17,6 @@ is_primary _ = false
 abbrev pub is_replica : State → Bool
 is_replica states.Replica = true
 is_replica _ = false
-
--- an agent in this role holds the leader key
-abbrev pub has_key : RoleWord → Bool
-has_key roles.Follower = false
-has_key roles.Holder = true
-has_key roles.Ready = true
-has_key roles.Leader = true
-has_key roles.Ending = true
-has_key roles.Unleased = false
 
 -- the sync key, if there is one, names the member as a standby
 abbrev pub is_standby_of : MemberId → Option SyncKey → Bool

@@ -1,8 +1,8 @@
 //! What a member's server runs as, and what its agent and the key store make of the member.
 ghost use Rattle.std.specs.Prelude.{◌≡◌, option_copied};
-ghost use Rattle.rest_facts.specs.Members.{is_primary, is_replica, has_key, is_standby_on};
+ghost use Rattle.rest_facts.specs.Members.{is_primary, is_replica, is_standby_on};
 
-use cluster_view::{RoleWord, Snapshot, is_standby};
+use cluster_view::{Snapshot, is_standby};
 use pat_base::{MemberId, State};
 
 /// Whether a server in this state runs as the primary.
@@ -22,16 +22,6 @@ pub(crate) fn is_replica(state: State) -> bool
     match state {
         State::Replica => true,
         _ => false,
-    }
-}
-
-/// Whether an agent in this role holds the leader key.
-pub(crate) fn has_key(role: RoleWord) -> bool
-    ensures { result ≡ has_key role }
-{
-    match role {
-        RoleWord::Holder | RoleWord::Ready | RoleWord::Leader | RoleWord::Ending => true,
-        RoleWord::Follower | RoleWord::Unleased => false,
     }
 }
 

@@ -11,6 +11,7 @@ use Rattle.script_model.specs.Script.{HeadText, names_of}
 use Rattle.member_options.specs.declared.member_option.MemberOptions.{MemberOptions}
 use Rattle.cluster_view.specs.declared.view.AgentView.{AgentView}
 use Rattle.cluster_view.specs.Snapshots.{SnapshotFacts}
+use Rattle.cluster_view.specs.Roles.{has_key}
 use Rattle.event_book.specs.declared.event.Event.{Event}
 use Rattle.event_book.specs.declared.member.Member.{Member}
 use Rattle.event_book.specs.Facts.{Facts, facts_over}
@@ -23,7 +24,7 @@ use Rattle.rest_health.specs.Health.{status_where}
 use Rattle.rest_health.specs.Laws.{is_for_primaries}
 use Rattle.rest_health.specs.Statuses.{ok}
 use Rattle.rest_facts.specs.Checks.{health_of_view}
-use Rattle.rest_facts.specs.Members.{has_key, is_primary}
+use Rattle.rest_facts.specs.Members.{is_primary}
 use Rattle.rest_message.specs.Requests.{RequestText}
 use Rattle.rest_message.specs.Targets.{lag_of, path_of}
 use Rattle.rest_paths.specs.declared.asking.Ask.{Ask}

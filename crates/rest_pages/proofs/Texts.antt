@@ -21,6 +21,7 @@ configuration-by (values.Sync sync) kind = absurd kind
 configuration-by (values.Status end) kind = absurd kind
 configuration-by (values.History row) kind = absurd kind
 configuration-by (values.Failsafe members) kind = absurd kind
+configuration-by (values.Scheduled planned) kind = absurd kind
 
 false-true : false ≡ true → ⊥
 false-true e = cc

@@ -14,7 +14,7 @@ use Rattle.pat_base.specs.Name.{name_bytes}
 use Rattle.pat_base.specs.Word.{word_text}
 use Rattle.cluster_view.specs.declared.view.AgentView.{AgentView}
 use Rattle.cluster_view.specs.Snapshots.{SnapshotFacts}
-use Rattle.member_rows.specs.Keys.{leads}
+use Rattle.cluster_view.specs.Naming.{leads}
 use Rattle.rest_pages.specs.Cluster.{lag_data, member_role, row_members, with_timeline}
 use Rattle.rest_pages.specs.Patroni.{is_sync_standby, location_members, named_members, patroni_members_of, pauses, replica_members, role_text, server_word, streams, with_last_read, with_position, with_streaming, with_xlog}
 use Rattle.rest_pages.specs.Tags.{has_tags, tags_members, with_tags}

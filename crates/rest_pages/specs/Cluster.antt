@@ -10,7 +10,8 @@ use Rattle.pat_base.specs.Name.{name_bytes}
 use Rattle.pat_base.specs.Word.{word_text}
 use Rattle.cluster_view.specs.KeyValues.{config_in}
 use Rattle.cluster_view.specs.Snapshots.{SnapshotFacts}
-use Rattle.member_rows.specs.Keys.{keys_in, lag_bytes, leads}
+use Rattle.cluster_view.specs.Naming.{leads}
+use Rattle.member_rows.specs.Keys.{keys_in, lag_bytes}
 use Rattle.member_rows.specs.Rows.{rows_of}
 use Rattle.member_rows.specs.Standbys.{names_standby}
 use Rattle.member_rows.specs.declared.keys.ClusterKeys.{ClusterKeys}

@@ -7,9 +7,9 @@ ghost use Rattle.json_build.specs.Objects.{object_members};
 ghost use Rattle.member_rows.specs.Keys.{keys_in};
 ghost use Rattle.rest_pages.specs.Cluster.{member_role, with_lag, with_lag_of, with_timeline, row_members, row_data, cluster_rows, cluster_members};
 
-use cluster_view::Snapshot;
+use cluster_view::{Snapshot, leads};
 use json_build::{List, Object};
-use member_rows::{ClusterKeys, Row, keys_in, lag_bytes, leads, names_standby, rows_of};
+use member_rows::{ClusterKeys, Row, keys_in, lag_bytes, names_standby, rows_of};
 use pat_base::MemberId;
 use std::alloc::{AllocError, Global};
 

@@ -15,7 +15,7 @@ ghost use Rattle.store_keys.specs.declared.value.KeyEntry.{KeyEntry};
 ghost use Rattle.store_keys.specs.declared.value.Value.TheVariants as values;
 ghost use Rattle.cluster_view.specs.Snapshots.{IsRead, SnapshotFacts, entry_in, failsafe_in};
 ghost use Rattle.cluster_view.specs.declared.view.AgentView.{AgentView};
-ghost use Rattle.member_rows.specs.Keys.{leads};
+ghost use Rattle.cluster_view.specs.Naming.{leads};
 ghost use Rattle.rest_pages.specs.Cluster.{lag_data, row_members};
 ghost use Rattle.rest_pages.specs.Configuration.{configuration_text};
 ghost use Rattle.rest_pages.specs.Failsafe.{host_members, listed_of, lists_member};

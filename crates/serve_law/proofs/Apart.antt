@@ -1,11 +1,8 @@
 -- Events at which no agent hears anything, and none replies to an operator.
-use Rattle.std.proofs.Common.{ℕ, ◌≡◌, ◌∙◌, ◌+◌, ◌==◌, ◌&&◌, ◌||◌, nat_le, Bool, true, false, cond, List, [], ◌∷◌, ◌++◌, length, slice_get, Option, Some, None, option_and_then, option_map, refl, ap}
+use Rattle.std.proofs.Common.{ℕ, ◌≡◌, ◌∙◌, ◌+◌, nat_le, Bool, true, false, cond, List, [], ◌∷◌, ◌++◌, length, slice_get, Option, Some, None, option_and_then, refl, ap}
 use Rattle.std.specs.Option.{option_or}
 use Rattle.pat_base.specs.declared.lsn.Lsn.{Lsn}
 use Rattle.pat_base.specs.declared.member_id.MemberId.{MemberId}
-use Rattle.pat_base.specs.declared.server_state.State.{State}
-use Rattle.pat_base.specs.declared.server_state.State.TheVariants as states
-use Rattle.pat_base.specs.ServerState.{live}
 use Rattle.store_keys.specs.declared.key.Key.{Key}
 use Rattle.store_keys.specs.declared.key.Key.TheVariants as keys
 use Rattle.store_keys.specs.declared.txn.Txn.{Txn}
@@ -15,19 +12,14 @@ use Rattle.wal_model.specs.declared.entry.Entry.{Entry}
 use Rattle.wal_model.specs.Lacking.{lacks_in}
 use Rattle.pg_model.specs.declared.answers.Streamed.{Streamed}
 use Rattle.pg_model.specs.declared.answers.Streamed.TheVariants as streams
-use Rattle.pg_model.specs.Facts.{ServerFacts, entries_of, is_creating, is_down, is_replica, is_up}
-use Rattle.pg_model.specs.Running.{is_primary}
+use Rattle.pg_model.specs.Facts.{ServerFacts, entries_of}
 use Rattle.pg_cluster.specs.Servers.{news_at}
-use Rattle.event_book.specs.declared.agent_process.AgentProcess.{AgentProcess}
 use Rattle.event_book.specs.declared.event.AgentEvent.TheVariants as agents
 use Rattle.event_book.specs.declared.event.Event.{Event}
 use Rattle.event_book.specs.declared.event.EventKind.{EventKind}
 use Rattle.event_book.specs.declared.event.EventKind.TheVariants as kinds
-use Rattle.event_book.specs.declared.event.LogEvent.TheVariants as logs
 use Rattle.event_book.specs.declared.event.MessageEvent.TheVariants as messages
 use Rattle.event_book.specs.declared.event.Note.TheVariants as notes
-use Rattle.event_book.specs.declared.event.ReplicationEvent.TheVariants as replications
-use Rattle.event_book.specs.declared.event.ServerEvent.TheVariants as servers
 use Rattle.event_book.specs.declared.event.WatchdogEvent.TheVariants as watchdogs
 use Rattle.event_book.specs.declared.link.LinkEnd.{LinkEnd}
 use Rattle.event_book.specs.declared.link.LinkEnd.TheVariants as ends
@@ -35,34 +27,33 @@ use Rattle.event_book.specs.declared.member.Member.{Member}
 use Rattle.event_book.specs.declared.message.Body.{Body}
 use Rattle.event_book.specs.declared.message.Body.TheVariants as bodies
 use Rattle.event_book.specs.declared.message.Message.{Message}
-use Rattle.event_book.specs.declared.reason.Reason.{Reason}
 use Rattle.event_book.specs.Kinds.{AllAre}
-use Rattle.event_book.specs.Members.{server_of}
 use Rattle.rest_message.specs.Replies.{ReplyText}
 use Rattle.agent_model.specs.declared.output.Output.{Output}
 use Rattle.agent_model.specs.declared.output.Output.TheVariants as outputs
-use Rattle.agent_model.specs.declared.output.Target.TheVariants as targets
-use Rattle.cluster_model.specs.declared.beginning.Beginning.{Beginning}
-use Rattle.cluster_model.specs.declared.beginning.Beginning.TheVariants as beginnings
+use Rattle.agent_model.specs.declared.output.Telling.TheVariants as tellings
+use Rattle.agent_model.specs.declared.output.ServerOrder.{ServerOrder}
+use Rattle.agent_model.specs.declared.output.Telling.{Telling}
 use Rattle.cluster_model.specs.declared.beginning.Completion.{Completion}
 use Rattle.cluster_model.specs.declared.beginning.Completion.TheVariants as completions
 use Rattle.cluster_model.specs.declared.heard_message.HeardMessage.{HeardMessage}
 use Rattle.cluster_model.specs.Acknowledging.{acknowledge_kinds, acknowledgements, ready_commits}
-use Rattle.cluster_model.specs.Beginnings.{again_by, begin_kinds, beginning_of, completed_by, completion_kinds, completion_of, kinds_by, server_restart_in, server_restart_kinds}
+use Rattle.cluster_model.specs.Beginnings.{completed_by, completion_kinds, completion_of}
 use Rattle.cluster_model.specs.Cluster.{cluster_after, cluster_over}
 use Rattle.cluster_model.specs.Commands.{kinds_of}
 use Rattle.cluster_model.specs.Limits.{most_in_flight}
 use Rattle.cluster_model.specs.Losing.{is_lacking, loss_if, loss_of, losses_of}
-use Rattle.cluster_model.specs.Messages.{answer_events_by, answer_message, decision_body, decision_events, lost_at_once, output_events, receiver_of, replying_events, send_events, sending_events}
+use Rattle.cluster_model.specs.Messages.{answer_events_by, answer_message, decision_body, decision_events, lost_at_once, output_events, send_events, feeding_kinds, telling_kind}
 use Rattle.cluster_model.specs.Next.{acknowledge_events, all_entries, confirm_events, receive_events, receive_events_at_most, receive_events_of}
-use Rattle.cluster_model.specs.Orders.{declared_member, failsafe_feeding, feed_kinds, arming, feeding, following_of, hold_taken, is_same_required, repair_over, replica_start_kinds, require_of, required_names, server_at, stop_kind, stop_kinds, stop_of, upstream_of, wipe_of}
+use Rattle.cluster_model.specs.Orders.{declared_member}
 use Rattle.cluster_model.specs.Parts.{each, events_of, for_some}
 use Rattle.cluster_model.specs.State.{Cluster}
 use Rattle.cluster_model.specs.Streaming.{confirm_of, source_of, unconfirmed_end}
 use Rattle.cluster_model.specs.Ticking.{completion_events, expiries_of, expiry_of, leader_expiry, next_expiries, reset_events, reset_of, tick_events}
 use Rattle.leader_key.specs.Watchdog.{is_due_at}
-use Rattle.cluster_model.proofs.Founds.{holds-if, holds-mapped, holds-then, repaired-holds}
+use Rattle.cluster_model.proofs.Founds.{holds-if, holds-then}
 use Rattle.cluster_model.proofs.Lists.{AllKinds, HoldsIf, all-both, all-kinds, kinds-both, one-kind}
+use Rattle.cluster_model.proofs.Outputs.{HoldsOfFeedings, HoldsOfOrder, IsAnswer, feeding-holds, kind-holds, message-holds, noting-holds, order-holds, required-holds, telling-holds}
 use Rattle.serve_model.specs.Connections.{reply_by, reply_in}
 
 -- no agent hears by such an event
@@ -110,10 +101,6 @@ apart-if : (cluster : Cluster) (found : Option EventKind) → HoldsIf IsApart fo
     → AllAre IsApart (events_of cluster (kinds_of found))
 apart-if cluster found is = all-kinds IsApart cluster (kinds_of found) (one-kind IsApart found is)
 
-unless-apart : (kind : EventKind) (test : Bool) → IsApart kind → HoldsIf IsApart (cond test None (Some kind))
-unless-apart kind true is = tt
-unless-apart kind false is = is
-
 -- ---- messages that are sent
 lost-apart : (test : Bool) (number : ℕ) → AllKinds IsApart (lost_at_once test number)
 lost-apart true number = (tt, tt)
@@ -125,17 +112,6 @@ send-apart cluster message =
     (kinds.Message (messages.Sent (cluster.facts.sent + 1) message)
     ∷ lost_at_once (nat_le most_in_flight (length cluster.facts.flight)) (cluster.facts.sent + 1))
     (tt, lost-apart (nat_le most_in_flight (length cluster.facts.flight)) (cluster.facts.sent + 1))
-
-sending-apart : (cluster : Cluster) (member : Member) (found : Option AgentProcess) (to : Option LinkEnd)
-    (sequence : ℕ) (body : Body) → AllAre IsApart (sending_events cluster member found to sequence body)
-sending-apart cluster member None to sequence body = tt
-sending-apart cluster member (Some process) None sequence body = tt
-sending-apart cluster member (Some process) (Some to) sequence body = send-apart cluster _
-
-replying-apart : (cluster : Cluster) (member : Member) (to : Option LinkEnd) (incarnation sequence : ℕ) (body : Body)
-    → AllAre IsApart (replying_events cluster member to incarnation sequence body)
-replying-apart cluster member None incarnation sequence body = tt
-replying-apart cluster member (Some to) incarnation sequence body = send-apart cluster _
 
 -- the key store answers
 decision-apart : (cluster : Cluster) (number : ℕ) (message : Message) (txn : Txn) (decision : Decision) (from : LinkEnd)
@@ -153,131 +129,63 @@ answer-apart cluster number message (bodies.Request txn) =
     decision-apart cluster number message txn (decision_on cluster.facts.keys cluster.facts.clock txn) message.from
 answer-apart cluster number message _ = tt
 
--- ---- a server begins, ends, starts or follows
+-- ---- that a server lacks commits
 loss-apart : (member : Member) (test : Bool) → AllKinds IsApart (kinds_of (loss_if member test))
 loss-apart member true = (tt, tt)
 loss-apart member false = tt
 
-begin-apart : (member : Member) (acknowledged : List ℕ) (log : Option (List Entry)) (begins : Option Beginning)
-    → AllKinds IsApart (kinds_by member acknowledged log begins)
-begin-apart member acknowledged log None = tt
-begin-apart member acknowledged log (Some (beginnings.AtOnce timeline)) =
-    (tt, loss-apart member (lacks_in (entries_of log) acknowledged))
-begin-apart member acknowledged log (Some beginnings.WithItsStart) = (tt, tt)
-
-begins-apart : (cluster : Cluster) (member : Member) (found : Option ServerFacts)
-    → AllAre IsApart (for_some found (λ s. events_of cluster (begin_kinds member cluster.facts.acknowledged s)))
-begins-apart cluster member None = tt
-begins-apart cluster member (Some s) = all-kinds IsApart cluster (begin_kinds member cluster.facts.acknowledged s)
-    (begin-apart member cluster.facts.acknowledged s.log (beginning_of s))
-
-again-apart : (member : Member) (acknowledged : List ℕ) (state : State) (s : ServerFacts)
-    → AllKinds IsApart (server_restart_in member acknowledged state s)
-again-apart member acknowledged states.Primary s =
-    (tt, begin-apart member acknowledged s.log (Some (again_by s.timeline s.start_delay)))
-again-apart member acknowledged states.Replica s = (tt, tt)
-again-apart member acknowledged _ s = tt
-
-restarts-apart : (cluster : Cluster) (member : Member) (found : Option ServerFacts)
-    → AllAre IsApart
-    (for_some found (λ s. events_of cluster (server_restart_kinds member cluster.facts.acknowledged s)))
-restarts-apart cluster member None = tt
-restarts-apart cluster member (Some s) = all-kinds IsApart cluster
-    (server_restart_kinds member cluster.facts.acknowledged s) (again-apart member cluster.facts.acknowledged s.state s)
-
-follow-apart : (member : Member) (leader : Option Member) → HoldsIf IsApart (following_of member leader)
-follow-apart member None = tt
-follow-apart member (Some leader) = tt
-
-upstream-apart : (member : Member) (leader : Option Member) (test : Bool)
-    → HoldsIf IsApart (cond test (following_of member leader) None)
-upstream-apart member leader true = follow-apart member leader
-upstream-apart member leader false = tt
-
-started-apart : (member : Member) (leader : Option Member) (test : Bool)
-    → AllKinds IsApart
-    (cond test (kinds.Server (servers.StartsAsReplica (server_of member)) ∷ kinds_of (following_of member leader)) [])
-started-apart member leader true = (tt, one-kind IsApart (following_of member leader) (follow-apart member leader))
-started-apart member leader false = tt
-
-starts-apart : (cluster : Cluster) (member : Member) (leader : Option Member) (found : Option ServerFacts)
-    → AllAre IsApart (for_some found (λ s. events_of cluster (replica_start_kinds member leader s)))
-starts-apart cluster member leader None = tt
-starts-apart cluster member leader (Some s) =
-    all-kinds IsApart cluster (replica_start_kinds member leader s) (started-apart member leader (is_down s.state))
-
-stop-apart : (member : Member) (test : Bool)
-    → IsApart (cond test (kinds.Server (servers.Ended (server_of member)))
-    (kinds.Server (servers.Stops (server_of member))))
-stop-apart member true = tt
-stop-apart member false = tt
-
-stopped-apart : (member : Member) (s : ServerFacts) → HoldsIf IsApart (stop_of member s)
-stopped-apart member s = holds-if IsApart (is_up s.state) (stop_kind member s.state s.stop_delay)
-    (stop-apart member (is_primary s.state && s.stop_delay.0 == 0))
-
-stops-apart : (cluster : Cluster) (member : Member) (reason : Reason) (found : Option ServerFacts)
-    → AllAre IsApart (for_some found (λ s. events_of cluster (stop_kinds member reason s)))
-stops-apart cluster member reason None = tt
-stops-apart cluster member reason (Some s) = all-kinds IsApart cluster (stop_kinds member reason s)
-    (tt, one-kind IsApart (stop_of member s) (stopped-apart member s))
-
-order-apart : (cluster : Cluster) (member : Member) (order : ServerFacts → Option EventKind)
-    → ((s : ServerFacts) → HoldsIf IsApart (order s))
-    → AllAre IsApart (events_of cluster (kinds_of (option_and_then order (server_at cluster member))))
-order-apart cluster member order all = apart-if cluster (option_and_then order (server_at cluster member))
-    (holds-then IsApart order (server_at cluster member) all)
-
 -- ---- what an output of an agent comes to that tells no operator anything
 abbrev pub IsSilent : Output → Type 0
-IsSilent (outputs.Told request told) = ⊥
+IsSilent (outputs.Tell (tellings.Told request told)) = ⊥
 IsSilent _ = Unit {0}
+
+silent-answer : (telling : Telling) → IsSilent (outputs.Tell telling) → IsAnswer telling → ⊥
+silent-answer (tellings.Told request told) is answers = is
+silent-answer tellings.ClaimsOutsideSync is answers = answers
+silent-answer _ is answers = answers
+
+orders-apart : (member : Member) (order : ServerOrder) → HoldsOfOrder IsApart member order
+orders-apart member order = record {
+  begins = λ is timeline. tt;
+  lacks = λ is. tt;
+  starts_as_primary = λ is. tt;
+  starts_as_replica = tt;
+  follows = λ leader. tt;
+  says = λ reason. tt;
+  ends = λ is. tt;
+  stops = λ is. tt;
+  wiped = λ is. tt;
+  rewound = λ is leader r. tt;
+  copied = λ is leader. tt;
+}
+
+feedings-apart : (member : Member) → HoldsOfFeedings IsApart member
+feedings-apart member = record {
+  measured = λ since. tt;
+  armed = λ until answer. tt;
+  fed = λ until basis. tt;
+  disarmed = tt;
+}
 
 pub output-apart : (member : Member) (heard : HeardMessage) (cluster : Cluster) (output : Output)
     → IsSilent output → AllAre IsApart (output_events member heard cluster output)
-output-apart member heard cluster (outputs.Send to sequence body) is = sending-apart cluster member
-    (slice_get cluster.facts.processes member.id.number) (receiver_of cluster.facts.members to) sequence body
-output-apart member heard cluster (outputs.Answer to incarnation sequence answer) is = replying-apart cluster member
-    (receiver_of cluster.facts.members (targets.Member to)) incarnation sequence (bodies.Answer answer)
-output-apart member heard cluster (outputs.FailsafeAnswer to incarnation sequence accepted) is =
-    replying-apart cluster member (receiver_of cluster.facts.members (targets.Member to)) incarnation sequence
-    (bodies.FailsafeAnswer accepted)
-output-apart member heard cluster outputs.Begin is = begins-apart cluster member (server_at cluster member)
-output-apart member heard cluster (outputs.StartReplica leader) is =
-    starts-apart cluster member (declared_member cluster.facts.members leader) (server_at cluster member)
-output-apart member heard cluster (outputs.Stop reason) is =
-    stops-apart cluster member reason (server_at cluster member)
-output-apart member heard cluster outputs.ShutDown is =
-    order-apart cluster member (stop_of member) (stopped-apart member)
-output-apart member heard cluster (outputs.Restart as_primary) is =
-    restarts-apart cluster member (server_at cluster member)
-output-apart member heard cluster outputs.Wipe is = order-apart cluster member (wipe_of member)
-    (λ s. unless-apart (kinds.Log (logs.Wiped (server_of member))) (is_creating s.state || live s.state) tt)
-output-apart member heard cluster (outputs.Follow leader) is =
-    let found = slice_get cluster.facts.members leader.number in
-    order-apart cluster member (upstream_of member found) (λ s. upstream-apart member found (is_replica s.state))
-output-apart member heard cluster (outputs.Repair leader repair) is =
-    let found = slice_get cluster.facts.members leader.number in
-    apart-if cluster (option_and_then (repair_over cluster.facts.cuts cluster.facts.servers member repair) found)
-    (repaired-holds IsApart cluster.facts.cuts cluster.facts.servers member repair found (λ other r. tt) (λ other. tt))
-output-apart member heard cluster (outputs.Require required) is =
-    order-apart cluster member (require_of cluster.facts.members member required)
-    (λ s.
-    unless-apart (kinds.Replication (replications.RequiredSet (server_of member) required
-    (required_names cluster.facts.members required)))
-    (is_same_required s.required required) tt)
-output-apart member heard cluster (outputs.Armed until) is =
-    all-kinds IsApart cluster (feed_kinds member heard.sent (arming member until heard)) (tt, (tt, tt))
-output-apart member heard cluster (outputs.Fed until) is =
-    all-kinds IsApart cluster (feed_kinds member heard.sent (feeding member until heard)) (tt, (tt, tt))
-output-apart member heard cluster (outputs.FedByFailsafe until members sequence since) is =
-    all-kinds IsApart cluster (feed_kinds member since (failsafe_feeding member until members sequence)) (tt, (tt, tt))
-output-apart member heard cluster (outputs.HoldTaken until from sequence) is =
-    let found = slice_get cluster.facts.members from.number in
-    let hold = hold_taken member until heard.incarnation sequence in
-    apart-if cluster (option_map hold found) (holds-mapped IsApart hold found (λ m. tt))
-output-apart member heard cluster (outputs.Told request told) is = absurd is
-output-apart member heard cluster _ is = (tt, tt)
+output-apart member heard cluster (outputs.Message written) is = message-holds IsApart cluster member
+    (record { sent = λ target to found incarnation sequence body. tt; lost = tt }) written
+output-apart member heard cluster (outputs.Server order) is =
+    order-holds IsApart cluster member order (orders-apart member order)
+output-apart member heard cluster (outputs.Watchdog fed) is =
+    all-kinds IsApart cluster (feeding_kinds member heard fed)
+    (feeding-holds IsApart cluster member heard (feedings-apart member) fed)
+output-apart member heard cluster (outputs.Require required) is = required-holds IsApart cluster member required tt
+output-apart member heard cluster (outputs.Tell telling) is =
+    kind-holds IsApart cluster member (telling_kind cluster member heard telling)
+    (telling-holds IsApart cluster member heard telling (record {
+      answers = λ answers reply. absurd (silent-answer telling is answers);
+      holds = λ until incarnation sequence from. tt;
+      passes = λ passes. tt;
+    }))
+output-apart member heard cluster (outputs.Note noting) is =
+    (noting-holds IsApart cluster member (record { agent = λ note about. tt; stays = tt }) noting, tt)
 
 -- ---- a tick
 reset-apart : (cluster : Cluster) (member : Member) → AllAre IsApart (reset_events cluster member)

@@ -28,6 +28,7 @@ use Rattle.rest_answer.specs.Decisions.{asking_for, change_on}
 use Rattle.agent_model.specs.declared.operating.Told.TheVariants as tolds
 use Rattle.agent_model.specs.declared.output.Output.{Output}
 use Rattle.agent_model.specs.declared.output.Output.TheVariants as outputs
+use Rattle.agent_model.specs.declared.output.Telling.TheVariants as tellings
 use Rattle.agent_model.specs.Agents.{Outcome}
 use Rattle.agent_model.specs.Operators.{operated, restarting, unnumbered, wiping}
 use Rattle.agent_model.specs.StayingPrimary.{holding_for}
@@ -127,7 +128,7 @@ pub record EndsTelling (number : ℕ) (outs : List Output) : Type 0 where
   pub before : List Output
   pub status : ℕ
   pub text : Text
-  pub is : outs ≡ before ++ outputs.Told number (tolds.Text status text) ∷ []
+  pub is : outs ≡ before ++ outputs.Tell (tellings.Told number (tolds.Text status text)) ∷ []
 
 -- what is done at once is told in that input
 pub told-at-once : (now : Ticks) (number : ℕ) (request : OperatorRequest) (o : Outcome) → IsDoneAtOnce request

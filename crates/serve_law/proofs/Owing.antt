@@ -21,6 +21,7 @@ use Rattle.agent_model.specs.declared.operating.Operating.{Operating}
 use Rattle.agent_model.specs.declared.operating.Told.{Told}
 use Rattle.agent_model.specs.declared.output.Output.{Output}
 use Rattle.agent_model.specs.declared.output.Output.TheVariants as outputs
+use Rattle.agent_model.specs.declared.output.Telling.TheVariants as tellings
 use Rattle.agent_model.specs.Agents.{AgentFacts, Outcome, outcome_from}
 use Rattle.agent_model.specs.Table.{step}
 use Rattle.agent_answers.specs.OperatorAnswers.{AnswersAtOnce, AnswersOneAtMost, AnswersWaiting, WaitsForHeard, told_in}
@@ -134,7 +135,7 @@ unheards-owe number k cluster (event ∷ events) all owes = unheards-owe number 
 -- what outputs come to is heard by no agent
 output-unheard : (member : Member) (heard : HeardMessage) (cluster : Cluster) (output : Output)
     → AllAre IsUnheard (output_events member heard cluster output)
-output-unheard member heard cluster (outputs.Told request told) =
+output-unheard member heard cluster (outputs.Tell (tellings.Told request told)) =
     let found = told_kind member (agent_at cluster.agents member.id.number) told in
     all-kinds IsUnheard cluster (kinds_of found)
     (one-kind IsUnheard found

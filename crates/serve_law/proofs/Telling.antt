@@ -15,6 +15,7 @@ use Rattle.agent_model.specs.declared.operating.Told.{Told}
 use Rattle.agent_model.specs.declared.operating.Told.TheVariants as tolds
 use Rattle.agent_model.specs.declared.output.Output.{Output}
 use Rattle.agent_model.specs.declared.output.Output.TheVariants as outputs
+use Rattle.agent_model.specs.declared.output.Telling.TheVariants as tellings
 use Rattle.agent_model.specs.Agents.{AgentFacts}
 use Rattle.agent_answers.specs.OperatorAnswers.{told_in}
 use Rattle.cluster_model.specs.declared.heard_message.HeardMessage.{HeardMessage}
@@ -110,11 +111,11 @@ module _ (id : MemberId) (member : Member) (heard : HeardMessage) where
         → reply_in id
         (events_of cluster (kinds_of found) ++ Brings (cluster_over cluster (events_of cluster (kinds_of found))) more)
         ≡ Some reply
-        → IsNoted cluster (outputs.Told request told ∷ more)
+        → IsNoted cluster (outputs.Tell (tellings.Told request told) ∷ more)
         (events_of cluster (kinds_of found) ++ Brings (cluster_over cluster (events_of cluster (kinds_of found))) more)
         reply
     told-noted cluster request told more reply None says others is =
-        noted-behind cluster (outputs.Told request told ∷ more) more [] (Brings cluster more) reply
+        noted-behind cluster (outputs.Tell (tellings.Told request told) ∷ more) more [] (Brings cluster more) reply
         (λ t among. inr among) (others cluster is)
     told-noted cluster request told more reply (Some kind) says others is =
         let r = reply-of member (agent_at cluster.agents member.id.number) told kind says in
@@ -138,7 +139,7 @@ module _ (id : MemberId) (member : Member) (heard : HeardMessage) where
     pub each-noted : (cluster : Cluster) (outs : List Output) (reply : ReplyText)
         → reply_in id (Brings cluster outs) ≡ Some reply → IsNoted cluster outs (Brings cluster outs) reply
     each-noted cluster [] reply is = absurd (none-some _ is)
-    each-noted cluster (outputs.Told request told ∷ more) reply is =
+    each-noted cluster (outputs.Tell (tellings.Told request told) ∷ more) reply is =
         told-noted cluster request told more reply (told_kind member (agent_at cluster.agents member.id.number) told)
         refl (λ later so. each-noted later more reply so) is
     each-noted cluster (output ∷ more) reply is =
@@ -150,7 +151,7 @@ module _ (id : MemberId) (member : Member) (heard : HeardMessage) where
 
     -- words that are told are replied
     text-replied : (cluster : Cluster) (request status : ℕ) (text : Text) (more : List Output)
-        → reply_in id (Brings cluster (outputs.Told request (tolds.Text status text) ∷ more)) ≢ None
+        → reply_in id (Brings cluster (outputs.Tell (tellings.Told request (tolds.Text status text)) ∷ more)) ≢ None
     text-replied cluster request status text more none =
         let reply = text_of status (answer_text text) in
         none-some _
@@ -167,11 +168,12 @@ module _ (id : MemberId) (member : Member) (heard : HeardMessage) where
         second (Some reply) e = absurd (none-some _ (sym e))
 
     pub each-replied : (cluster : Cluster) (outs more : List Output) (request status : ℕ) (text : Text)
-        → reply_in id (Brings cluster (outs ++ outputs.Told request (tolds.Text status text) ∷ more)) ≢ None
+        → reply_in id (Brings cluster (outs ++ outputs.Tell (tellings.Told request (tolds.Text status text)) ∷ more))
+        ≢ None
     each-replied cluster [] more request status text none = text-replied cluster request status text more none
     each-replied cluster (output ∷ outs) more request status text none =
         let xs = output_events member heard cluster output in
-        let rest = outs ++ outputs.Told request (tolds.Text status text) ∷ more in
+        let rest = outs ++ outputs.Tell (tellings.Told request (tolds.Text status text)) ∷ more in
         each-replied (cluster_over cluster xs) outs more request status text
         (stays-none xs (Brings (cluster_over cluster xs) rest) none)
 
@@ -191,7 +193,7 @@ module _ (id : MemberId) (member : Member) (heard : HeardMessage) where
 
     pub each-silent : (cluster : Cluster) (outs : List Output) → reply_in id (Brings cluster outs) ≡ None
     each-silent cluster [] = refl
-    each-silent cluster (outputs.Told request told ∷ more) =
+    each-silent cluster (outputs.Tell (tellings.Told request told) ∷ more) =
         let found = told_kind member (agent_at cluster.agents member.id.number) told in
         let xs = events_of cluster (kinds_of found) in
         silent-then xs (Brings (cluster_over cluster xs) more) (silent-found cluster told found refl)

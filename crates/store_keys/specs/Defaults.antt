@@ -1,5 +1,5 @@
 -- The configuration where nothing is set.
-use Rattle.std.specs.Prelude.{false, codes}
+use Rattle.std.specs.Prelude.{false, codes, refl}
 use Rattle.std.proofs.Common.{lit≤}
 use Rattle.store_keys.specs.declared.config.Config.{Config}
 use Rattle.store_keys.specs.Settings.{Settings}
@@ -14,7 +14,9 @@ default_config = record {
   primary_start_timeout = 300;
   synchronous_node_count = 1;
   synchronous_mode = false;
+  quorum = false;
   synchronous_mode_strict = false;
+  standby_cluster = false;
   failsafe_mode = false;
   pause = false;
   use_pg_rewind = false;
@@ -24,6 +26,8 @@ default_config = record {
   maximum_lag_on_failover_range = lit≤ tt;
   primary_start_timeout_range = lit≤ tt;
   synchronous_node_count_range = (lit≤ tt, lit≤ tt);
+  quorum_is_synchronous = refl;
+  standby_stands_alone = refl;
 }
 
 -- the configuration of a cluster that begins with none

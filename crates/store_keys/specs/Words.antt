@@ -2,7 +2,7 @@
 use Rattle.std.specs.Prelude.{ℕ, List, ◌++◌, codes}
 use Rattle.std.specs.Fmt.{decimal}
 use Rattle.store_keys.specs.declared.key.Key.{Key}
-use Rattle.store_keys.specs.declared.key.Key.TheVariants.{Leader, Config, Member, Failover, Sync, Status, History, Failsafe}
+use Rattle.store_keys.specs.declared.key.Key.TheVariants.{Leader, Config, Member, Failover, Sync, Status, History, Failsafe, Scheduled}
 use Rattle.store_keys.specs.declared.txn.Expected.{Expected}
 use Rattle.store_keys.specs.declared.txn.Expected.TheVariants.{Absent, Revision}
 use Rattle.store_keys.specs.declared.txn_kind.TxnKind.{TxnKind}
@@ -18,6 +18,7 @@ key_text Sync = codes "sync"
 key_text Status = codes "status"
 key_text (History timeline) = codes "history/" ++ decimal timeline
 key_text Failsafe = codes "failsafe"
+key_text Scheduled = codes "scheduled"
 
 -- what was found at a key
 abbrev pub finding_text : Expected → List ℕ

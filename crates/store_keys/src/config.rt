@@ -1,5 +1,5 @@
 //! What a configuration sets.
-ghost use Rattle.std.specs.Prelude.{◌≡◌, ◌≤◌, ◌*◌, ◌^◌};
+ghost use Rattle.std.specs.Prelude.{◌≡◌, ◌≤◌, ◌*◌, ◌^◌, ◌&&◌, ◌||◌, not, true, false};
 ghost use Rattle.pat_base.specs.declared.member_id.TheConstants.{MOST_MEMBERS};
 
 use pat_base::{TICKS_OF_SECOND, Ticks};
@@ -23,8 +23,13 @@ pub struct Config {
     pub synchronous_node_count: u64,
     /// Whether commits wait for synchronous standbys (Patroni's documentation, "Replication modes").
     pub synchronous_mode: bool,
+    /// Whether they wait for so many of a set of standbys, whichever these are: quorum commit, a synchronous mode.
+    pub quorum: bool,
     /// Whether commits wait also while no member can be a synchronous standby.
     pub synchronous_mode_strict: bool,
+    /// Whether the leader follows another cluster's primary, and accepts no writes (Patroni's documentation, "Standby
+    /// cluster"). It excludes synchronous and failsafe mode.
+    pub standby_cluster: bool,
     /// Whether a leader goes on while the store is out of reach and all other members acknowledge it (Patroni's
     /// documentation, "DCS Failsafe Mode").
     pub failsafe_mode: bool,
@@ -38,6 +43,8 @@ pub struct Config {
     ghost maximum_lag_on_failover_range: { maximum_lag_on_failover ≤ 2 ^ 62 },
     ghost primary_start_timeout_range: { primary_start_timeout ≤ 86400 },
     ghost synchronous_node_count_range: { (1 ≤ synchronous_node_count) × (synchronous_node_count ≤ MOST_MEMBERS) },
+    ghost quorum_is_synchronous: { (not quorum || synchronous_mode) ≡ true },
+    ghost standby_stands_alone: { (standby_cluster && (synchronous_mode || failsafe_mode)) ≡ false },
 }
 
 impl Config {
@@ -57,7 +64,9 @@ impl Config {
             primary_start_timeout: 300,
             synchronous_node_count: 1,
             synchronous_mode: false,
+            quorum: false,
             synchronous_mode_strict: false,
+            standby_cluster: false,
             failsafe_mode: false,
             pause: false,
             use_pg_rewind: false,

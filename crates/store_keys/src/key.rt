@@ -22,6 +22,8 @@ pub enum Key {
     History(u64),
     /// The members that the leader may ask while the store is out of reach: `/failsafe`.
     Failsafe,
+    /// A switchover that is to be asked for later. Patroni keeps it in `/failover`.
+    Scheduled,
 }
 
 impl fmt::Display for Key {
@@ -43,6 +45,7 @@ impl fmt::Display for Key {
             Key::Status => f.write_str("status"),
             Key::History(timeline) => write!(f, "history/{timeline}"),
             Key::Failsafe => f.write_str("failsafe"),
+            Key::Scheduled => f.write_str("scheduled"),
         }
     }
 }

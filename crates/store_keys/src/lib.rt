@@ -13,6 +13,6 @@ pub use action::{FailoverKind, OperatorAction, OperatorRequest};
 pub use config::Config;
 pub use config_value::ConfigValue;
 pub use key::Key;
-pub use txn::{Expected, Txn};
+pub use txn::{Expected, LeaseTxn, OperatorTxn, SyncTxn, Txn};
 pub use txn_kind::TxnKind;
-pub use value::{FailoverKey, HistoryRow, KeyEntry, MemberInfo, SyncKey, Value};
+pub use value::{FailoverKey, HistoryRow, KeyEntry, MemberInfo, Planned, SyncKey, Value};

@@ -1,6 +1,6 @@
 //! Transactions.
 
-use crate::{ConfigValue, FailoverKey, HistoryRow, MemberInfo};
+use crate::{ConfigValue, FailoverKey, HistoryRow, MemberInfo, Planned};
 use pat_base::{Lsn, MemberSet, Ticks};
 use std::fmt;
 
@@ -35,10 +35,18 @@ impl fmt::Display for Expected {
 #[derive(Drop)]
 pub enum Txn {
     /// The member tells of itself. It compares nothing, so only want of memory refuses it.
-    Touch {
-        info: MemberInfo,
-        ttl: Ticks,
-    },
+    Touch { info: MemberInfo, ttl: Ticks },
+    /// What it asks of the leader key.
+    Lease(LeaseTxn),
+    /// What a leader asks of the sync key.
+    Sync(SyncTxn),
+    /// What an operator asks for, and that it is done.
+    Operators(OperatorTxn),
+}
+
+/// What a member asks of the leader key.
+#[derive(Clone, Copy)]
+pub enum LeaseTxn {
     /// The member takes the leader key, where that is absent, and tells of itself. Where `failsafe` says something, the
     /// failsafe key has to be so too: as the member read it, with failsafe mode. So has the sync key where `sync` says
     /// something: as the member read it, in quorum mode with failsafe mode.
@@ -62,22 +70,34 @@ pub enum Txn {
     Release {
         revision: u64,
     },
+}
+
+/// What a leader asks of the sync key.
+#[derive(Clone, Copy)]
+pub enum SyncTxn {
     /// The member becomes the leader of the synchronous replication, with no standby. The sync key is as it was read.
     Claim {
         revision: u64,
         sync: Expected,
     },
-    /// The leader names the synchronous standbys. The sync key is as it was read.
+    /// The leader names the synchronous standbys, and with quorum commit how many of them may lack a commit that was
+    /// acknowledged. The sync key is as it was read.
     SetSync {
         revision: u64,
         sync: Expected,
         standbys: MemberSet,
+        quorum: Option<u8>,
     },
     /// The leader removes the sync key, which is of the revision `sync`: synchronous replication is off.
     DropSync {
         revision: u64,
         sync: u64,
     },
+}
+
+/// What an operator asks for by the key store, at once or later, and that it is done.
+#[derive(Drop)]
+pub enum OperatorTxn {
     /// A failover is asked for, where none is: the failover key is absent.
     SetFailover {
         failover: FailoverKey,
@@ -91,5 +111,21 @@ pub enum Txn {
     SetConfig {
         revision: u64,
         config: ConfigValue,
+    },
+    /// A switchover is to be asked for later, where none is yet.
+    Schedule {
+        planned: Planned,
+    },
+    /// The scheduled switchover, which is of the revision `scheduled`, isn't wanted any more.
+    Unschedule {
+        scheduled: u64,
+    },
+    /// The leader asks for the switchover that was scheduled, which is of the revision `scheduled`, where no failover is
+    /// asked for: the failover key takes its place.
+    Fire {
+        revision: u64,
+        scheduled: u64,
+        failover: FailoverKey,
+        ttl: Ticks,
     },
 }

@@ -1,8 +1,9 @@
 //! Kinds of transactions.
 ghost use Rattle.std.specs.Prelude.{◌≡◌};
+ghost use Rattle.store_keys.specs.TxnKinds.{operator_kind};
 ghost use Rattle.store_keys.specs.Words.{kind_text};
 
-use crate::Txn;
+use crate::{LeaseTxn, OperatorTxn, SyncTxn, Txn};
 use std::fmt;
 
 /// What kind of transaction a request is, as printed lines name it.
@@ -10,21 +11,21 @@ use std::fmt;
 pub enum TxnKind {
     /// `Txn::Touch`.
     Touch,
-    /// `Txn::Create`.
+    /// `LeaseTxn::Create`.
     Create,
-    /// `Txn::Renew`.
+    /// `LeaseTxn::Renew`.
     Renewal,
-    /// `Txn::Release`.
+    /// `LeaseTxn::Release`.
     Release,
-    /// `Txn::Claim`.
+    /// `SyncTxn::Claim`.
     Claim,
-    /// A new sync key, or none: `Txn::SetSync` and `Txn::DropSync`.
+    /// A new sync key, or none: `SyncTxn::SetSync` and `SyncTxn::DropSync`.
     SyncWrite,
-    /// `Txn::SetFailover`.
+    /// A new failover key, or one to come: `OperatorTxn::SetFailover`, `OperatorTxn::Schedule` and `OperatorTxn::Fire`.
     FailoverWrite,
-    /// `Txn::DropFailover`.
+    /// `OperatorTxn::DropFailover` and `OperatorTxn::Unschedule`.
     FailoverRemoval,
-    /// `Txn::SetConfig`.
+    /// `OperatorTxn::SetConfig`.
     ConfigurationWrite,
 }
 
@@ -65,14 +66,28 @@ impl Txn {
     {
         match self {
             Txn::Touch { .. } => TxnKind::Touch,
-            Txn::Create { .. } => TxnKind::Create,
-            Txn::Renew { .. } => TxnKind::Renewal,
-            Txn::Release { .. } => TxnKind::Release,
-            Txn::Claim { .. } => TxnKind::Claim,
-            Txn::SetSync { .. } | Txn::DropSync { .. } => TxnKind::SyncWrite,
-            Txn::SetFailover { .. } => TxnKind::FailoverWrite,
-            Txn::DropFailover { .. } => TxnKind::FailoverRemoval,
-            Txn::SetConfig { .. } => TxnKind::ConfigurationWrite,
+            Txn::Lease(LeaseTxn::Create { .. }) => TxnKind::Create,
+            Txn::Lease(LeaseTxn::Renew { .. }) => TxnKind::Renewal,
+            Txn::Lease(LeaseTxn::Release { .. }) => TxnKind::Release,
+            Txn::Sync(SyncTxn::Claim { .. }) => TxnKind::Claim,
+            Txn::Sync(SyncTxn::SetSync { .. }) | Txn::Sync(SyncTxn::DropSync { .. }) => {
+                TxnKind::SyncWrite
+            }
+            Txn::Operators(txn) => operator_kind(txn),
         }
+    }
+}
+
+/// The kind of what operators ask for.
+fn operator_kind(txn: &OperatorTxn) -> TxnKind
+    ensures { result ≡ operator_kind txn.now }
+{
+    match txn {
+        OperatorTxn::SetFailover { .. } | OperatorTxn::Schedule { .. } | OperatorTxn::Fire { .. } =>
+            { TxnKind::FailoverWrite }
+        OperatorTxn::DropFailover { .. } | OperatorTxn::Unschedule { .. } => {
+            TxnKind::FailoverRemoval
+        }
+        OperatorTxn::SetConfig { .. } => TxnKind::ConfigurationWrite,
     }
 }

@@ -34,13 +34,16 @@ pub struct FailoverKey {
 }
 
 /// Who leads with synchronous replication, and who replicates synchronously, as Patroni's key `/sync` has it (its
-/// documentation, "Replication modes"). Only a member that it names may take over without losing commits.
+/// documentation, "Replication modes"). Only a member that it names may take over without losing commits; with quorum
+/// commit one of them, by what more of them than `quorum` have in their logs.
 #[derive(Clone, Copy, PartialEq, Eq)]
 pub struct SyncKey {
     /// The leader that wrote the key.
     pub leader: MemberId,
     /// The standbys whose confirmation its commits wait for, without the leader itself.
     pub standbys: MemberSet,
+    /// How many of the standbys may lack a commit that was acknowledged. 0 but with quorum commit.
+    pub quorum: u8,
 }
 
 /// How a timeline ended, as a row of Patroni's key `/history`.
@@ -54,6 +57,18 @@ pub struct HistoryRow {
     pub tick: Ticks,
     /// Who took over, on the next timeline.
     pub leader: MemberId,
+}
+
+/// A switchover that is to be asked for later (Patroni's documentation of the REST API, "Switchover and failover
+/// endpoints").
+#[derive(Clone, Copy, PartialEq, Eq)]
+pub struct Planned {
+    /// The leader that is to step down.
+    pub leader: MemberId,
+    /// The member that is to lead. `None`: any other one that may.
+    pub candidate: Option<MemberId>,
+    /// From when on it is asked for, in ticks from the start of the run.
+    pub at: Ticks,
 }
 
 /// The value of a key, with one kind for each kind of key: `Key` says what each is for.
@@ -75,6 +90,8 @@ pub enum Value {
     History(HistoryRow),
     /// The members that the leader may ask while the store is out of reach.
     Failsafe(MemberSet),
+    /// A switchover that is to be asked for later.
+    Scheduled(Planned),
 }
 
 /// What the store holds at a key.
@@ -102,7 +119,8 @@ impl Value {
             | Value::Sync(_)
             | Value::Status(_)
             | Value::History(_)
-            | Value::Failsafe(_) => None,
+            | Value::Failsafe(_)
+            | Value::Scheduled(_) => None,
         }
     }
 
@@ -119,6 +137,7 @@ impl Value {
             Value::Status(end) => Ok(Value::Status(*end)),
             Value::History(row) => Ok(Value::History(*row)),
             Value::Failsafe(members) => Ok(Value::Failsafe(*members)),
+            Value::Scheduled(planned) => Ok(Value::Scheduled(*planned)),
         }
     }
 }

@@ -4,7 +4,7 @@ ghost use Rattle.summary_model.specs.Noting.{ticks_after, first_if, is_past_marg
 
 use event_book::{AgentEvent, EventKind, ReplicationEvent, ServerEvent, StoreEvent, WatchdogEvent};
 use pat_base::{MemberId, Name, Ticks};
-use store_keys::Txn;
+use store_keys::{OperatorTxn, Txn};
 use summary_model::{Breach, FirstMoment, Premises, Synchronous};
 
 /// The moment after an event.
@@ -95,7 +95,7 @@ fn breach_by_txn(txn: &Txn) -> Option<Breach>
     ensures { result ≡ breach_by_txn txn.now }
 {
     match txn {
-        Txn::SetConfig { config, .. } => pause_if(config.config().pause),
+        Txn::Operators(OperatorTxn::SetConfig { config, .. }) => pause_if(config.config().pause),
         _ => None,
     }
 }
@@ -166,7 +166,10 @@ fn keeps_mode_in_txn(on: bool, txn: &Txn) -> bool
     ensures { result ≡ keeps_mode_in_txn on txn.now }
 {
     match txn {
-        Txn::SetConfig { config, .. } => has_mode(on, config.config().synchronous_mode),
+        Txn::Operators(OperatorTxn::SetConfig { config, .. }) => has_mode(
+            on,
+            config.config().synchronous_mode,
+        ),
         _ => true,
     }
 }

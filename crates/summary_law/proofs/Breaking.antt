@@ -6,6 +6,7 @@ use Rattle.pat_base.specs.declared.name.Name.{Name}
 use Rattle.pat_base.specs.declared.ticks.Ticks.{Ticks}
 use Rattle.store_keys.specs.Settings.{Settings}
 use Rattle.store_keys.specs.declared.txn.Txn.TheVariants as txns
+use Rattle.store_keys.specs.declared.txn.OperatorTxn.TheVariants as operator_txns
 use Rattle.event_book.specs.declared.event.Event.{Event}
 use Rattle.event_book.specs.declared.event.EventKind.{EventKind}
 use Rattle.event_book.specs.declared.event.EventKind.TheVariants as kinds
@@ -135,17 +136,19 @@ pause-some true why e = (refl, some-is breaches.Pause why e)
 pause-some false why e = absurd (none-some why e)
 
 store-right : (happening : StoreEvent) → breach_by_store happening ≡ None → IsHandsOffKind (kinds.Store happening)
-store-right (stores.Granted number by (txns.SetConfig revision config) standbys) none =
+store-right (stores.Granted number by (txns.Operators (operator_txns.SetConfig revision config)) standbys) none =
     pause-none config.config.pause none
 store-right _ none = tt
 
 store-wrong : (margin : ℕ → Option ℕ) (moments : Moments) (happening : StoreEvent) (why : Breach)
     → breach_by_store happening ≡ Some why → IsWrong margin moments (kinds.Store happening) why
-store-wrong margin moments (stores.Granted number by (txns.SetConfig revision config) standbys) why some =
+store-wrong margin moments
+    (stores.Granted number by (txns.Operators (operator_txns.SetConfig revision config)) standbys) why some =
     let pauses = pause-some config.config.pause why some in
     record {
       told =
-          subst (λ w. IsBreachBy w (kinds.Store (stores.Granted number by (txns.SetConfig revision config) standbys)))
+          subst (λ w. IsBreachBy w
+          (kinds.Store (stores.Granted number by (txns.Operators (operator_txns.SetConfig revision config)) standbys)))
           pauses.1 pauses.0;
       fails = λ time off. both (sym off ∙ pauses.0);
     }

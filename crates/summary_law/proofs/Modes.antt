@@ -3,6 +3,7 @@ use Rattle.std.proofs.Common.{◌≡◌, List, [], ◌∷◌, ◌++◌, Bool, tr
 use Rattle.pat_base.specs.declared.ticks.Ticks.{Ticks}
 use Rattle.store_keys.specs.Settings.{Settings}
 use Rattle.store_keys.specs.declared.txn.Txn.TheVariants as txns
+use Rattle.store_keys.specs.declared.txn.OperatorTxn.TheVariants as operator_txns
 use Rattle.event_book.specs.declared.event.AgentEvent.{AgentEvent}
 use Rattle.event_book.specs.declared.event.AgentEvent.TheVariants as agents
 use Rattle.event_book.specs.declared.event.Event.{Event}
@@ -31,13 +32,14 @@ mode-other false false other is = both (sym other)
 
 store-keeps : (on : Bool) (happening : StoreEvent) → keeps_mode_in_store on happening ≡ true
     → KeepsMode on (kinds.Store happening)
-store-keeps on (stores.Granted number by (txns.SetConfig revision config) standbys) keeps =
+store-keeps on (stores.Granted number by (txns.Operators (operator_txns.SetConfig revision config)) standbys) keeps =
     mode-is on config.config.synchronous_mode keeps
 store-keeps on _ keeps = tt
 
 store-breaks : (on : Bool) (happening : StoreEvent) → keeps_mode_in_store on happening ≡ false
     → KeepsMode on (kinds.Store happening) → ⊥
-store-breaks on (stores.Granted number by (txns.SetConfig revision config) standbys) breaks keeps =
+store-breaks on (stores.Granted number by (txns.Operators (operator_txns.SetConfig revision config)) standbys) breaks
+    keeps =
     mode-other on config.config.synchronous_mode breaks keeps
 store-breaks on _ breaks keeps = both (sym breaks)
 

@@ -5,6 +5,7 @@ use Rattle.pat_base.specs.declared.ticks.Ticks.{Ticks}
 use Rattle.store_keys.specs.Settings.{Settings}
 use Rattle.store_keys.specs.declared.txn.Txn.{Txn}
 use Rattle.store_keys.specs.declared.txn.Txn.TheVariants as txns
+use Rattle.store_keys.specs.declared.txn.OperatorTxn.TheVariants as operator_txns
 use Rattle.event_book.specs.declared.event.AgentEvent.TheVariants as agents
 use Rattle.event_book.specs.declared.event.Event.{Event}
 use Rattle.event_book.specs.declared.event.EventKind.{EventKind}
@@ -57,7 +58,7 @@ works_of members m = is_working (slice_get members m)
 
 -- this granted transaction pauses the cluster
 abbrev pub PausesBy : Txn → Type 0
-PausesBy (txns.SetConfig revision config) = config.config.pause ≡ true
+PausesBy (txns.Operators (operator_txns.SetConfig revision config)) = config.config.pause ≡ true
 PausesBy _ = ⊥
 
 -- this event is the breach that is told: it is of the member, or the configuration
@@ -88,7 +89,7 @@ IsToldOfPremises members first book (premises.Broken tick why) = IsFirstBreach m
 
 -- a granted configuration has this mode
 abbrev pub HasMode : Bool → Txn → Type 0
-HasMode on (txns.SetConfig revision config) = config.config.synchronous_mode ≡ on
+HasMode on (txns.Operators (operator_txns.SetConfig revision config)) = config.config.synchronous_mode ≡ on
 HasMode on _ = Unit {0}
 
 -- in this event synchronous mode stays so, and no member outside the sync key takes the leader key

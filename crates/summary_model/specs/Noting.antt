@@ -4,6 +4,7 @@ use Rattle.pat_base.specs.declared.name.Name.{Name}
 use Rattle.pat_base.specs.declared.ticks.Ticks.{Ticks}
 use Rattle.store_keys.specs.declared.txn.Txn.{Txn}
 use Rattle.store_keys.specs.declared.txn.Txn.TheVariants as txns
+use Rattle.store_keys.specs.declared.txn.OperatorTxn.TheVariants as operator_txns
 use Rattle.event_book.specs.declared.event.AgentEvent.{AgentEvent}
 use Rattle.event_book.specs.declared.event.AgentEvent.TheVariants as agents
 use Rattle.event_book.specs.declared.event.EventKind.{EventKind}
@@ -77,7 +78,7 @@ breach_by_watchdog margins lateness _ = None
 
 -- the breach by a granted transaction: a configuration that pauses
 abbrev pub breach_by_txn : Txn → Option Breach
-breach_by_txn (txns.SetConfig revision config) = pause_if config.config.pause
+breach_by_txn (txns.Operators (operator_txns.SetConfig revision config)) = pause_if config.config.pause
 breach_by_txn _ = None
 
 -- the breach by what happens at the key store
@@ -114,7 +115,8 @@ has_mode false mode = not mode
 
 -- a granted configuration has the mode
 abbrev pub keeps_mode_in_txn : Bool → Txn → Bool
-keeps_mode_in_txn on (txns.SetConfig revision config) = has_mode on config.config.synchronous_mode
+keeps_mode_in_txn on (txns.Operators (operator_txns.SetConfig revision config)) =
+    has_mode on config.config.synchronous_mode
 keeps_mode_in_txn on _ = true
 
 -- so has one that is granted at the key store

@@ -12,6 +12,7 @@ use Rattle.store_keys.specs.declared.key.Key.TheVariants as keys
 use Rattle.store_keys.specs.declared.txn.Expected.{Expected}
 use Rattle.store_keys.specs.declared.txn.Expected.TheVariants.{Revision}
 use Rattle.store_keys.specs.declared.txn.Txn.TheVariants as txns
+use Rattle.store_keys.specs.declared.txn.SyncTxn.TheVariants as sync_txns
 use Rattle.store_keys.specs.declared.value.KeyEntry.{KeyEntry}
 use Rattle.store_keys.specs.declared.value.SyncKey.{SyncKey}
 use Rattle.store_keys.specs.declared.value.Value.TheVariants as values
@@ -114,12 +115,15 @@ pub record KeepsOrder (start : Facts) (noted : List Event → ℕ → ℕ) (book
   pub claims : (front back : List Event) (tick : Ticks) (number leader : ℕ) (by : Member) (sync : Expected)
       (names : List Name)
       → front
-      ++ record { tick = tick; kind = kinds.Store (stores.Granted number by (txns.Claim leader sync) names) } ∷ back
+      ++ record {
+        tick = tick;
+        kind = kinds.Store (stores.Granted number by (txns.Sync (sync_txns.Claim leader sync)) names);
+      } ∷ back
       ≡ book
       → IsNamed (facts_over start front).keys by.id.number
   -- who asked to publish standbys did so in order
   pub publishes : (front back : List Event) (tick : Ticks) (number incarnation sequence leader : ℕ)
-      (by : Member) (to : LinkEnd) (sync : Expected) (standbys : MemberSet)
+      (by : Member) (to : LinkEnd) (sync : Expected) (standbys : MemberSet) (may_lack : Option ℕ)
       → front ++ record {
         tick = tick;
         kind = kinds.Message (messages.Sent number (record {
@@ -127,7 +131,7 @@ pub record KeepsOrder (start : Facts) (noted : List Event → ℕ → ℕ) (book
           to = to;
           incarnation = incarnation;
           sequence = sequence;
-          body = bodies.Request (txns.SetSync leader sync standbys);
+          body = bodies.Request (txns.Sync (sync_txns.SetSync leader sync standbys may_lack));
         }));
       } ∷ back
       ≡ book

@@ -11,11 +11,12 @@ use Rattle.sync_state.specs.Candidates.{wanted_in}
 use Rattle.sync_state.specs.Published.{published_in}
 use Rattle.sync_state.specs.Sets.{nobody, set_of}
 
--- each member whose confirmation a commit waits for: nobody where it waits for any one
+-- each member whose confirmation a commit waits for: nobody where it waits for any one, or for so many of a set
 abbrev pub required_members : Required → MemberSet
 required_members required.Nobody = nobody
 required_members required.AnyOne = nobody
 required_members (required.All members) = members
+required_members (required.AtLeast number of) = nobody
 
 -- the noted position: 0 where none was noted
 abbrev pub noted_position : Option Lsn → ℕ

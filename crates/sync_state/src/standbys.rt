@@ -30,7 +30,7 @@ fn required_members(required: Required) -> MemberSet
     ensures { result ≡ required_members required }
 {
     match required {
-        Required::Nobody | Required::AnyOne => nobody(),
+        Required::Nobody | Required::AnyOne | Required::AtLeast { .. } => nobody(),
         Required::All(members) => members,
     }
 }

@@ -12,7 +12,10 @@ use cluster_config::ConfigText;
 use lease_store::StoreRefusal;
 use pat_base::{MemberId, Ticks, Word};
 use std::alloc::{AllocError, Global};
-use store_keys::{ConfigValue, Expected, FailoverKey, HistoryRow, Key, MemberInfo, Txn};
+use store_keys::{
+    ConfigValue, Expected, FailoverKey, HistoryRow, Key, LeaseTxn, MemberInfo, OperatorTxn,
+    SyncTxn, Txn,
+};
 
 /// How long each lease lasts.
 const TTL: Ticks = Ticks(300);
@@ -89,15 +92,18 @@ fn span(txn: &Txn) -> Ticks
 {
     match txn {
         Txn::Touch { ttl, .. }
-        | Txn::Create { ttl, .. }
-        | Txn::Renew { ttl, .. }
-        | Txn::SetFailover { ttl, .. } => *ttl,
-        Txn::Release { .. }
-        | Txn::Claim { .. }
-        | Txn::SetSync { .. }
-        | Txn::DropSync { .. }
-        | Txn::DropFailover { .. }
-        | Txn::SetConfig { .. } => Ticks(0),
+        | Txn::Lease(LeaseTxn::Create { ttl, .. })
+        | Txn::Lease(LeaseTxn::Renew { ttl, .. })
+        | Txn::Operators(OperatorTxn::SetFailover { ttl, .. })
+        | Txn::Operators(OperatorTxn::Fire { ttl, .. }) => *ttl,
+        Txn::Lease(LeaseTxn::Release { .. })
+        | Txn::Sync(SyncTxn::Claim { .. })
+        | Txn::Sync(SyncTxn::SetSync { .. })
+        | Txn::Sync(SyncTxn::DropSync { .. })
+        | Txn::Operators(OperatorTxn::DropFailover { .. })
+        | Txn::Operators(OperatorTxn::SetConfig { .. })
+        | Txn::Operators(OperatorTxn::Schedule { .. })
+        | Txn::Operators(OperatorTxn::Unschedule { .. }) => Ticks(0),
     }
 }
 
@@ -111,12 +117,12 @@ fn transaction(alloc: Global, bench: &Bench, by: MemberId, rest: &str) -> Result
         }
         "create" => {
             let info = info(bench, by, rest)?;
-            Ok(Txn::Create {
+            Ok(Txn::Lease(LeaseTxn::Create {
                 info,
                 ttl: TTL,
                 failsafe: None,
                 sync: None,
-            })
+            }))
         }
         "renew" => renewal(bench, by, rest),
         "hand-over" => hand_over(rest),
@@ -131,14 +137,14 @@ fn hand_over(rest: &str) -> Result<Txn, Stop> {
         leader: Some(member(leader)?),
         candidate: Some(member(candidate)?),
     };
-    Ok(Txn::SetFailover { failover, ttl: TTL })
+    Ok(Txn::Operators(OperatorTxn::SetFailover { failover, ttl: TTL }))
 }
 
 fn configuration(alloc: Global, rest: &str) -> Result<Txn, Stop> {
     let (revision, config) = first_word(rest);
     let revision = number(revision)?;
     let config = known(ConfigValue::read(alloc, config.as_bytes()).ok())?;
-    Ok(Txn::SetConfig { revision, config })
+    Ok(Txn::Operators(OperatorTxn::SetConfig { revision, config }))
 }
 
 /// A transaction that compares the leader key with the revision that comes first, and tells nothing of its member.
@@ -147,21 +153,22 @@ fn under_leader_key(kind: &str, rest: &str) -> Result<Txn, Stop> {
     let (sync, standbys) = first_word(rest);
     let revision = number(revision)?;
     match kind {
-        "release" => Ok(Txn::Release { revision }),
-        "drop-failover" => Ok(Txn::DropFailover { revision }),
-        "claim" => Ok(Txn::Claim {
+        "release" => Ok(Txn::Lease(LeaseTxn::Release { revision })),
+        "drop-failover" => Ok(Txn::Operators(OperatorTxn::DropFailover { revision })),
+        "claim" => Ok(Txn::Sync(SyncTxn::Claim {
             revision,
             sync: expected(sync)?,
-        }),
-        "publish" => Ok(Txn::SetSync {
+        })),
+        "publish" => Ok(Txn::Sync(SyncTxn::SetSync {
             revision,
             sync: expected(sync)?,
             standbys: members(standbys)?,
-        }),
-        "withdraw" => Ok(Txn::DropSync {
+            quorum: None,
+        })),
+        "withdraw" => Ok(Txn::Sync(SyncTxn::DropSync {
             revision,
             sync: number(sync)?,
-        }),
+        })),
         _ => Err(Stop::Unknown),
     }
 }
@@ -186,14 +193,14 @@ fn renewal(bench: &Bench, by: MemberId, rest: &str) -> Result<Txn, Stop> {
             _ => {}
         }
     }
-    Ok(Txn::Renew {
+    Ok(Txn::Lease(LeaseTxn::Renew {
         revision: number(revision)?,
         info: info(bench, by, options)?,
         ttl: TTL,
         status,
         row,
         failsafe,
-    })
+    }))
 }
 
 /// How a timeline ended, as `1@0/5000000@101@a`: which, where, when, and who leads the next.

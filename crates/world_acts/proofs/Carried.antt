@@ -5,9 +5,10 @@ use Rattle.std.proofs.lemmas.List.Elements.{All-head, All-tail}
 use Rattle.event_book.specs.declared.member.Member.{Member}
 use Rattle.event_list.specs.Listed.{Listed}
 use Rattle.agent_model.specs.declared.output.Output.{Output}
+use Rattle.agent_model.specs.declared.output.ServerOrder.{ServerOrder}
 use Rattle.agent_model.specs.Outputs.{most_outputs}
 use Rattle.cluster_model.specs.declared.heard_message.HeardMessage.{HeardMessage}
-use Rattle.cluster_model.specs.Messages.{output_events}
+use Rattle.cluster_model.specs.Messages.{order_events, output_events}
 use Rattle.cluster_model.specs.Parts.{each}
 use Rattle.cluster_model.specs.State.{Cluster}
 use Rattle.world_model.specs.Emits.{Emits}
@@ -90,3 +91,11 @@ pub carried : (cluster after : Cluster) (had has : Listed) (member : Member) (he
 carried cluster after had has member heard output this cost is less took =
     Emits-weaker cluster after had has (output_events member heard cluster output) cost output_cost
     (subst (λ (o : Output). Emits cluster after had has (output_events member heard cluster o) cost) (sym is) took) less
+
+-- so is an order of an agent to its server
+pub obeyed : (cluster after : Cluster) (had has : Listed) (member : Member) (order this : ServerOrder) (cost : ℕ)
+    → order ≡ this → cost ≤ output_cost → Emits cluster after had has (order_events cluster member this) cost
+    → Emits cluster after had has (order_events cluster member order) output_cost
+obeyed cluster after had has member order this cost is less took =
+    Emits-weaker cluster after had has (order_events cluster member order) cost output_cost
+    (subst (λ (o : ServerOrder). Emits cluster after had has (order_events cluster member o) cost) (sym is) took) less

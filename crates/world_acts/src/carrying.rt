@@ -4,22 +4,17 @@ ghost use Rattle.event_book.specs.declared.link.LinkEnd.{LinkEnd};
 ghost use Rattle.event_book.specs.Flight.{grant_for};
 ghost use Rattle.agent_model.specs.declared.output.Target.TheVariants as targets;
 ghost use Rattle.agent_model.specs.Outputs.{most_outputs};
-ghost use Rattle.cluster_model.specs.Messages.{output_events, receiver_of, replying_events, sending_events};
+ghost use Rattle.cluster_model.specs.Messages.{outgoing_events, output_events, receiver_of, replying_events, sending_events};
 ghost use Rattle.cluster_model.specs.Parts.{each};
 ghost use Rattle.world_model.specs.Emits.{Emits};
 ghost use Rattle.world_model.specs.Room.{HasRoom, output_cost, outputs_cost, sending_cost};
 ghost use Rattle.world_model.specs.Short.{IsShort};
-ghost use Rattle.agent_model.specs.Asked.{AsksShortly, IsAsked};
+ghost use Rattle.agent_model.specs.Asked.{AsksShortly, IsAsked, SendsShortly};
 
-use crate::repairing::repair_log;
-use crate::servers::{
-    begin, follow, require, restart_server, shut_down, start_replica, stop, wipe,
-};
-use crate::telling::{
-    tell_answer, tell_arming, tell_disarming, tell_failsafe_feeding, tell_feeding, tell_hold,
-    tell_note, tell_passing, tell_staying,
-};
-use agent_model::{Inquiry, Output, Target};
+use crate::obeying::obey;
+use crate::servers::require;
+use crate::telling::{feed, note, tell};
+use agent_model::{Inquiry, Outgoing, Output, Target};
 use cluster_model::HeardMessage;
 use event_book::{Body, LinkEnd, Member, Message};
 use event_list::EventList;
@@ -62,8 +57,29 @@ fn carry(
     ensures { OnOk result (Emits stage.old stage.new events.old events.new (output_events member heard stage.old output) output_cost) }
 {
     match output {
-        Output::Send { to, sequence, body } => write(stage, member, to, sequence, body, events),
-        Output::Answer {
+        Output::Message(written) => send(stage, member, written, events),
+        Output::Server(order) => obey(stage, member, order, events),
+        Output::Watchdog(fed) => feed(stage, member, heard, fed, events),
+        Output::Require { required } => require(stage, member, required, events),
+        Output::Tell(telling) => tell(stage, member, heard, telling, events),
+        Output::Note(noting) => note(stage, member, noting, events),
+    }
+}
+
+/// What the agent of a member writes to another end of a link goes out.
+fn send(
+    stage: &mut Stage,
+    member: Member,
+    written: Outgoing,
+    events: &mut EventList,
+) -> Result<(), AllocError>
+    requires room { HasRoom stage.old sending_cost }
+    requires short { SendsShortly written }
+    ensures { OnOk result (Emits stage.old stage.new events.old events.new (outgoing_events stage.old member written) sending_cost) }
+{
+    match written {
+        Outgoing::Send { to, sequence, body } => write(stage, member, to, sequence, body, events),
+        Outgoing::Answer {
             to,
             incarnation,
             sequence,
@@ -77,7 +93,7 @@ fn carry(
             Body::Answer(answer),
             events,
         ),
-        Output::FailsafeAnswer {
+        Outgoing::FailsafeAnswer {
             to,
             incarnation,
             sequence,
@@ -89,41 +105,6 @@ fn carry(
             incarnation,
             sequence,
             Body::FailsafeAnswer { accepted },
-            events,
-        ),
-        Output::Begin => begin(stage, member, events),
-        Output::StartReplica { leader } => start_replica(stage, member, leader, events),
-        Output::Stop { reason } => stop(stage, member, reason, events),
-        Output::ShutDown => shut_down(stage, member, events),
-        Output::Restart { .. } => restart_server(stage, member, events),
-        Output::Wipe => wipe(stage, member, events),
-        Output::Follow { leader } => follow(stage, member, leader, events),
-        Output::Repair { leader, repair } => repair_log(stage, member, repair, leader, events),
-        Output::Require { required } => require(stage, member, required, events),
-        Output::Armed { until } => tell_arming(stage, member, until, heard, events),
-        Output::Fed { until } => tell_feeding(stage, member, until, heard, events),
-        Output::FedByFailsafe {
-            until,
-            members,
-            sequence,
-            since,
-        } => tell_failsafe_feeding(stage, member, until, members, sequence, since, events),
-        Output::StaysByFailsafe => tell_staying(stage, member, events),
-        Output::Disarmed => tell_disarming(stage, member, events),
-        Output::ClaimsOutsideSync => tell_passing(stage, member, events),
-        Output::Note(note) => tell_note(stage, member, note, events),
-        Output::Told { told, .. } => tell_answer(stage, member, told, events),
-        Output::HoldTaken {
-            until,
-            from,
-            sequence,
-        } => tell_hold(
-            stage,
-            member,
-            until,
-            from,
-            heard.incarnation,
-            sequence,
             events,
         ),
     }

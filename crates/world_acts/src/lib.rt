@@ -2,6 +2,7 @@
 #![tactic(auto)]
 
 pub mod carrying;
+mod obeying;
 mod repairing;
 pub mod servers;
 mod sleepers;

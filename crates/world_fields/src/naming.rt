@@ -6,7 +6,7 @@ ghost use Rattle.cluster_model.specs.Orders.{required_names};
 use event_book::{Member, Names};
 use pat_base::Required;
 use std::alloc::{AllocError, Global};
-use store_keys::Txn;
+use store_keys::{SyncTxn, Txn};
 
 /// The names of those that commits wait for. It fails only for want of memory.
 pub fn required_names(
@@ -17,7 +17,7 @@ pub fn required_names(
     ensures { IfOk result (λ names. names ≡ required_names members.now required) }
 {
     match required {
-        Required::All(set) => Names::of(alloc, set, members),
+        Required::All(set) | Required::AtLeast { of: set, .. } => Names::of(alloc, set, members),
         _ => Ok(Names::none(alloc)),
     }
 }
@@ -27,7 +27,7 @@ pub fn published_names(alloc: Global, members: &[Member], txn: &Txn) -> Result<N
     ensures { IfOk result (λ names. names ≡ published_names members.now txn.now) }
 {
     match txn {
-        Txn::SetSync { standbys, .. } => Names::of(alloc, *standbys, members),
+        Txn::Sync(SyncTxn::SetSync { standbys, .. }) => Names::of(alloc, *standbys, members),
         _ => Ok(Names::none(alloc)),
     }
 }

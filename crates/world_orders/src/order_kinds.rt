@@ -1,12 +1,12 @@
 //! What orders of agents come to.
 ghost use Rattle.std.specs.Prelude.{ℕ, ◌≡◌, ◌<◌, ◌+◌, ◌^◌, IfSome, IfOk, Some, None, option_and_then, option_map, slice_get};
 ghost use Rattle.event_book.specs.Members.{server_of};
-ghost use Rattle.cluster_model.specs.Messages.{receiver_of};
+ghost use Rattle.cluster_model.specs.Messages.{noting_kind, receiver_of};
 ghost use Rattle.cluster_model.specs.Orders.{agent_noting, arming, barring, declared_member, declared_name, failsafe_feeding, feeding, following_of, hold_taken, is_same_required, require_of, spoken_of, stop_kind, stop_of, upstream_of, wipe_of};
 ghost use Rattle.cluster_model.specs.State.{Cluster};
 ghost use Rattle.world_model.specs.Comes.{MayCome};
 
-use agent_model::Target;
+use agent_model::{Noting, Target};
 use cluster_model::HeardMessage;
 use event_book::{
     AgentNote, Basis, EventKind, LinkEnd, LogEvent, Member, Note, ReplicationEvent, ServerEvent,
@@ -133,6 +133,13 @@ fn is_same_required(first: Required, second: Required) -> bool
         (Required::Nobody, Required::Nobody) => true,
         (Required::AnyOne, Required::AnyOne) => true,
         (Required::All(first), Required::All(second)) => first.bits == second.bits,
+        (
+            Required::AtLeast { number, of: first },
+            Required::AtLeast {
+                number: other,
+                of: second,
+            },
+        ) => number == other && first.bits == second.bits,
         _ => false,
     }
 }
@@ -202,8 +209,19 @@ pub fn failsafe_feeding(
     })
 }
 
-/// What the agent of a member notes, with the name of the member that it speaks of.
-pub fn agent_noting(members: &[Member], member: Member, note: AgentNote) -> EventKind
+/// What the agent of a member notes.
+pub fn noting_kind(members: &[Member], member: Member, noting: Noting) -> EventKind
+    ensures kind { result ≡ noting_kind members.now member noting }
+    ensures comes { (cluster : Cluster) → MayCome cluster result }
+{
+    match noting {
+        Noting::Agent(note) => agent_noting(members, member, note),
+        Noting::StaysByFailsafe => EventKind::Note(Note::StaysByFailsafe { member }),
+    }
+}
+
+/// A note with the name of the member that it speaks of.
+fn agent_noting(members: &[Member], member: Member, note: AgentNote) -> EventKind
     ensures kind { result ≡ agent_noting members.now member note }
     ensures comes { (cluster : Cluster) → MayCome cluster result }
 {

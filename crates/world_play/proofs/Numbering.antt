@@ -1,6 +1,5 @@
 -- What messages bring has greater numbers than what is in flight.
-use Rattle.std.proofs.Common.{◌≡◌, ℕ, ◌+◌, ◌≤◌, ◌<◌, ◌==◌, ◌&&◌, ◌||◌, nat_le, Bool, true, false, List, [], ◌∷◌, length, Option, Some, None, if◌then◌else◌, arith, refl, ap, ◌∙◌, cond, option_and_then}
-use Rattle.std.specs.Prelude.{slice_get, option_map}
+use Rattle.std.proofs.Common.{◌≡◌, ℕ, ◌+◌, ◌≤◌, ◌<◌, nat_le, Bool, true, false, List, [], ◌∷◌, length, Option, Some, None, arith, refl, ap, ◌∙◌, cond}
 use Rattle.std.specs.BTreeMap.{insert_entry, is_at}
 use Rattle.std.specs.Map.{remove_entry}
 use Rattle.std.specs.Ordering.{nat_cmp, is_eq, match_ordering, MatchOrdering}
@@ -10,59 +9,32 @@ use Rattle.std.proofs.lemmas.Cmp.{ranked}
 use Rattle.store_keys.specs.declared.txn.Txn.{Txn}
 use Rattle.lease_store.specs.Decision.{Decision, Grant, Refusal, decision_on}
 use Rattle.lease_store.specs.Keys.{Keys}
-use Rattle.wal_model.specs.declared.entry.Entry.{Entry}
-use Rattle.pat_base.specs.declared.server_state.State.{State}
-use Rattle.pat_base.specs.declared.server_state.State.TheVariants as states
-use Rattle.pat_base.specs.ServerState.{live}
-use Rattle.pg_model.specs.Facts.{ServerFacts, entries_of, is_creating, is_down, is_replica, is_up}
-use Rattle.pg_model.specs.Running.{is_primary}
-use Rattle.event_book.specs.declared.agent_process.AgentProcess.{AgentProcess}
 use Rattle.event_book.specs.declared.event.Event.{Event}
 use Rattle.event_book.specs.declared.event.EventKind.{EventKind}
 use Rattle.event_book.specs.declared.event.EventKind.TheVariants as kinds
-use Rattle.event_book.specs.declared.event.LogEvent.TheVariants as logs
 use Rattle.event_book.specs.declared.event.MessageEvent.TheVariants.{Sent, Delivered, Lost}
-use Rattle.event_book.specs.declared.event.ReplicationEvent.TheVariants as replications
-use Rattle.event_book.specs.declared.event.ServerEvent.TheVariants as servers
 use Rattle.event_book.specs.declared.link.LinkEnd.{LinkEnd}
 use Rattle.event_book.specs.declared.link.LinkEnd.TheVariants as ends
 use Rattle.event_book.specs.declared.member.Member.{Member}
 use Rattle.event_book.specs.declared.message.Body.{Body}
 use Rattle.event_book.specs.declared.message.Body.TheVariants as bodies
 use Rattle.event_book.specs.declared.message.Message.{Message}
-use Rattle.event_book.specs.declared.reason.Reason.{Reason}
 use Rattle.event_book.specs.Flight.{Flight, InFlightFacts, flight_after, in_flight, sent_after}
-use Rattle.event_book.specs.Members.{server_of}
-use Rattle.agent_model.specs.declared.operating.Told.{Told}
-use Rattle.agent_model.specs.declared.operating.Told.TheVariants as tolds
 use Rattle.agent_model.specs.declared.output.Output.{Output}
-use Rattle.agent_model.specs.declared.output.Output.TheVariants as outputs
-use Rattle.agent_model.specs.declared.output.Target.TheVariants as targets
-use Rattle.agent_model.specs.Agents.{AgentFacts}
-use Rattle.operator_answers.specs.Statuses.{ok}
-use Rattle.cluster_model.specs.declared.beginning.Beginning.{Beginning}
-use Rattle.cluster_model.specs.declared.beginning.Beginning.TheVariants as beginnings
 use Rattle.cluster_model.specs.declared.delivery.Delivery.{Delivery}
 use Rattle.cluster_model.specs.declared.delivery.Delivery.TheVariants as deliveries
 use Rattle.cluster_model.specs.declared.heard_message.HeardMessage.{HeardMessage}
-use Rattle.cluster_model.specs.Beginnings.{again_by, begin_kinds, beginning_of, kinds_by, server_restart_in, server_restart_kinds}
 use Rattle.cluster_model.specs.Cluster.{cluster_after, cluster_over}
-use Rattle.cluster_model.specs.Commands.{kinds_of}
 use Rattle.cluster_model.specs.Deliveries.{delivery_of}
 use Rattle.cluster_model.specs.Hearing.{heard_from}
-use Rattle.cluster_model.specs.Inputs.{agent_at, outcome_of_heard, outputs_of}
+use Rattle.cluster_model.specs.Inputs.{outcome_of_heard, outputs_of}
 use Rattle.cluster_model.specs.Limits.{most_in_flight}
-use Rattle.cluster_model.specs.Losing.{loss_if}
-use Rattle.cluster_model.specs.Messages.{answer_events_by, answer_message, arrival_events_at, decision_body, decision_events, heard_message, lost_at_once, message_events, message_events_by, output_events, receiver_of, send_events, sending_events, replying_events, server_order_events}
-use Rattle.cluster_model.specs.Orders.{arming, declared_member, failsafe_feeding, feed_kinds, feeding, following_of, hold_taken, is_same_required, replica_start_kinds, require_of, required_names, server_at, stop_kind, stop_kinds, stop_of, upstream_of, repair_over, wipe_of}
-use Rattle.rest_answer.specs.Replies.{json_of}
-use Rattle.cluster_model.specs.Requests.{replying, config_text_of, told_kind}
-use Rattle.cluster_model.specs.Parts.{each, events_of, for_some}
+use Rattle.cluster_model.specs.Messages.{answer_events_by, answer_message, arrival_events_at, decision_body, decision_events, heard_message, lost_at_once, message_events, message_events_by, output_events, send_events}
+use Rattle.cluster_model.specs.Parts.{each, for_some}
 use Rattle.cluster_model.specs.State.{Cluster}
-use Rattle.wal_model.specs.Lacking.{lacks_in}
 use Rattle.event_book.specs.Kinds.{AllAre}
-use Rattle.cluster_model.proofs.Founds.{holds-then, holds-if, repaired-holds}
-use Rattle.cluster_model.proofs.Lists.{AllKinds, HoldsIf, all-both, all-kinds, one-kind}
+use Rattle.cluster_model.proofs.Lists.{AllKinds, all-both, all-kinds}
+use Rattle.cluster_model.proofs.Outputs.{HoldsOfOutputs, output-holds}
 
 -- ---- the messages in flight
 no-yes : false ≡ true → ⊥
@@ -176,173 +148,43 @@ send-above last cluster message low =
     ∷ lost_at_once (nat_le most_in_flight (length cluster.facts.flight)) (cluster.facts.sent + 1))
     (omega (arith, low), lost-above last (nat_le most_in_flight (length cluster.facts.flight)) (cluster.facts.sent + 1))
 
-sending-above : (last : ℕ) (cluster : Cluster) (member : Member) (process : Option AgentProcess)
-    (to : Option LinkEnd) (sequence : ℕ) (body : Body) → last ≤ cluster.facts.sent
-    → AllAre (IsAbove last) (sending_events cluster member process to sequence body)
-sending-above last cluster member None to sequence body low = tt
-sending-above last cluster member (Some process) None sequence body low = tt
-sending-above last cluster member (Some process) (Some to) sequence body low = send-above last cluster _ low
-
-replying-above : (last : ℕ) (cluster : Cluster) (member : Member) (to : Option LinkEnd)
-    (incarnation sequence : ℕ) (body : Body) → last ≤ cluster.facts.sent
-    → AllAre (IsAbove last) (replying_events cluster member to incarnation sequence body)
-replying-above last cluster member None incarnation sequence body low = tt
-replying-above last cluster member (Some to) incarnation sequence body low = send-above last cluster _ low
-
-loss-above : (last : ℕ) (member : Member) (test : Bool) → AllKinds (IsAbove last) (kinds_of (loss_if member test))
-loss-above last member true = (tt, tt)
-loss-above last member false = tt
-
-beginning-above : (last : ℕ) (member : Member) (acknowledged : List ℕ) (log : Option (List Entry))
-    (beginning : Option Beginning) → AllKinds (IsAbove last) (kinds_by member acknowledged log beginning)
-beginning-above last member acknowledged log None = tt
-beginning-above last member acknowledged log (Some (beginnings.AtOnce timeline)) =
-    (tt, loss-above last member (lacks_in (entries_of log) acknowledged))
-beginning-above last member acknowledged log (Some beginnings.WithItsStart) = (tt, tt)
-
-begins-above : (last : ℕ) (cluster : Cluster) (member : Member) (found : Option ServerFacts)
-    → AllAre (IsAbove last) (for_some found (λ s. events_of cluster (begin_kinds member cluster.facts.acknowledged s)))
-begins-above last cluster member None = tt
-begins-above last cluster member (Some s) =
-    all-kinds (IsAbove last) cluster (begin_kinds member cluster.facts.acknowledged s)
-    (beginning-above last member cluster.facts.acknowledged s.log (beginning_of s))
-
-follow-above : (last : ℕ) (member : Member) (leader : Option Member)
-    → HoldsIf (IsAbove last) (following_of member leader)
-follow-above last member None = tt
-follow-above last member (Some leader) = tt
-
-upstream-above : (last : ℕ) (member : Member) (leader : Option Member) (test : Bool)
-    → HoldsIf (IsAbove last) (if test then following_of member leader else None)
-upstream-above last member leader true = follow-above last member leader
-upstream-above last member leader false = tt
-
-started-above : (last : ℕ) (member : Member) (leader : Option Member) (test : Bool)
-    → AllKinds (IsAbove last)
-    (if test then kinds.Server (servers.StartsAsReplica (server_of member)) ∷ kinds_of (following_of member leader)
-    else [])
-started-above last member leader true =
-    (tt, one-kind (IsAbove last) (following_of member leader) (follow-above last member leader))
-started-above last member leader false = tt
-
-starts-above : (last : ℕ) (cluster : Cluster) (member : Member) (leader : Option Member) (found : Option ServerFacts)
-    → AllAre (IsAbove last) (for_some found (λ s. events_of cluster (replica_start_kinds member leader s)))
-starts-above last cluster member leader None = tt
-starts-above last cluster member leader (Some s) = all-kinds (IsAbove last) cluster
-    (replica_start_kinds member leader s) (started-above last member leader (is_down s.state))
-
-stop-above : (last : ℕ) (member : Member) (test : Bool)
-    → IsAbove last
-    (if test then kinds.Server (servers.Ended (server_of member)) else kinds.Server (servers.Stops (server_of member)))
-stop-above last member true = tt
-stop-above last member false = tt
-
-stops-above : (last : ℕ) (cluster : Cluster) (member : Member) (reason : Reason) (found : Option ServerFacts)
-    → AllAre (IsAbove last) (for_some found (λ s. events_of cluster (stop_kinds member reason s)))
-stops-above last cluster member reason None = tt
-stops-above last cluster member reason (Some s) =
-    all-kinds (IsAbove last) cluster (stop_kinds member reason s) (
-      tt,
-      one-kind (IsAbove last) (stop_of member s)
-          (holds-if (IsAbove last) (is_up s.state) (stop_kind member s.state s.stop_delay)
-          (stop-above last member (is_primary s.state && s.stop_delay.0 == 0))),
-    )
-
-restart-above : (last : ℕ) (member : Member) (acknowledged : List ℕ) (state : State) (s : ServerFacts)
-    → AllKinds (IsAbove last) (server_restart_in member acknowledged state s)
-restart-above last member acknowledged states.Primary s =
-    (tt, beginning-above last member acknowledged s.log (Some (again_by s.timeline s.start_delay)))
-restart-above last member acknowledged states.Replica s = (tt, tt)
-restart-above last member acknowledged _ s = tt
-
-restarts-above : (last : ℕ) (cluster : Cluster) (member : Member) (found : Option ServerFacts)
-    → AllAre (IsAbove last)
-    (for_some found (λ s. events_of cluster (server_restart_kinds member cluster.facts.acknowledged s)))
-restarts-above last cluster member None = tt
-restarts-above last cluster member (Some s) =
-    all-kinds (IsAbove last) cluster (server_restart_kinds member cluster.facts.acknowledged s)
-    (restart-above last member cluster.facts.acknowledged s.state s)
-
-require-above : (last : ℕ) (kind : EventKind) (test : Bool) → IsAbove last kind
-    → HoldsIf (IsAbove last) (if test then None else Some kind)
-require-above last kind true is = tt
-require-above last kind false is = is
-
-mapped-above : {X : Type 0} (last : ℕ) (told : X → EventKind) (found : Option X)
-    → ((x : X) → IsAbove last (told x)) → HoldsIf (IsAbove last) (option_map told found)
-mapped-above last told None all = tt
-mapped-above last told (Some x) all = all x
-
-told-above : (last : ℕ) (member : Member) (agent : Option AgentFacts) (told : Told)
-    → HoldsIf (IsAbove last) (told_kind member agent told)
-told-above last member agent (tolds.Text status text) = tt
-told-above last member agent tolds.Written =
-    mapped-above last (λ text. replying member (json_of ok text)) (config_text_of agent) (λ text. tt)
-
-kinds-above : (last : ℕ) (cluster : Cluster) (kind : Option EventKind) → HoldsIf (IsAbove last) kind
-    → AllAre (IsAbove last) (events_of cluster (kinds_of kind))
-kinds-above last cluster kind is = all-kinds (IsAbove last) cluster (kinds_of kind) (one-kind (IsAbove last) kind is)
-
-server-order-above : (last : ℕ) (cluster : Cluster) (member : Member) (order : ServerFacts → Option EventKind)
-    → ((s : ServerFacts) → HoldsIf (IsAbove last) (order s))
-    → AllAre (IsAbove last) (server_order_events cluster member order)
-server-order-above last cluster member order all = kinds-above last cluster
-    (option_and_then order (server_at cluster member)) (holds-then (IsAbove last) order (server_at cluster member) all)
+-- only a message has a number
+holds-above : (last : ℕ) (cluster : Cluster) (member : Member) → last ≤ cluster.facts.sent
+    → HoldsOfOutputs (IsAbove last) cluster member
+holds-above last cluster member low = record {
+  messages = record { sent = λ target to found incarnation sequence body. omega (arith, low); lost = tt };
+  orders = λ order. record {
+    begins = λ is timeline. tt;
+    lacks = λ is. tt;
+    starts_as_primary = λ is. tt;
+    starts_as_replica = tt;
+    follows = λ leader. tt;
+    says = λ reason. tt;
+    ends = λ is. tt;
+    stops = λ is. tt;
+    wiped = λ is. tt;
+    rewound = λ is leader r. tt;
+    copied = λ is leader. tt;
+  };
+  feedings = record {
+    measured = λ since. tt;
+    armed = λ until answer. tt;
+    fed = λ until basis. tt;
+    disarmed = tt;
+  };
+  required = λ required names. tt;
+  tellings = λ telling. record {
+    answers = λ is reply. tt;
+    holds = λ until incarnation sequence from. tt;
+    passes = λ is. tt;
+  };
+  notes = record { agent = λ note about. tt; stays = tt };
+}
 
 output-above : (last : ℕ) (cluster : Cluster) (member : Member) (heard : HeardMessage) (output : Output)
     → last ≤ cluster.facts.sent → AllAre (IsAbove last) (output_events member heard cluster output)
-output-above last cluster member heard (outputs.Send to sequence body) low = sending-above last cluster member
-    (slice_get cluster.facts.processes member.id.number) (receiver_of cluster.facts.members to) sequence body low
-output-above last cluster member heard (outputs.Answer to incarnation sequence answer) low = replying-above last cluster
-    member (receiver_of cluster.facts.members (targets.Member to)) incarnation sequence (bodies.Answer answer) low
-output-above last cluster member heard (outputs.FailsafeAnswer to incarnation sequence accepted) low =
-    replying-above last cluster member (receiver_of cluster.facts.members (targets.Member to)) incarnation sequence
-    (bodies.FailsafeAnswer accepted) low
-output-above last cluster member heard outputs.Begin low = begins-above last cluster member (server_at cluster member)
-output-above last cluster member heard (outputs.StartReplica leader) low =
-    starts-above last cluster member (declared_member cluster.facts.members leader) (server_at cluster member)
-output-above last cluster member heard (outputs.Stop reason) low =
-    stops-above last cluster member reason (server_at cluster member)
-output-above last cluster member heard outputs.ShutDown low =
-    server-order-above last cluster member (stop_of member)
-    (λ s. holds-if (IsAbove last) (is_up s.state) (stop_kind member s.state s.stop_delay)
-    (stop-above last member (is_primary s.state && s.stop_delay.0 == 0)))
-output-above last cluster member heard (outputs.Restart as_primary) low =
-    restarts-above last cluster member (server_at cluster member)
-output-above last cluster member heard outputs.Wipe low =
-    server-order-above last cluster member (wipe_of member)
-    (λ s. require-above last (kinds.Log (logs.Wiped (server_of member))) (is_creating s.state || live s.state) tt)
-output-above last cluster member heard (outputs.Follow leader) low =
-    let found = slice_get cluster.facts.members leader.number in
-    server-order-above last cluster member (upstream_of member found)
-    (λ s. upstream-above last member found (is_replica s.state))
-output-above last cluster member heard (outputs.Repair leader repair) low =
-    let found = slice_get cluster.facts.members leader.number in
-    kinds-above last cluster
-    (option_and_then (repair_over cluster.facts.cuts cluster.facts.servers member repair) found)
-    (repaired-holds (IsAbove last) cluster.facts.cuts cluster.facts.servers member repair found
-    (λ other r. tt) (λ other. tt))
-output-above last cluster member heard (outputs.Require required) low =
-    server-order-above last cluster member (require_of cluster.facts.members member required)
-    (λ s. require-above last
-    (kinds.Replication (replications.RequiredSet (server_of member) required
-    (required_names cluster.facts.members required)))
-    (is_same_required s.required required) tt)
-output-above last cluster member heard (outputs.Armed until) low =
-    all-kinds (IsAbove last) cluster (feed_kinds member heard.sent (arming member until heard)) (tt, (tt, tt))
-output-above last cluster member heard (outputs.Fed until) low =
-    all-kinds (IsAbove last) cluster (feed_kinds member heard.sent (feeding member until heard)) (tt, (tt, tt))
-output-above last cluster member heard (outputs.FedByFailsafe until members sequence since) low =
-    all-kinds (IsAbove last) cluster
-    (feed_kinds member since (failsafe_feeding member until members sequence)) (tt, (tt, tt))
-output-above last cluster member heard (outputs.Told request told) low =
-    let agent = agent_at cluster.agents member.id.number in
-    kinds-above last cluster (told_kind member agent told) (told-above last member agent told)
-output-above last cluster member heard (outputs.HoldTaken until from sequence) low =
-    let found = slice_get cluster.facts.members from.number in
-    let hold = hold_taken member until heard.incarnation sequence in
-    kinds-above last cluster (option_map hold found) (mapped-above last hold found (λ from. tt))
-output-above last cluster member heard _ low = (tt, tt)
+output-above last cluster member heard output low =
+    output-holds (IsAbove last) cluster member heard (holds-above last cluster member low) output
 
 outputs-above : (last : ℕ) (cluster : Cluster) (member : Member) (heard : HeardMessage) (outs : List Output)
     → last ≤ cluster.facts.sent → AllAre (IsAbove last) (each (output_events member heard) cluster outs)

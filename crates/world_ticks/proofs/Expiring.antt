@@ -89,6 +89,7 @@ still-one cluster holder keys.Sync more rest = still-key cluster keys.Sync more 
 still-one cluster holder keys.Status more rest = still-key cluster keys.Status more rest
 still-one cluster holder (keys.History timeline) more rest = still-key cluster (keys.History timeline) more rest
 still-one cluster holder keys.Failsafe more rest = still-key cluster keys.Failsafe more rest
+still-one cluster holder keys.Scheduled more rest = still-key cluster keys.Scheduled more rest
 
 pub still-all : (cluster : Cluster) (holder : Option Member) (all : List Key)
     → IsStill cluster (record { 0 = cluster.facts.clock }) (expiries_of holder all)
