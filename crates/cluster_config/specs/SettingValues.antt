@@ -94,13 +94,13 @@ says_object None = false
 says_object (Some d) = is_object d
 
 -- quorum commit is a synchronous mode
-pub quorum-is_synchronous : (truth quorum : Bool) → (not quorum || (truth || quorum)) ≡ true
+abbrev pub quorum-is_synchronous : (truth quorum : Bool) → (not quorum || (truth || quorum)) ≡ true
 quorum-is_synchronous truth false = refl
 quorum-is_synchronous true true = refl
 quorum-is_synchronous false true = refl
 
 -- a standby cluster has neither mode
-pub standby-stands_alone : (is mode : Bool) → ((is && not mode) && mode) ≡ false
+abbrev pub standby-stands_alone : (is mode : Bool) → ((is && not mode) && mode) ≡ false
 standby-stands_alone false mode = refl
 standby-stands_alone true false = refl
 standby-stands_alone true true = refl
