@@ -46,7 +46,11 @@ fn server_calls(rt: HostRuntime) {
     has(&rt, &standing(&server), &(State::Primary, 2, Some(BASE)));
     has(&rt, &left_at(&server), &Some(BASE));
     has(&rt, &commit(&mut server, 5), &Ok(()));
-    has(&rt, &acknowledged(&mut server), &[None, Some(1), None, Some(1)]);
+    has(
+        &rt,
+        &acknowledged(&mut server),
+        &[None, Some(1), None, Some(1)],
+    );
     has(&rt, &server.confirmed(B), &Some(END));
     check_streams(&rt, rt.alloc(), &server);
 }
