@@ -99,6 +99,9 @@ leasing-is member incarnation sequence (txns.Lease (lease_txns.Create info ttl f
     create-leasing member incarnation sequence info ttl failsafe sync
 leasing-is member incarnation sequence (txns.Lease (lease_txns.Renew revision info ttl status row failsafe)) =
     renew-leasing member incarnation sequence revision info ttl status row failsafe
+leasing-is member incarnation sequence (txns.Sync (sync_txns.Claim revision sync)) = refl
+leasing-is member incarnation sequence (txns.Sync (sync_txns.SetSync revision sync standbys may_lack)) = refl
+leasing-is member incarnation sequence (txns.Sync (sync_txns.DropSync revision sync)) = refl
 leasing-is member incarnation sequence _ = refl
 
 create-named : (member incarnation sequence : ℕ) (info : MemberInfo) (ttl : Ticks) (failsafe sync : Option Expected)
