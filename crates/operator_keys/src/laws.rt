@@ -8,7 +8,7 @@ ghost use Rattle.serde_json.specs.Data.{Data};
 ghost use Rattle.cluster_view.specs.declared.view.AgentView.{AgentView};
 ghost use Rattle.cluster_config.specs.ConfigReading.{json_of};
 ghost use Rattle.cluster_view.specs.KeyValues.{config_in, failover_in, active_sync_in};
-ghost use Rattle.cluster_view.specs.Naming.{is_standby};
+ghost use Rattle.cluster_view.specs.Naming.{is_standby, leads};
 ghost use Rattle.cluster_view.specs.Snapshots.{SnapshotFacts, leader_in};
 ghost use Rattle.operator_keys.specs.Bodies.{text_at};
 ghost use Rattle.operator_keys.specs.Candidates.{anyone_may_take_over};
