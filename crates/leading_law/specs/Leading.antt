@@ -55,7 +55,7 @@ IsAnswer _ = ⊥
 
 -- a write of the sync key
 abbrev pub WritesSync : Txn → Type 0
-WritesSync (txns.Sync (sync_txns.SetSync revision sync standbys)) = Unit {0}
+WritesSync (txns.Sync (sync_txns.SetSync revision sync standbys quorum)) = Unit {0}
 WritesSync (txns.Sync (sync_txns.DropSync revision sync)) = Unit {0}
 WritesSync _ = ⊥
 

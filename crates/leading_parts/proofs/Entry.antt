@@ -21,7 +21,7 @@ use Rattle.lease_store.specs.KeyOrder.{key_cmp}
 use Rattle.lease_store.specs.Keys.{Keys, key_in, present}
 use Rattle.lease_store.proofs.Keeping.{find_present}
 use Rattle.lease_store.proofs.OneKey.{leader_after}
-use Rattle.cluster_view.specs.Snapshots.{leader_of_entry}
+use Rattle.cluster_view.specs.Snapshots.{found_by, leader_by}
 use Rattle.script_model.specs.Script.{HeadText}
 use Rattle.event_book.specs.declared.event.Event.{Event}
 use Rattle.event_book.specs.declared.event.EventKind.TheVariants as kinds
@@ -65,6 +65,7 @@ value-entry (values.Sync sync) revision expiry key is = absurd (none-some key is
 value-entry (values.Status end) revision expiry key is = absurd (none-some key is)
 value-entry (values.History row) revision expiry key is = absurd (none-some key is)
 value-entry (values.Failsafe members) revision expiry key is = absurd (none-some key is)
+value-entry (values.Scheduled planned) revision expiry key is = absurd (none-some key is)
 
 pub entry-of : (found : Option KeyEntry) (key : LeaderKey) → leader_key_of found ≡ Some key → IsEntryOf key found
 entry-of None key is = absurd (none-some key is)
@@ -91,7 +92,7 @@ entry-leader : (key : LeaderKey) (entries : List (Key × KeyEntry))
     → IsEntryOf key (find key_cmp keys.Leader entries) → ShowsKey key entries
 entry-leader key entries entry = record {
   leader = record { holder = entry.member; revision = key.revision };
-  is = ap leader_of_entry entry.is;
+  is = ap (found_by leader_by) entry.is;
   holder = entry.holder;
   revision = refl;
 }

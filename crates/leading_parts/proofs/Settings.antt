@@ -10,6 +10,7 @@ use Rattle.store_keys.specs.declared.txn.Txn.{Txn}
 use Rattle.store_keys.specs.declared.txn.Txn.TheVariants as txns
 use Rattle.store_keys.specs.declared.txn.LeaseTxn.TheVariants as lease_txns
 use Rattle.store_keys.specs.declared.txn.OperatorTxn.TheVariants as operator_txns
+use Rattle.store_keys.specs.declared.txn.SyncTxn.TheVariants as sync_txns
 use Rattle.store_keys.specs.declared.value.HistoryRow.{HistoryRow}
 use Rattle.store_keys.specs.declared.value.KeyEntry.{KeyEntry}
 use Rattle.lease_store.specs.Decision.{Decision, Grant, Refusal, decision_on}
@@ -41,12 +42,14 @@ use Rattle.leading_parts.proofs.Arrivals.{Answering, Behind, Decided, Later, Que
 abbrev IsOwn : Txn → Type 0
 IsOwn (txns.Operators (operator_txns.SetFailover failover ttl)) = ⊥
 IsOwn (txns.Operators (operator_txns.SetConfig revision config)) = ⊥
+IsOwn (txns.Operators (operator_txns.Fire revision scheduled failover ttl)) = ⊥
 IsOwn _ = Unit {0}
 
 own-granted : (cluster : Cluster) (number : ℕ) (by : Member) (txn : Txn)
     → GrantsNoOperator (decision_kind cluster.facts.members number by txn Grant) → IsOwn txn
 own-granted cluster number by (txns.Operators (operator_txns.SetFailover failover ttl)) none = none
 own-granted cluster number by (txns.Operators (operator_txns.SetConfig revision config)) none = none
+own-granted cluster number by (txns.Operators (operator_txns.Fire revision scheduled failover ttl)) none = none
 own-granted cluster number by _ none = tt
 
 carried-failover : (revision now : ℕ) (status : Option Lsn) (row : Option HistoryRow) (failsafe : Option MemberSet)
@@ -65,8 +68,12 @@ own-failover : (revision now : ℕ) (by : MemberId) (txn : Txn) → IsOwn txn
     → found_after_all revision now keys.Failover None (writes_of by txn) ≡ None
 own-failover revision now by (txns.Lease (lease_txns.Renew compared info ttl status row failsafe)) own =
     carried-failover revision now status row failsafe
+own-failover revision now by (txns.Sync (sync_txns.Claim compared sync)) own = refl
+own-failover revision now by (txns.Sync (sync_txns.SetSync compared sync standbys quorum)) own = refl
+own-failover revision now by (txns.Sync (sync_txns.DropSync compared sync)) own = refl
 own-failover revision now by (txns.Operators (operator_txns.SetFailover failover ttl)) own = absurd own
 own-failover revision now by (txns.Operators (operator_txns.SetConfig compared config)) own = absurd own
+own-failover revision now by (txns.Operators (operator_txns.Fire compared scheduled failover ttl)) own = absurd own
 own-failover revision now by _ own = refl
 
 own-sets : (H : Option KeyEntry → Type 0) (revision now : ℕ) (by : MemberId) (found : Option KeyEntry) (txn : Txn)

@@ -12,7 +12,7 @@ use Rattle.lease_store.specs.Answers.{present_pairs}
 use Rattle.lease_store.specs.Decision.{Decision}
 use Rattle.lease_store.specs.KeyOrder.{key_cmp}
 use Rattle.cluster_view.specs.declared.snapshot.LeaderEntry.{LeaderEntry}
-use Rattle.cluster_view.specs.Snapshots.{leader_of_entry}
+use Rattle.cluster_view.specs.Snapshots.{found_by, leader_by}
 use Rattle.event_book.specs.declared.event.EventKind.{EventKind}
 use Rattle.event_book.specs.declared.event.EventKind.TheVariants as kinds
 use Rattle.event_book.specs.declared.event.StoreEvent.TheVariants as stores
@@ -67,7 +67,7 @@ HasRoom cluster number = length (without_message cluster.facts.flight number) < 
 -- the entries that a message carries show this leader key
 pub record ShowsKey (key : LeaderKey) (entries : List (Key × KeyEntry)) : Type 0 where
   pub leader : LeaderEntry
-  pub is : leader_of_entry (find key_cmp keys.Leader entries) ≡ Some leader
+  pub is : found_by leader_by (find key_cmp keys.Leader entries) ≡ Some leader
   pub holder : leader.holder.number ≡ key.holder
   pub revision : leader.revision ≡ key.revision
 
@@ -105,6 +105,10 @@ GrantsNoOperator
     ⊥
 GrantsNoOperator
     (kinds.Store (stores.Granted number by (txns.Operators (operator_txns.SetConfig revision config)) standbys)) =
+    ⊥
+GrantsNoOperator
+    (kinds.Store (stores.Granted number by (txns.Operators (operator_txns.Fire revision scheduled failover ttl))
+    standbys)) =
     ⊥
 GrantsNoOperator _ = Unit {0}
 

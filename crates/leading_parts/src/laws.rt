@@ -22,7 +22,8 @@ ghost use Rattle.pat_base.specs.declared.member_set.MemberSet.{MemberSet};
 ghost use Rattle.pat_base.specs.declared.ticks.Ticks.{Ticks};
 ghost use Rattle.script_model.specs.Script.{HeadText};
 ghost use Rattle.std.specs.Prelude.{List, Option, Some, slice_get, true, ℕ, ◌+◌, ◌<◌, ◌≡◌, ◌≢◌};
-ghost use Rattle.store_keys.specs.declared.txn.Txn.TheVariants.{Renew};
+ghost use Rattle.store_keys.specs.declared.txn.LeaseTxn.TheVariants.{Renew};
+ghost use Rattle.store_keys.specs.declared.txn.Txn.TheVariants.{Lease};
 ghost use Rattle.store_keys.specs.declared.value.HistoryRow.{HistoryRow};
 ghost use Rattle.store_keys.specs.declared.value.MemberInfo.{MemberInfo};
 ghost use Rattle.event_book.specs.declared.link.LinkEnd.TheVariants as ends;
@@ -51,7 +52,7 @@ pub fn the_key_stays_its_holders()
         → IsAnswered carried.message Snapshot key (cluster.facts.sent + 1) (cluster_over cluster (arrival_events_at cluster number carried Store)) }
     ensures renews { (head : HeadText) (book : List Event) (cluster : Cluster) (key : LeaderKey) (number : ℕ) (carried : InFlightFacts) (info : MemberInfo) (ttl : Ticks) (status : Option Lsn) (row : Option HistoryRow) (failsafe : Option MemberSet)
         → Bridged head book cluster → HasKey key cluster
-        → in_flight cluster.facts.flight number ≡ Some carried → carried.message.to ≡ Store → carried.message.body ≡ Request (Renew key.revision info ttl status row failsafe) → HasRoom cluster number
+        → in_flight cluster.facts.flight number ≡ Some carried → carried.message.to ≡ Store → carried.message.body ≡ Request (Lease (Renew key.revision info ttl status row failsafe)) → HasRoom cluster number
         → IsRenewal carried.message number ttl.0 key cluster (cluster_over cluster (arrival_events_at cluster number carried Store)) }
     // A tick leaves the key that lasts past it.
     ensures ticks { (head : HeadText) (book : List Event) (cluster : Cluster) (key : LeaderKey) → Bridged head book cluster → HasKey key cluster → cluster.facts.clock + 1 < key.expiry

@@ -345,7 +345,7 @@ module _ (head : HeadText) (book : List Event) (member : Member) (cluster : Clus
 
 -- ---- its write of the sync key is decided
 not-lease : (txn : Txn) → WritesSync txn → is_lease txn ≡ false
-not-lease (txns.Sync (sync_txns.SetSync revision sync standbys)) writes = refl
+not-lease (txns.Sync (sync_txns.SetSync revision sync standbys quorum)) writes = refl
 not-lease (txns.Sync (sync_txns.DropSync revision sync)) writes = refl
 not-lease _ writes = absurd writes
 
