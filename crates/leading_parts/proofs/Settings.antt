@@ -35,22 +35,9 @@ use Rattle.cluster_model.specs.Cluster.{cluster_after, cluster_over}
 use Rattle.cluster_model.specs.Messages.{answer_events, answer_message, arrival_events_at, decision_body, decision_kind}
 use Rattle.cluster_model.specs.State.{Cluster}
 use Rattle.lease_parts.specs.Bridged.{Bridged}
+use Rattle.leading_parts.specs.Alone.{IsOwnRequest}
 use Rattle.leading_parts.specs.Holding.{GrantsNoOperator, LeavesSettings}
 use Rattle.leading_parts.proofs.Arrivals.{Answering, Behind, Decided, Later, Question, sent-keys, to-store}
-
--- no operator asks this
-abbrev IsOwn : Txn → Type 0
-IsOwn (txns.Operators (operator_txns.SetFailover failover ttl)) = ⊥
-IsOwn (txns.Operators (operator_txns.SetConfig revision config)) = ⊥
-IsOwn (txns.Operators (operator_txns.Fire revision scheduled failover ttl)) = ⊥
-IsOwn _ = Unit {0}
-
-own-granted : (cluster : Cluster) (number : ℕ) (by : Member) (txn : Txn)
-    → GrantsNoOperator (decision_kind cluster.facts.members number by txn Grant) → IsOwn txn
-own-granted cluster number by (txns.Operators (operator_txns.SetFailover failover ttl)) none = none
-own-granted cluster number by (txns.Operators (operator_txns.SetConfig revision config)) none = none
-own-granted cluster number by (txns.Operators (operator_txns.Fire revision scheduled failover ttl)) none = none
-own-granted cluster number by _ none = tt
 
 carried-failover : (revision now : ℕ) (status : Option Lsn) (row : Option HistoryRow) (failsafe : Option MemberSet)
     → found_after_all revision now keys.Failover None
@@ -64,7 +51,7 @@ carried-failover revision now (Some end) None (Some members) = refl
 carried-failover revision now (Some end) (Some row) None = refl
 carried-failover revision now (Some end) (Some row) (Some members) = refl
 
-own-failover : (revision now : ℕ) (by : MemberId) (txn : Txn) → IsOwn txn
+own-failover : (revision now : ℕ) (by : MemberId) (txn : Txn) → IsOwnRequest txn
     → found_after_all revision now keys.Failover None (writes_of by txn) ≡ None
 own-failover revision now by (txns.Lease (lease_txns.Renew compared info ttl status row failsafe)) own =
     carried-failover revision now status row failsafe
@@ -77,11 +64,11 @@ own-failover revision now by (txns.Operators (operator_txns.Fire compared schedu
 own-failover revision now by _ own = refl
 
 own-sets : (H : Option KeyEntry → Type 0) (revision now : ℕ) (by : MemberId) (found : Option KeyEntry) (txn : Txn)
-    → IsOwn txn → SetsConfig H revision now by found txn
+    → IsOwnRequest txn → SetsConfig H revision now by found txn
 own-sets H revision now by found (txns.Operators (operator_txns.SetConfig compared config)) own = absurd own
 own-sets H revision now by found _ own = tt
 
-own-config : (revision now : ℕ) (by : MemberId) (found : Option KeyEntry) (txn : Txn) → IsOwn txn
+own-config : (revision now : ℕ) (by : MemberId) (found : Option KeyEntry) (txn : Txn) → IsOwnRequest txn
     → found_after_all revision now keys.Config found (writes_of by txn) ≡ found
 own-config revision now by found txn own = config-after (λ o. o ≡ found) revision now by txn found
     (own-sets (λ o. o ≡ found) revision now by found txn own) refl
@@ -97,7 +84,7 @@ module _ (cluster : Cluster) (number : ℕ) where
       → GrantsNoOperator (decision_kind cluster.facts.members number by txn decision)
       → LeavesSettings cluster (Answering cluster number message by txn decision)
   answering-leaves by message txn Grant none =
-      let own = own-granted cluster number by txn none in
+      let own : IsOwnRequest txn = none in
       let same =
       sent-keys (Decided cluster number by txn Grant) (answer_message message (decision_body number txn Grant)) in
       let next : ℕ = cluster.facts.keys.revision + 1 in

@@ -23,10 +23,11 @@ IsWithStore n (ends.Member member) ends.Store = n ≡ member.id.number
 IsWithStore n ends.Store (ends.Member member) = n ≡ member.id.number
 IsWithStore n from to = ⊥
 
--- no operator's request is granted
+-- neither a failover nor a change of the configuration is asked for, of which a scheduled switchover that begins is one
 abbrev pub IsOwnRequest : Txn → Type 0
 IsOwnRequest (txns.Operators (operator_txns.SetFailover failover ttl)) = ⊥
 IsOwnRequest (txns.Operators (operator_txns.SetConfig revision config)) = ⊥
+IsOwnRequest (txns.Operators (operator_txns.Fire revision scheduled failover ttl)) = ⊥
 IsOwnRequest _ = Unit {0}
 
 -- what happens leaves the member of this number alone

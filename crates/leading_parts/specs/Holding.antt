@@ -6,7 +6,6 @@ use Rattle.store_keys.specs.declared.key.Key.TheVariants as keys
 use Rattle.store_keys.specs.declared.txn.Txn.{Txn}
 use Rattle.store_keys.specs.declared.txn.Txn.TheVariants as txns
 use Rattle.store_keys.specs.declared.txn.LeaseTxn.TheVariants as lease_txns
-use Rattle.store_keys.specs.declared.txn.OperatorTxn.TheVariants as operator_txns
 use Rattle.store_keys.specs.declared.value.KeyEntry.{KeyEntry}
 use Rattle.lease_store.specs.Answers.{present_pairs}
 use Rattle.lease_store.specs.Decision.{Decision}
@@ -25,6 +24,7 @@ use Rattle.event_book.specs.Flight.{Flight, InFlightFacts, grant_for, in_flight,
 use Rattle.cluster_model.specs.Limits.{most_in_flight}
 use Rattle.cluster_model.specs.Messages.{answer_message, decision_body}
 use Rattle.cluster_model.specs.State.{Cluster}
+use Rattle.leading_parts.specs.Alone.{IsOwnRequest}
 use Rattle.lease_book.specs.Flights.{Rises}
 use Rattle.lease_model.specs.Leases.{LeaderKey}
 use Rattle.lease_model.specs.Outcomes.{renewed}
@@ -100,16 +100,7 @@ pub record IsRenewal (question : Message) (request ttl : ℕ) (key : LeaderKey) 
 
 -- no operator's request is granted in this event
 abbrev pub GrantsNoOperator : EventKind → Type 0
-GrantsNoOperator
-    (kinds.Store (stores.Granted number by (txns.Operators (operator_txns.SetFailover failover ttl)) standbys)) =
-    ⊥
-GrantsNoOperator
-    (kinds.Store (stores.Granted number by (txns.Operators (operator_txns.SetConfig revision config)) standbys)) =
-    ⊥
-GrantsNoOperator
-    (kinds.Store (stores.Granted number by (txns.Operators (operator_txns.Fire revision scheduled failover ttl))
-    standbys)) =
-    ⊥
+GrantsNoOperator (kinds.Store (stores.Granted number by txn standbys)) = IsOwnRequest txn
 GrantsNoOperator _ = Unit {0}
 
 -- the configuration is as it was, and there is no failover key if there was none

@@ -10,7 +10,6 @@ use Rattle.store_keys.specs.declared.key.Key.TheVariants as keys
 use Rattle.store_keys.specs.declared.txn.Txn.{Txn}
 use Rattle.store_keys.specs.declared.txn.Txn.TheVariants as txns
 use Rattle.store_keys.specs.declared.txn.LeaseTxn.TheVariants as lease_txns
-use Rattle.store_keys.specs.declared.txn.OperatorTxn.TheVariants as operator_txns
 use Rattle.store_keys.specs.declared.value.HistoryRow.{HistoryRow}
 use Rattle.store_keys.specs.declared.value.MemberInfo.{MemberInfo}
 use Rattle.lease_store.specs.Answers.{present_pairs}
@@ -55,12 +54,7 @@ use Rattle.leading_runs.proofs.Stages.{Asked, Decides, Grants, InTurn, IsOwn, La
 
 -- ---- nobody operates
 none-operates : (n : ℕ) (cluster : Cluster) (kind : EventKind) → LeavesAlone n cluster kind → GrantsNoOperator kind
-none-operates n cluster
-    (kinds.Store (stores.Granted number by (txns.Operators (operator_txns.SetFailover failover ttl)) standbys)) alone =
-    alone
-none-operates n cluster
-    (kinds.Store (stores.Granted number by (txns.Operators (operator_txns.SetConfig revision config)) standbys)) alone =
-    alone
+none-operates n cluster (kinds.Store (stores.Granted number by txn standbys)) alone = alone
 none-operates n cluster _ alone = tt
 
 pub nobody-operates : (n : ℕ) (cluster : Cluster) (events : List Event) → LeaveAlone n cluster events

@@ -9,8 +9,8 @@ use Rattle.store_keys.specs.declared.key.Key.TheVariants as keys
 use Rattle.store_keys.specs.declared.txn.Txn.TheVariants as txns
 use Rattle.store_keys.specs.declared.txn.LeaseTxn.TheVariants as lease_txns
 use Rattle.lease_store.specs.KeyOrder.{key_cmp}
-use Rattle.cluster_view.specs.KeyValues.{failover_of_entry}
-use Rattle.cluster_view.specs.Snapshots.{SnapshotFacts}
+use Rattle.cluster_view.specs.KeyValues.{failover_by}
+use Rattle.cluster_view.specs.Snapshots.{SnapshotFacts, value_by}
 use Rattle.script_model.specs.Script.{HeadText}
 use Rattle.event_book.specs.declared.event.Event.{Event}
 use Rattle.event_book.specs.declared.event.EventKind.TheVariants as kinds
@@ -302,7 +302,7 @@ module _ (head : HeadText) (book : List Event) (member : Member) (cluster : Clus
   abbrev renews-mail : Mail member ThenR went.renews.waited went.asks.carried
   renews-mail = Renews went.renews.asks
       (went.renews.sent ∙ ap (λ (k : ℕ). let one : Ticks = record { 0 = k } in one) stands.clock_is)
-      went.renews.span (went.renews.failover ∙ ap failover_of_entry failover) went.renews.info went.renews.status
+      went.renews.span (went.renews.failover ∙ ap (value_by failover_by) failover) went.renews.info went.renews.status
       went.renews.row went.renews.listed
       (went.asks.message_is
       ∙ ap (λ (r : ℕ). Asked member seen went.renews.waited.sequence
