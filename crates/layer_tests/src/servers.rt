@@ -14,11 +14,11 @@ const B: MemberId = MemberId { number: 1 };
 
 const C: MemberId = MemberId { number: 2 };
 
-fn fresh(alloc: Global, base: u32) -> Result<Server, AllocError> {
+pub(crate) fn fresh(alloc: Global, base: u32) -> Result<Server, AllocError> {
     Server::new(alloc, u64::from(base))
 }
 
-fn promote(server: &mut Server) -> Result<(), InState> {
+pub(crate) fn promote(server: &mut Server) -> Result<(), InState> {
     if server.reserve().is_err() || server.timeline() > 9 {
         return Err(InState(State::Creating));
     }
@@ -46,7 +46,11 @@ fn server_calls(rt: HostRuntime) {
     has(&rt, &standing(&server), &(State::Primary, 2, Some(BASE)));
     has(&rt, &left_at(&server), &Some(BASE));
     has(&rt, &commit(&mut server, 5), &Ok(()));
-    has(&rt, &acknowledged(&mut server), &[None, Some(1), None, Some(1)]);
+    has(
+        &rt,
+        &acknowledged(&mut server),
+        &[None, Some(1), None, Some(1)],
+    );
     has(&rt, &server.confirmed(B), &Some(END));
     check_streams(&rt, rt.alloc(), &server);
 }
