@@ -14,6 +14,8 @@ mod listeners;
 #[cfg(test)]
 mod logs;
 #[cfg(test)]
+mod moments;
+#[cfg(test)]
 mod plain_log;
 #[cfg(test)]
 mod plain_store;
@@ -21,6 +23,8 @@ mod plain_store;
 mod random_calls;
 #[cfg(test)]
 mod random_logs;
+#[cfg(test)]
+mod remotes;
 #[cfg(test)]
 mod servers;
 #[cfg(test)]

@@ -14,11 +14,11 @@ const B: MemberId = MemberId { number: 1 };
 
 const C: MemberId = MemberId { number: 2 };
 
-fn fresh(alloc: Global, base: u32) -> Result<Server, AllocError> {
+pub(crate) fn fresh(alloc: Global, base: u32) -> Result<Server, AllocError> {
     Server::new(alloc, u64::from(base))
 }
 
-fn promote(server: &mut Server) -> Result<(), InState> {
+pub(crate) fn promote(server: &mut Server) -> Result<(), InState> {
     if server.reserve().is_err() || server.timeline() > 9 {
         return Err(InState(State::Creating));
     }
