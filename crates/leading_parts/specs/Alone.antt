@@ -23,7 +23,7 @@ IsWithStore n (ends.Member member) ends.Store = n ≡ member.id.number
 IsWithStore n ends.Store (ends.Member member) = n ≡ member.id.number
 IsWithStore n from to = ⊥
 
--- neither a failover nor a change of the configuration is asked for, of which a scheduled switchover that begins is one
+-- neither a failover is asked for, as by a scheduled switchover that begins, nor a change of the configuration
 abbrev pub IsOwnRequest : Txn → Type 0
 IsOwnRequest (txns.Operators (operator_txns.SetFailover failover ttl)) = ⊥
 IsOwnRequest (txns.Operators (operator_txns.SetConfig revision config)) = ⊥
