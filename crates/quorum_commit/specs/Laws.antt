@@ -1,0 +1,45 @@
+-- What overlap comes to, in sets of members.
+use Rattle.std.specs.Prelude.{ℕ, ◌≡◌, ◌≤◌, ◌<◌, ◌⊎◌}
+use Rattle.std.specs.Int.{bit_at}
+use Rattle.pat_base.specs.declared.member_set.MemberSet.{MemberSet}
+use Rattle.sync_state.specs.Laws.{IsWithin}
+use Rattle.quorum_commit.specs.declared.quorums.Need.{Need}
+use Rattle.quorum_commit.specs.declared.quorums.Quorum.{Quorum}
+use Rattle.quorum_commit.specs.Quorums.{size}
+
+-- the member of this number is in the set
+abbrev pub IsIn : ℕ → MemberSet → Type 0
+IsIn k set = bit_at set.bits k ≡ 1
+
+-- some member is in both sets
+pub record Share (one other : MemberSet) : Type 0 where
+  pub member : ℕ
+  pub first : IsIn member one
+  pub second : IsIn member other
+
+-- these standbys are more than may lack a commit: who takes part in a race that is won, the winner among them
+pub record Answers (key : Quorum) (members : MemberSet) : Type 0 where
+  pub standbys : IsWithin members key.standbys
+  pub enough : key.number < size members
+
+-- these members are as many as commits wait for
+pub record Acknowledges (need : Need) (members : MemberSet) : Type 0 where
+  pub needed : IsWithin members need.of
+  pub enough : need.number ≤ size members
+
+-- whoever answers in a race that is won, and whoever confirms a commit that is acknowledged, have a member in common
+abbrev pub Meet : Quorum → Need → Type 0
+Meet key need = (answering confirming : MemberSet) → Answers key answering → Acknowledges need confirming
+    → Share answering confirming
+
+-- of a key's standbys at most so many as its number aren't among the members that have something: those that are spared
+pub record FewLack (key : Quorum) (having : MemberSet) : Type 0 where
+  pub spared : MemberSet
+  pub few : size spared ≤ key.number
+  pub others : (k : ℕ) → IsIn k key.standbys → IsIn k spared ⊎ IsIn k having
+
+-- as many as commits wait for are among the members that have something
+pub record EnoughHave (need : Need) (having : MemberSet) : Type 0 where
+  pub members : MemberSet
+  pub acknowledges : Acknowledges need members
+  pub have : IsWithin members having

@@ -1,0 +1,26 @@
+//! What overlap comes to. Each is a function without a body whose contract is what is proved.
+ghost use Rattle.std.specs.Prelude.{◌≡◌, Bool, true};
+ghost use Rattle.pat_base.specs.declared.member_set.MemberSet.{MemberSet};
+ghost use Rattle.quorum_commit.specs.declared.quorums.Need.{Need};
+ghost use Rattle.quorum_commit.specs.declared.quorums.Quorum.{Quorum};
+ghost use Rattle.quorum_commit.specs.Laws.{Answers, EnoughHave, FewLack, Meet, Share};
+ghost use Rattle.quorum_commit.specs.Quorums.{may_publish, overlap};
+
+/// Where a key's standbys and its leader's need overlap, whoever answers in a race that is won, and whoever confirms a
+/// commit that is acknowledged, have a member in common.
+pub fn quorums_meet()
+    ensures { (key : Quorum) (need : Need) → overlap key need ≡ true → Meet key need }
+{}
+
+/// Where they overlap, and as many as commits wait for have a commit, at most so many standbys as the key's number lack
+/// it; and of more standbys than that one has it.
+pub fn few_standbys_lack_a_commit()
+    ensures few { (key : Quorum) (need : Need) (having : MemberSet) → overlap key need ≡ true → EnoughHave need having → FewLack key having }
+    ensures found { (key : Quorum) (having answering : MemberSet) → FewLack key having → Answers key answering → Share answering having }
+{}
+
+/// Where a quorum may be published in place of another of whose standbys few lack a commit, few of its own lack it:
+/// whether its members are counted, or those that the leader's need wants have confirmed.
+pub fn a_published_quorum_keeps_commits()
+    ensures { (old new : Quorum) (need : Need) (confirmed : Bool) (having : MemberSet) → may_publish old new need confirmed ≡ true → FewLack old having → (confirmed ≡ true → EnoughHave need having) → FewLack new having }
+{}
