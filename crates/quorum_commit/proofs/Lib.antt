@@ -1,3 +1,4 @@
 pub mod Counting
 pub mod Overlapping
 pub mod Sets
+pub mod WinningByQuorum

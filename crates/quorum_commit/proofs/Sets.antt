@@ -1,9 +1,12 @@
 -- The sizes of sets that are put together.
-use Rattle.std.proofs.Common.{◌≡◌, ℕ, ◌-◌, max, ap, arith}
+use Rattle.std.proofs.Common.{◌≡◌, ◌≢◌, ℕ, ◌+◌, ◌-◌, ◌<◌, max, Bool, true, false, map, take, get_or, ap, ◌∙◌, arith}
 use Rattle.std.specs.Int.{bit_at}
+use Rattle.std.specs.List.{range_with_len}
+use Rattle.std.proofs.lemmas.List.FromFn.{get_or-range_with_len}
+use Rattle.pat_base.specs.declared.member_id.TheConstants.{MOST_MEMBERS}
 use Rattle.pat_base.specs.declared.member_set.MemberSet.{MemberSet}
-use Rattle.sync_state.specs.Sets.{either}
-use Rattle.sync_state.proofs.SetBits.{either-is, same-set}
+use Rattle.sync_state.specs.Sets.{either, set_of}
+use Rattle.sync_state.proofs.SetBits.{either-is, same-set, set-in, set-out}
 use Rattle.quorum_commit.specs.Quorums.{difference, size}
 use Rattle.quorum_commit.proofs.Overlapping.{bit-le, bit-without}
 
@@ -25,3 +28,24 @@ difference-size one other result h =
       bit-le one.bits k,
       bit-le other.bits k,
     )))
+
+-- ---- a set that is put together member by member, by the numbers of those that are chosen
+number-at : (n : ℕ) → n < MOST_MEMBERS → get_or (range_with_len 0 MOST_MEMBERS) n 0 ≡ n
+number-at n below = get_or-range_with_len 0 MOST_MEMBERS n 0 below ∙ omega arith
+
+-- one more number, which is chosen
+pub numbered-in : (chosen : ℕ → Bool) (n : ℕ) (set next : MemberSet) → n < MOST_MEMBERS
+    → set ≡ set_of (take n (map chosen (range_with_len 0 MOST_MEMBERS))) → chosen n ≡ true → bit_at next.bits n ≡ 1
+    → ((k : ℕ) → k ≢ n → bit_at next.bits k ≡ bit_at set.bits k)
+    → next ≡ set_of (take (n + 1) (map chosen (range_with_len 0 MOST_MEMBERS)))
+numbered-in chosen n set next below so_far is here others =
+    set-in chosen (range_with_len 0 MOST_MEMBERS) n 0 set next below so_far
+    (ap chosen (number-at n below) ∙ is) here others
+
+-- one more, which isn't
+pub numbered-out : (chosen : ℕ → Bool) (n : ℕ) (set : MemberSet) → n < MOST_MEMBERS
+    → set ≡ set_of (take n (map chosen (range_with_len 0 MOST_MEMBERS))) → chosen n ≡ false
+    → set ≡ set_of (take (n + 1) (map chosen (range_with_len 0 MOST_MEMBERS)))
+numbered-out chosen n set below so_far isnt =
+    set-out chosen (range_with_len 0 MOST_MEMBERS) n 0 set below so_far
+    (ap chosen (number-at n below) ∙ isnt)

@@ -4,6 +4,10 @@
 
 mod laws;
 mod quorums;
+mod race;
 
-pub use laws::{a_published_quorum_keeps_commits, few_standbys_lack_a_commit, quorums_meet};
+pub use laws::{
+    a_published_quorum_keeps_commits, few_standbys_lack_a_commit, quorums_meet, who_wins_by_quorum,
+};
 pub use quorums::{Need, Quorum, may_publish, may_require, overlap};
+pub use race::{quorum_wins, wins_by};
