@@ -1,12 +1,12 @@
 -- The sizes of sets that are put together.
-use Rattle.std.proofs.Common.{◌≡◌, ◌≢◌, ℕ, ◌+◌, ◌-◌, ◌<◌, max, Bool, true, false, map, take, get_or, ap, ◌∙◌, arith}
+use Rattle.std.proofs.Common.{◌≡◌, ◌≢◌, min, ℕ, ◌+◌, ◌-◌, ◌<◌, max, Bool, true, false, map, take, get_or, ap, ◌∙◌, arith}
 use Rattle.std.specs.Int.{bit_at}
 use Rattle.std.specs.List.{range_with_len}
 use Rattle.std.proofs.lemmas.List.FromFn.{get_or-range_with_len}
 use Rattle.pat_base.specs.declared.member_id.TheConstants.{MOST_MEMBERS}
 use Rattle.pat_base.specs.declared.member_set.MemberSet.{MemberSet}
-use Rattle.sync_state.specs.Sets.{either, set_of}
-use Rattle.sync_state.proofs.SetBits.{either-is, same-set, set-in, set-out}
+use Rattle.sync_state.specs.Sets.{both, either, set_of}
+use Rattle.sync_state.proofs.SetBits.{both-is, either-is, same-set, set-in, set-out}
 use Rattle.quorum_commit.specs.Quorums.{difference, size}
 use Rattle.quorum_commit.proofs.Overlapping.{bit-le, bit-without}
 
@@ -15,6 +15,12 @@ pub either-size : (one other result : MemberSet)
     → ((k : ℕ) → bit_at result.bits k ≡ max (bit_at one.bits k) (bit_at other.bits k))
     → size result ≡ size (either one other)
 either-size one other result h = ap (λ (s : MemberSet). size s) (either-is one other result h)
+
+-- of those of both as many as these
+pub both-size : (one other result : MemberSet)
+    → ((k : ℕ) → bit_at result.bits k ≡ min (bit_at one.bits k) (bit_at other.bits k))
+    → size result ≡ size (both one other)
+both-size one other result h = ap (λ (s : MemberSet). size s) (both-is one other result h)
 
 -- and a set of the members of one that aren't in the other as many as those
 pub difference-size : (one other result : MemberSet)

@@ -25,9 +25,9 @@ pub fn quorum_wins(
 
 /// Whether a member that may race wins with quorum commit, by the answers of the others, in whatever order they came;
 /// or what bars it, by the first rule that applies. The leader that the sync key names gives way only to one that
-/// accepts writes. Any other is compared with the other standbys in the key that answered, may fail over and have a log:
-/// none may be ahead, and they have to be as many as may lack an acknowledged commit, so that one of them or itself has
-/// it. It takes no memory.
+/// accepts writes. Any other is compared with the other standbys in the key that answered, may fail over and have a
+/// log: none may be ahead, and they have to be as many as may lack an acknowledged commit, so that one of them or itself
+/// has it. It takes no memory.
 pub fn wins_by(
     view: &AgentView<'_>,
     keys: &RaceKeys,
