@@ -6,14 +6,14 @@ ghost use Rattle.leader_race.specs.Bars.{bar_where, first_bar};
 use pat_base::Ineligibility;
 
 /// This bars, where it is so.
-pub(crate) fn bar_where(applies: bool, bar: Ineligibility) -> Option<Ineligibility>
+pub fn bar_where(applies: bool, bar: Ineligibility) -> Option<Ineligibility>
     ensures { result ≡ bar_where applies bar }
 {
     if applies { Some(bar) } else { None }
 }
 
 /// What bars by the first of these rules that applies. `None` exactly where none does.
-pub(crate) fn first_bar(rules: &[Option<Ineligibility>]) -> Option<Ineligibility>
+pub fn first_bar(rules: &[Option<Ineligibility>]) -> Option<Ineligibility>
     ensures { result ≡ first_bar rules.now }
 {
     for rule in rules {
@@ -25,7 +25,7 @@ pub(crate) fn first_bar(rules: &[Option<Ineligibility>]) -> Option<Ineligibility
 }
 
 /// Whether nothing bars, or what does.
-pub(crate) fn judged(bar: Option<Ineligibility>) -> Result<(), Ineligibility>
+pub fn judged(bar: Option<Ineligibility>) -> Result<(), Ineligibility>
     ensures { result_err result ≡ bar }
 {
     match bar {

@@ -54,7 +54,7 @@ fn race_keys_in(seen: &Snapshot) -> RaceKeys
 }
 
 /// What the answers are compared with.
-fn racer_of(view: &AgentView<'_>, keys: &RaceKeys) -> Racer
+pub fn racer_of(view: &AgentView<'_>, keys: &RaceKeys) -> Racer
     ensures { result ≡ racer_of view.now keys.now }
 {
     Racer {
@@ -65,7 +65,8 @@ fn racer_of(view: &AgentView<'_>, keys: &RaceKeys) -> Racer
     }
 }
 
-fn other_writes(racer: &Racer, answers: &[PeerAnswer]) -> Option<Ineligibility>
+/// What bars where the server of another member accepts writes.
+pub fn other_writes(racer: &Racer, answers: &[PeerAnswer]) -> Option<Ineligibility>
     ensures { result ≡ other_writes racer.now answers.now }
 {
     match first_of(racer, Rule::OtherWrites, answers) {
@@ -74,7 +75,8 @@ fn other_writes(racer: &Racer, answers: &[PeerAnswer]) -> Option<Ineligibility>
     }
 }
 
-fn ahead(racer: &Racer, answers: &[PeerAnswer]) -> Option<Ineligibility>
+/// What bars where the log of a member that is compared ends further on.
+pub fn ahead(racer: &Racer, answers: &[PeerAnswer]) -> Option<Ineligibility>
     ensures { result ≡ ahead racer.now answers.now }
 {
     match first_of(racer, Rule::Ahead, answers) {
@@ -83,7 +85,8 @@ fn ahead(racer: &Racer, answers: &[PeerAnswer]) -> Option<Ineligibility>
     }
 }
 
-fn priority(racer: &Racer, answers: &[PeerAnswer]) -> Option<Ineligibility>
+/// What bars where the log of a member that is compared ends at the same position, and its priority is higher.
+pub fn priority(racer: &Racer, answers: &[PeerAnswer]) -> Option<Ineligibility>
     ensures { result ≡ priority racer.now answers.now }
 {
     match first_of(racer, Rule::Priority, answers) {
@@ -93,7 +96,7 @@ fn priority(racer: &Racer, answers: &[PeerAnswer]) -> Option<Ineligibility>
 }
 
 /// A rule that doesn't apply where this is so.
-fn unless(excepted: bool, bar: Option<Ineligibility>) -> Option<Ineligibility>
+pub fn unless(excepted: bool, bar: Option<Ineligibility>) -> Option<Ineligibility>
     ensures { result ≡ unless excepted bar }
 {
     if excepted { None } else { bar }
@@ -159,7 +162,7 @@ fn counts(me: MemberId, answer: &PeerAnswer) -> bool
 }
 
 /// Whether the member that answered is compared with the one that races.
-fn is_compared(racer: &Racer, answer: &PeerAnswer) -> bool
+pub fn is_compared(racer: &Racer, answer: &PeerAnswer) -> bool
     ensures { result ≡ is_compared racer.now answer.now }
 {
     counts(racer.me, answer) && is_standby_if(racer.sync, answer.member)

@@ -13,7 +13,7 @@ pub struct RaceKeys {
 
 /// A member that races: what the answers of others are compared with.
 #[derive(Clone, Copy)]
-pub(crate) struct Racer {
+pub struct Racer {
     pub me: MemberId,
     /// Where its log ends, if it has one.
     pub end: Option<Lsn>,
