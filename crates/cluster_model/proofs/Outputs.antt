@@ -18,6 +18,7 @@ use Rattle.event_book.specs.declared.event.EventKind.{EventKind}
 use Rattle.event_book.specs.declared.event.EventKind.TheVariants as kinds
 use Rattle.event_book.specs.declared.event.LogEvent.TheVariants as logs
 use Rattle.event_book.specs.declared.event.MessageEvent.TheVariants as messages
+use Rattle.event_book.specs.declared.event.Note.{Note}
 use Rattle.event_book.specs.declared.event.Note.TheVariants as notes
 use Rattle.event_book.specs.declared.event.ReplicationEvent.TheVariants as replications
 use Rattle.event_book.specs.declared.event.ServerEvent.TheVariants as servers
@@ -126,10 +127,11 @@ pub record HoldsOfTelling (P : EventKind → Type 0) (member : Member) (telling 
       → P (hold_taken member until incarnation sequence from)
   pub passes : IsPassing telling → P (kinds.Agent (agents.Passed member))
 
--- it holds of each note of an agent
-pub record HoldsOfNotes (P : EventKind → Type 0) (member : Member) : Type 0 where
-  pub agent : (note : AgentNote) (about : Option Name) → P (kinds.Note (notes.OfAgent member note about))
-  pub stays : P (kinds.Note (notes.StaysByFailsafe member))
+-- an agent has this printed, and changes nothing by it
+abbrev pub IsNoted : Note → Type 0
+IsNoted (notes.OfAgent member note about) = Unit {0}
+IsNoted (notes.StaysByFailsafe member) = Unit {0}
+IsNoted _ = ⊥
 
 -- it holds of each event that any output of the agent of a member may come to
 pub record HoldsOfOutputs (P : EventKind → Type 0) (cluster : Cluster) (member : Member) : Type 0 where
@@ -139,7 +141,7 @@ pub record HoldsOfOutputs (P : EventKind → Type 0) (cluster : Cluster) (member
   pub required : (required : Required) (names : List Name)
       → P (kinds.Replication (replications.RequiredSet (server_of member) required names))
   pub tellings : (telling : Telling) → HoldsOfTelling P member telling
-  pub notes : HoldsOfNotes P member
+  pub notes : (note : Note) → IsNoted note → P (kinds.Note note)
 
 module _ (P : EventKind → Type 0) (cluster : Cluster) (member : Member) where
   pub kind-holds : (found : Option EventKind) → HoldsIf P found → AllAre P (events_of cluster (kinds_of found))
@@ -304,9 +306,11 @@ module _ (P : EventKind → Type 0) (cluster : Cluster) (member : Member) where
       (slice_get cluster.facts.members from.number) (all.holds until heard.incarnation sequence)
   telling-holds heard tellings.ClaimsOutsideSync all = all.passes tt
 
-  pub noting-holds : HoldsOfNotes P member → (noting : Noting) → P (noting_kind cluster.facts.members member noting)
-  noting-holds all (notings.Agent note) = all.agent note (declared_name cluster.facts.members (spoken_of note))
-  noting-holds all notings.StaysByFailsafe = all.stays
+  pub noting-holds : ((note : Note) → IsNoted note → P (kinds.Note note)) → (noting : Noting)
+      → P (noting_kind cluster.facts.members member noting)
+  noting-holds all (notings.Agent note) =
+      all (notes.OfAgent member note (declared_name cluster.facts.members (spoken_of note))) tt
+  noting-holds all notings.StaysByFailsafe = all (notes.StaysByFailsafe member) tt
 
   pub output-holds : (heard : HeardMessage) → HoldsOfOutputs P cluster member → (output : Output)
       → AllAre P (output_events member heard cluster output)

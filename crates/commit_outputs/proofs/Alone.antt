@@ -237,7 +237,7 @@ module _ (setup : Setup) (member : Member) where
         (free-telling member telling (passes-alone telling alone))))
     output-moves past cluster (outputs.Note noting) fits table alone answers =
         free-moves past cluster (event_of cluster (noting_kind cluster.facts.members member noting)) fits
-        (noting-holds IsFree cluster member (record { agent = λ note about. tt; stays = tt }) noting, tt)
+        (noting-holds IsFree cluster member (λ note noted. tt) noting, tt)
 
     -- outputs that stand alone, of which none answers a member, are actions one after another, wherever servers fit
     pub alone-moves : (past : Past) (cluster : Cluster) (outs : List Output)

@@ -190,7 +190,7 @@ module _ (head : HeadText) where
       })))
   upholds-output member heard (outputs.Note noting) book cluster good =
       upheld-loseless head book cluster _ good
-      (noting-holds LosesNone cluster member (record { agent = λ note about. tt; stays = tt }) noting, tt)
+      (noting-holds LosesNone cluster member (λ note noted. tt) noting, tt)
 
   -- what an agent does behind an event
   input-upheld : (book : List Event) (cluster : Cluster) (kind : EventKind) (member : Member)

@@ -205,4 +205,4 @@ module _ (member : Member) (incarnation heard : ℕ) (Q : Output → Type 0) whe
       (runs.numbered from.number) is)
   output-mine cluster message at runs (outputs.Tell tellings.ClaimsOutsideSync) table is = ((refl, is), tt)
   output-mine cluster message at runs (outputs.Note noting) table is =
-      (noting-holds Mine cluster member (record { agent = λ note about. tt; stays = tt }) noting, tt)
+      (noting-holds Mine cluster member (λ note noted. tt) noting, tt)

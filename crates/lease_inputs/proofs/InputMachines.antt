@@ -657,7 +657,7 @@ module _ (member : Member) where
   }
   output-here cluster message machine (outputs.Note noting) table none held old =
       note-here cluster machine (Some (noting_kind cluster.facts.members member noting))
-      (noting-holds IsOfNote cluster member (record { agent = λ note about. tt; stays = tt }) noting) old
+      (noting-holds IsOfNote cluster member (λ note noted. tt) noting) old
   output-here cluster message machine (outputs.Tell tellings.ClaimsOutsideSync) table none held old = unmoved cluster
       (cluster_after cluster (kinds.Agent (agents.Passed member))) member.id.number machine refl refl refl old
   output-here cluster message machine (outputs.Server (orders.Restart as_primary)) table none held old =

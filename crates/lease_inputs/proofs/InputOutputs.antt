@@ -229,7 +229,7 @@ module _ (member : Member) (incarnation : ℕ) (message : HeardMessage) where
       holds = λ until asked sequence from. tt;
       passes = λ is. tt;
     };
-    notes = record { agent = λ note about. tt; stays = tt };
+    notes = λ note noted. tt;
   }
 
   -- each message of an input goes between members and the key store

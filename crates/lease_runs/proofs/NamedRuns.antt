@@ -97,7 +97,7 @@ module _ (head : HeadText) (few : length (names_of head) ≤ MOST_MEMBERS) where
         holds = λ until incarnation sequence from. tt;
         passes = λ passes. tt;
       };
-      notes = record { agent = λ note about. tt; stays = tt };
+      notes = λ note noted. tt;
     }
 
     upholds-output : (heard : HeardMessage) (output : Output)

@@ -19,6 +19,7 @@ use Rattle.event_book.specs.declared.event.Event.{Event}
 use Rattle.event_book.specs.declared.event.EventKind.{EventKind}
 use Rattle.event_book.specs.declared.event.EventKind.TheVariants as kinds
 use Rattle.event_book.specs.declared.event.MessageEvent.TheVariants as messages
+use Rattle.event_book.specs.declared.event.Note.{Note}
 use Rattle.event_book.specs.declared.event.Note.TheVariants as notes
 use Rattle.event_book.specs.declared.event.WatchdogEvent.TheVariants as watchdogs
 use Rattle.event_book.specs.declared.link.LinkEnd.{LinkEnd}
@@ -53,7 +54,7 @@ use Rattle.cluster_model.specs.Ticking.{completion_events, expiries_of, expiry_o
 use Rattle.leader_key.specs.Watchdog.{is_due_at}
 use Rattle.cluster_model.proofs.Founds.{holds-if, holds-then}
 use Rattle.cluster_model.proofs.Lists.{AllKinds, HoldsIf, all-both, all-kinds, kinds-both, one-kind}
-use Rattle.cluster_model.proofs.Outputs.{HoldsOfFeedings, HoldsOfOrder, IsAnswer, feeding-holds, kind-holds, message-holds, noting-holds, order-holds, required-holds, telling-holds}
+use Rattle.cluster_model.proofs.Outputs.{HoldsOfFeedings, HoldsOfOrder, IsAnswer, IsNoted, feeding-holds, kind-holds, message-holds, noting-holds, order-holds, required-holds, telling-holds}
 use Rattle.serve_model.specs.Connections.{reply_by, reply_in}
 
 -- no agent hears by such an event
@@ -144,6 +145,10 @@ silent-answer (tellings.Told request told) is answers = is
 silent-answer tellings.ClaimsOutsideSync is answers = answers
 silent-answer _ is answers = answers
 
+noted-apart : (note : Note) → IsNoted note → IsApart (kinds.Note note)
+noted-apart (notes.Answered by status json body) noted = absurd noted
+noted-apart _ noted = tt
+
 orders-apart : (member : Member) (order : ServerOrder) → HoldsOfOrder IsApart member order
 orders-apart member order = record {
   begins = λ is timeline. tt;
@@ -185,7 +190,7 @@ output-apart member heard cluster (outputs.Tell telling) is =
       passes = λ passes. tt;
     }))
 output-apart member heard cluster (outputs.Note noting) is =
-    (noting-holds IsApart cluster member (record { agent = λ note about. tt; stays = tt }) noting, tt)
+    (noting-holds IsApart cluster member noted-apart noting, tt)
 
 -- ---- a tick
 reset-apart : (cluster : Cluster) (member : Member) → AllAre IsApart (reset_events cluster member)

@@ -178,7 +178,7 @@ holds-above last cluster member low = record {
     holds = λ until incarnation sequence from. tt;
     passes = λ is. tt;
   };
-  notes = record { agent = λ note about. tt; stays = tt };
+  notes = λ note noted. tt;
 }
 
 output-above : (last : ℕ) (cluster : Cluster) (member : Member) (heard : HeardMessage) (output : Output)
