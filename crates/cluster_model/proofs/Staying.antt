@@ -13,7 +13,7 @@ use Rattle.event_book.specs.Flight.{Flight, flight_after, sent_after}
 use Rattle.event_book.specs.Frozen.{frozen_after}
 use Rattle.event_book.specs.Keys.{keys_after}
 use Rattle.event_book.specs.Links.{CutLinks, cuts_after}
-use Rattle.event_book.specs.Servers.{servers_after}
+use Rattle.event_book.specs.Servers.{remote_after, servers_after}
 use Rattle.event_book.specs.Watchdogs.{deadlines_after, holds_after}
 use Rattle.cluster_model.specs.Cluster.{agent_facts_after}
 use Rattle.cluster_model.specs.FailsafeDeadlines.{failsafe_deadlines_after}
@@ -71,15 +71,22 @@ pub numbers-stay : (last : ℕ) (kind : EventKind) → concern_of kind ≢ Messa
 numbers-stay last (kinds.Message happening) other = absurd (other refl)
 numbers-stay last _ other = refl
 
-pub servers-stay : (now : ℕ) (known : List ServerFacts) (kind : EventKind) → concern_of kind ≢ Time
-    → concern_of kind ≢ Servers → concern_of kind ≢ Logs → concern_of kind ≢ Replication
-    → concern_of kind ≢ Watchdogs → servers_after now known kind ≡ known
-servers-stay now known kinds.Tick time servers logs replication watchdogs = absurd (time refl)
-servers-stay now known (kinds.Watchdog happening) time servers logs replication watchdogs = absurd (watchdogs refl)
-servers-stay now known (kinds.Server happening) time servers logs replication watchdogs = absurd (servers refl)
-servers-stay now known (kinds.Log happening) time servers logs replication watchdogs = absurd (logs refl)
-servers-stay now known (kinds.Replication happening) time servers logs replication watchdogs = absurd (replication refl)
-servers-stay now known _ time servers logs replication watchdogs = refl
+pub servers-stay : (now : ℕ) (known : List ServerFacts) (remote : Option ServerFacts) (kind : EventKind)
+    → concern_of kind ≢ Time → concern_of kind ≢ Servers → concern_of kind ≢ Logs → concern_of kind ≢ Replication
+    → concern_of kind ≢ Watchdogs → servers_after now known remote kind ≡ known
+servers-stay now known remote kinds.Tick time servers logs replication watchdogs = absurd (time refl)
+servers-stay now known remote (kinds.Watchdog happening) time servers logs replication watchdogs =
+    absurd (watchdogs refl)
+servers-stay now known remote (kinds.Server happening) time servers logs replication watchdogs = absurd (servers refl)
+servers-stay now known remote (kinds.Log happening) time servers logs replication watchdogs = absurd (logs refl)
+servers-stay now known remote (kinds.Replication happening) time servers logs replication watchdogs =
+    absurd (replication refl)
+servers-stay now known remote _ time servers logs replication watchdogs = refl
+
+pub remote-stays : (remote : Option ServerFacts) (kind : EventKind) → concern_of kind ≢ Logs
+    → remote_after remote kind ≡ remote
+remote-stays remote (kinds.Log happening) other = absurd (other refl)
+remote-stays remote _ other = refl
 
 pub frozen-stay : (frozen : List Bool) (kind : EventKind) → concern_of kind ≢ Servers
     → frozen_after frozen kind ≡ frozen

@@ -12,7 +12,7 @@ ghost use Rattle.event_book.specs.Flight.{Flight, flight_after, sent_after};
 ghost use Rattle.event_book.specs.Frozen.{frozen_after};
 ghost use Rattle.event_book.specs.Keys.{keys_after};
 ghost use Rattle.event_book.specs.Links.{CutLinks, cuts_after};
-ghost use Rattle.event_book.specs.Servers.{servers_after};
+ghost use Rattle.event_book.specs.Servers.{remote_after, servers_after};
 ghost use Rattle.event_book.specs.Watchdogs.{deadlines_after, holds_after};
 ghost use Rattle.cluster_model.specs.Cluster.{agent_facts_after};
 ghost use Rattle.cluster_model.specs.FailsafeDeadlines.{failsafe_deadlines_after};
@@ -31,7 +31,8 @@ pub fn other_concerns_change_nothing()
     ensures links { (cuts : CutLinks) (kind : EventKind) → concern_of kind ≢ Links → cuts_after cuts kind ≡ cuts }
     ensures messages { (now : ℕ) (known : Keys) (flight : Flight) (kind : EventKind) → concern_of kind ≢ Messages → flight_after now known flight kind ≡ flight }
     ensures numbers { (last : ℕ) (kind : EventKind) → concern_of kind ≢ Messages → sent_after last kind ≡ last }
-    ensures servers { (now : ℕ) (known : List ServerFacts) (kind : EventKind) → concern_of kind ≢ Time → concern_of kind ≢ Servers → concern_of kind ≢ Logs → concern_of kind ≢ Replication → concern_of kind ≢ Watchdogs → servers_after now known kind ≡ known }
+    ensures servers { (now : ℕ) (known : List ServerFacts) (remote : Option ServerFacts) (kind : EventKind) → concern_of kind ≢ Time → concern_of kind ≢ Servers → concern_of kind ≢ Logs → concern_of kind ≢ Replication → concern_of kind ≢ Watchdogs → servers_after now known remote kind ≡ known }
+    ensures remote { (remote : Option ServerFacts) (kind : EventKind) → concern_of kind ≢ Logs → remote_after remote kind ≡ remote }
     ensures frozen { (frozen : List Bool) (kind : EventKind) → concern_of kind ≢ Servers → frozen_after frozen kind ≡ frozen }
     ensures commits { (last : ℕ) (kind : EventKind) → concern_of kind ≢ Logs → commits_after last kind ≡ last }
     ensures acknowledged { (told : List ℕ) (kind : EventKind) → concern_of kind ≢ Replication → acknowledged_after told kind ≡ told }

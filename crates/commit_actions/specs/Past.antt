@@ -333,7 +333,7 @@ log_found (Some log) = log
 -- the longest log up to an acknowledged commit, after an event
 abbrev pub acknowledged_log_after : Logs → List Entry → EventKind → List Entry
 acknowledged_log_after logs acknowledged_log (kinds.Replication (replications.Acknowledged server commit)) =
-    longer_log acknowledged_log (front_to commit (entries_of (log_found (slice_get logs server.id.number))))
+    longer_log acknowledged_log (front_to commit (entries_of (log_found (slice_get logs.members server.id.number))))
 acknowledged_log_after logs acknowledged_log _ = acknowledged_log
 
 -- what one more event leaves
@@ -418,7 +418,7 @@ machine_of past volatile_state m = record {
   writes = past.lease.writes m;
   required = confirmers_of (slice_get past.required m);
   confirmed = position_of (slice_get past.confirmed m);
-  log = log_found (slice_get past.logs m);
+  log = log_found (slice_get past.logs.members m);
   agent = volatile_state.agent;
   runs = past.lease.runs m;
 }

@@ -170,7 +170,7 @@ module _ (head : HeadText) (book : List Event) (cluster : Cluster) (good : Commi
       (stands head book cluster good a).end)
     where
       log-same : ((state_of_run head book cluster).members M).log ≡ (Later.members M).log
-      log-same = ap (λ (t : Told). log_found (slice_get t.logs M))
+      log-same = ap (λ (t : Told). log_found (slice_get t.logs.members M))
           (sym (front-told head book cluster good a Stood.outputs (carried Stood.outputs covered) of_table))
 
   pub answers-moves : ((peer : Member) → slice_get cluster.facts.members from.number ≡ Some peer →

@@ -435,7 +435,8 @@ module _ (head : HeadText) (book : List Event) (cluster : Cluster) (good : Commi
         → Fits (past_over P Page) (cluster_over cluster Page).facts states
     front-fits states lives =
         fits-told P (past_over P Page) cluster.facts (cluster_over cluster Page).facts States states
-        front-told front-servers (ap (λ (h : Held). h.commits) fronts.held ∙ opened.commits)
+        front-told front-servers (ap (λ (h : Held). h.remote) fronts.held ∙ opened.remote)
+        (ap (λ (h : Held). h.commits) fronts.held ∙ opened.commits)
         (ap (λ (h : Held). h.acknowledged) fronts.held ∙ opened.acknowledged) (λ n. lives n) good.fits.servers
 
     -- where no output sets it, commits wait for the same

@@ -24,6 +24,7 @@ pub record Opens (m : ℕ) (heard : Option ℕ) (past : Past) (cluster : Cluster
   pub leader : (past_after past kind).lease.leader ≡ past.lease.leader
   pub told : told_of (past_after past kind) ≡ told_of past
   pub servers : (cluster_after cluster kind).facts.servers ≡ cluster.facts.servers
+  pub remote : (cluster_after cluster kind).facts.remote ≡ cluster.facts.remote
   pub commits : (cluster_after cluster kind).facts.commits ≡ cluster.facts.commits
   pub acknowledged : (cluster_after cluster kind).facts.acknowledged ≡ cluster.facts.acknowledged
   pub processes : (cluster_after cluster kind).facts.processes ≡ cluster.facts.processes
@@ -38,6 +39,7 @@ opens m heard past cluster (kinds.Agent (agents.Woken by)) is =
       leader = refl;
       told = refl;
       servers = refl;
+      remote = refl;
       commits = refl;
       acknowledged = refl;
       processes = refl;
@@ -50,6 +52,7 @@ opens m heard past cluster (kinds.Agent (agents.Operated by action)) is =
       leader = refl;
       told = refl;
       servers = refl;
+      remote = refl;
       commits = refl;
       acknowledged = refl;
       processes = refl;
@@ -62,6 +65,7 @@ opens m heard past cluster (kinds.Message (Delivered number)) is =
       leader = refl;
       told = refl;
       servers = refl;
+      remote = refl;
       commits = refl;
       acknowledged = refl;
       processes = refl;

@@ -85,6 +85,7 @@ told_of past = record {
 -- what a cluster has of servers, of processes and of agents
 pub record Held : Type 0 where
   pub servers : List ServerFacts
+  pub remote : Option ServerFacts
   pub commits : ℕ
   pub acknowledged : List ℕ
   pub processes : List AgentProcess
@@ -93,6 +94,7 @@ pub record Held : Type 0 where
 abbrev pub held_by : Cluster → Held
 held_by cluster = record {
   servers = cluster.facts.servers;
+  remote = cluster.facts.remote;
   commits = cluster.facts.commits;
   acknowledged = cluster.facts.acknowledged;
   processes = cluster.facts.processes;

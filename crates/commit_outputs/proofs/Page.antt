@@ -42,7 +42,7 @@ use Rattle.commit_servers.proofs.Keeping.{sound-by}
 use Rattle.cluster_model.proofs.Places.{get-here}
 use Rattle.commit_showing.specs.Changes.{ChangeOrderOnce}
 use Rattle.commit_outputs.proofs.Covering.{IsCarried, NoneAbove, Told, told_of}
-use Rattle.event_book.specs.Logs.{logs_in}
+use Rattle.event_book.specs.Logs.{logs_of}
 use Rattle.event_book.specs.Required.{required_in, confirmed_in}
 use Rattle.commit_showing.specs.Showing.{AreOwn}
 use Rattle.commit_showing.specs.Books.{AllLeaveCommits}
@@ -151,13 +151,15 @@ told-logs : (a b : Told) → a ≡ b → a.logs ≡ b.logs
 told-logs a b e = ap (λ (t : Told). t.logs) e
 
 pub fits-told : (past later : Past) (before after : Facts) (states next : ℕ → VolatileState)
-    → told_of later ≡ told_of past → after.servers ≡ before.servers → after.commits ≡ before.commits
+    → told_of later ≡ told_of past → after.servers ≡ before.servers → after.remote ≡ before.remote
+    → after.commits ≡ before.commits
     → after.acknowledged ≡ before.acknowledged
     → ((n : ℕ) → (next n).live ≡ (states n).live) → Fits past before states → Fits later after next
-fits-told past later before after states next told servers commits acknowledged live fits = record {
+fits-told past later before after states next told servers remote commits acknowledged live fits = record {
   same = record {
     logs = ap (λ (t : Told). t.logs) told ∙ fits.same.logs
-        ∙ ap (λ (known : List ServerFacts). logs_in known) (sym servers);
+        ∙ ap (λ (known : List ServerFacts). logs_of known before.remote) (sym servers)
+        ∙ ap (logs_of after.servers) (sym remote);
     required = ap (λ (t : Told). t.required) told ∙ fits.same.required
         ∙ ap (λ (known : List ServerFacts). required_in known) (sym servers);
     confirmed = ap (λ (t : Told). t.confirmed) told ∙ fits.same.confirmed

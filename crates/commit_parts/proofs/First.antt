@@ -74,7 +74,7 @@ commits-first head is on unpaused =
     record {
       lease = bridged-first head (few-names head is) unpaused;
       fits = record {
-        store = book-first (logs_in start.servers) (required_in start.servers)
+        store = book-first (logs_in start) (required_in start.servers)
             (confirmed_in start.servers) head.config (names_of head) head.base;
         servers = subst (λ (v : ℕ → VolatileState). Fits (past_of head []) (cluster_of head).facts v) (sym same) fits;
         mode = synchronous-first head.config (names_of head) head.base on;
@@ -88,7 +88,7 @@ commits-first head is on unpaused =
         };
       };
       sound = subst (λ (v : ℕ → VolatileState). IsSound (state_of (setup_of head) (past_of head []) v)) (sym same)
-          (inv-first (setup_of head) (logs_in start.servers) (required_in start.servers)
+          (inv-first (setup_of head) (logs_in start) (required_in start.servers)
           (confirmed_in start.servers) (bytes-first head.config (names_of head) head.base is.base_least));
       asks = λ i carried e. absurd (none-some carried e);
       noted = λ m. record {

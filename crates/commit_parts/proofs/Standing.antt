@@ -117,13 +117,14 @@ module _ (head : HeadText) (book : List Event) (cluster : Cluster) (good : Commi
       let past : Past = past_of head book in
       let same = good.fits.servers.same in
       let sound : IsServerSound cluster.facts.commits s = good.fits.servers.sound.each k s found in
-      let log : log_found (slice_get past.logs k) ≡ s.log = ap log_found (log-at past cluster.facts same k s found) in
+      let log : log_found (slice_get past.logs.members k) ≡ s.log =
+      ap log_found (log-at past cluster.facts same k s found) in
       record {
         agent = ap agent_now there;
         live = ap live_now found ∙ ap live (sym made_is.state);
         required = ap confirmers_of (required-at past cluster.facts same k s found)
             ∙ ap (λ (r : Replication). confirmers_in r.required) (sym made_is.replication_is);
-        end = subst (λ (e : Option Lsn). IsEndOf e (log_found (slice_get past.logs k))) (sym made_is.end)
+        end = subst (λ (e : Option Lsn). IsEndOf e (log_found (slice_get past.logs.members k))) (sym made_is.end)
             (subst (λ (l : Option (List Entry)). IsEndOf (end_in s.log) l) (sym log) (end-is s.log sound.end));
         has_log = λ with_data. subst HasLog (sym log) (sound.log (ap has_data (sym made_is.state) ∙ with_data));
         connected = λ n end is.

@@ -20,7 +20,7 @@ setup_of head = record { member_count = member_count head; creates_compare = fal
 
 -- the past of a cluster that this is the beginning of
 abbrev pub first_past_of : Facts → Past
-first_past_of start = first_past (logs_in start.servers) (required_in start.servers) (confirmed_in start.servers)
+first_past_of start = first_past (logs_in start) (required_in start.servers) (confirmed_in start.servers)
 
 -- what commits read of this book over the cluster of this head
 abbrev pub past_of : HeadText → List Event → Past

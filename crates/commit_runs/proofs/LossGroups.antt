@@ -1,6 +1,6 @@
 -- What may bring a loss, a server that begins and a commit that is
 -- acknowledged, tells it; and a log that is repaired or wiped brings none.
-use Rattle.std.proofs.Common.{ℕ, ◌≡◌, ◌⊎◌, ◌<◌, ◌≤◌, ◌++◌, ◌&&◌, ◌∙◌, not, Bool, true, false, List, [], ◌∷◌, length, slice_get, Option, Some, None, option_map, take, zero, suc, refl, ap, sym, subst, inl, inr}
+use Rattle.std.proofs.Common.{ℕ, ◌≡◌, ◌⊎◌, ◌<◌, ◌≤◌, ◌++◌, ◌&&◌, ◌∙◌, not, Bool, true, false, List, [], ◌∷◌, length, map, slice_get, Option, Some, None, option_map, take, zero, suc, refl, ap, sym, subst, inl, inr}
 use Rattle.std.proofs.lemmas.Bool.{and_parts, cases_eq}
 use Rattle.std.proofs.lemmas.Option.{none-some, same_Some, slice_get-map, slice_get_within}
 use Rattle.pat_base.specs.Changes.{with_changed}
@@ -19,7 +19,7 @@ use Rattle.event_book.specs.declared.member.ServerOf.{ServerOf}
 use Rattle.event_book.specs.Acknowledged.{acknowledged_in}
 use Rattle.event_book.specs.Facts.{Facts}
 use Rattle.event_book.specs.Kept.{KeepsCommits}
-use Rattle.event_book.specs.Logs.{Logs, entries_at, entries_found, log_copied, logs_in, logs_over}
+use Rattle.event_book.specs.Logs.{Logs, MemberLogs, entries_at, entries_found, log_at, log_copied, logs_over}
 use Rattle.event_book.specs.Members.{server_of}
 use Rattle.event_book.specs.Writers.{Begins, BeginsKind, writes_in, writes_now}
 use Rattle.cluster_model.specs.Acknowledging.{acknowledge_kinds, acknowledgement, acknowledgements, ready_commits}
@@ -198,7 +198,7 @@ lacking-by test has e f = ap (λ (t : Bool). t && not has) e ∙ ap not f
 
 -- a book leaves the logs and the writers of these servers
 record Agrees (head : HeadText) (known : List ServerFacts) (book : List Event) : Type 0 where
-  logs : (past_of head book).logs ≡ logs_in known
+  logs : (past_of head book).logs.members ≡ map (λ s. s.log) known
   writing : (n : ℕ) → (past_of head book).lease.writes n ≡ writes_in known n
 
 module _ (head : HeadText) (known : List ServerFacts) (members : List Member) (member : Member)
@@ -207,7 +207,8 @@ module _ (head : HeadText) (known : List ServerFacts) (members : List Member) (m
       → slice_get known n ≡ Some s
       → has_serial (entries_at (logs_over (first_logs head) book) n) commit ≡ has_serial (entries_of s.log) commit
   serial-at book agrees n s commit at =
-      ap (λ (l : Logs). has_serial (entries_at l n) commit) (sym (book-logs head book) ∙ agrees.logs)
+      ap (λ (l : Logs). has_serial (entries_at l n) commit) (sym (book-logs head book))
+      ∙ ap (λ (l : MemberLogs). has_serial (entries_found (slice_get l n)) commit) agrees.logs
       ∙ ap (λ (o : Option (Option (List Entry))). has_serial (entries_found o) commit)
       (slice_get-map (λ (x : ServerFacts). x.log) known n ∙ ap (option_map (λ (x : ServerFacts). x.log)) at)
 
@@ -232,7 +233,7 @@ module _ (head : HeadText) (known : List ServerFacts) (members : List Member) (m
   agrees-more book cluster commit agrees =
       let more = past-more head book (event_now cluster (acknowledgement member commit) ∷ []) in
       record {
-        logs = ap (λ (p : Past). p.logs) more ∙ agrees.logs;
+        logs = ap (λ (p : Past). p.logs.members) more ∙ agrees.logs;
         writing = λ n. ap (λ (p : Past). p.lease.writes n) more ∙ agrees.writing n;
       }
 
@@ -309,7 +310,7 @@ upheld-acknowledge head few member book cluster good =
     (at.0, ap (λ (ms : List Member). slice_get ms n) good.members ∙ at.1, numbered head few n at.0 at.1)) in
     upheld-tells head book cluster (acknowledge_events cluster member) good
     (acknowledge-tells head cluster.facts.servers cluster.facts.members member finds found book cluster
-    (record { logs = good.same.logs; writing = good.same.writes }))
+    (record { logs = ap (λ (l : Logs). l.members) good.same.logs; writing = good.same.writes }))
     (all-quiet-begin (λ n. n < member_count head) (events_of cluster list)
     (all-kinds IsQuiet cluster list (acknowledge-quiet cluster.facts.servers cluster.facts.members member found)))
 
@@ -322,15 +323,17 @@ IsRepair _ = ⊥
 
 -- another log at a place where nobody writes
 hold-changed : (past : Past) (k : ℕ) (change : Option (List Entry) → Option (List Entry))
-    → past.lease.writes k ≡ false → KeepsNow past → KeepsNow (record past { logs = with_changed past.logs k change })
+    → past.lease.writes k ≡ false → KeepsNow past
+    → KeepsNow (record past { logs = record past.logs { members = with_changed past.logs.members k change } })
 hold-changed past k change quiet hold server writing commit told = elim (cases_eq server k) [
   | inl same ↦ absurd (both (sym quiet ∙ ap past.lease.writes (sym same) ∙ writing))
   | inr other ↦ subst (λ (o : Option (Option (List Entry))). has_serial (entries_found o) commit ≡ true)
-      (sym (changed-there past.logs k change server other)) (hold server writing commit told)
+      (sym (changed-there past.logs.members k change server other)) (hold server writing commit told)
 ]
 
 hold-copied : (past : Past) (k : ℕ) (found : Option (Option (List Entry))) → past.lease.writes k ≡ false
-    → KeepsNow past → KeepsNow (record past { logs = log_copied past.logs k found })
+    → KeepsNow past
+    → KeepsNow (record past { logs = record past.logs { members = log_copied past.logs.members k found } })
 hold-copied past k None quiet hold = hold
 hold-copied past k (Some theirs) quiet hold = hold-changed past k (λ log. theirs) quiet hold
 
@@ -345,7 +348,7 @@ hold-repaired past facts (kinds.Log (log_events.Rewound server from kept at)) sa
     hold-changed past server.id.number (λ log. Some (take kept (entries_of log)))
     (quiet-taker past facts server.id.number from.id.number same may.takes) hold
 hold-repaired past facts (kinds.Log (log_events.Copied server from)) same is may hold =
-    hold-copied past server.id.number (slice_get past.logs from.id.number)
+    hold-copied past server.id.number (log_at past.logs from.id.number)
     (quiet-taker past facts server.id.number from.id.number same may.takes) hold
 hold-repaired past facts (kinds.Log (log_events.Wiped server)) same is may hold =
     hold-changed past server.id.number (λ log. None)

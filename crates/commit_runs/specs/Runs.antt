@@ -18,7 +18,7 @@ start_in head = start_of head.config (names_of head) head.base
 
 -- the logs that the servers of this head begin with
 abbrev pub first_logs : HeadText → Logs
-first_logs head = logs_in (start_in head).servers
+first_logs head = logs_in (start_in head)
 
 -- the log position that a member's agent has noted at the end of a book of this head
 abbrev pub noted_in : HeadText → List Event → ℕ → ℕ

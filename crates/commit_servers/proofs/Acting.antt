@@ -31,6 +31,7 @@ use Rattle.event_book.specs.declared.event.WatchdogEvent.TheVariants as watchdog
 use Rattle.event_book.specs.declared.member.Member.{Member}
 use Rattle.event_book.specs.declared.member.ServerOf.{ServerOf}
 use Rattle.event_book.specs.Facts.{Facts, facts_after}
+use Rattle.event_book.specs.Logs.{Logs}
 use Rattle.event_book.specs.Clock.{now_after}
 use Rattle.event_book.specs.Writers.{writes_now, BeginsKind}
 use Rattle.lease_model.proofs.Tools.{some-is, both}
@@ -54,8 +55,8 @@ use Rattle.pat_base.specs.declared.member_id.TheConstants.{MOST_MEMBERS}
 -- ---- what the past has of a server that is there
 module _ (past : Past) (facts : Facts) (same : IsSameServers past facts) (k : ℕ) (s : ServerFacts)
     (found : slice_get facts.servers k ≡ Some s) where
-  pub log-at : slice_get past.logs k ≡ Some s.log
-  log-at = ap (λ known. slice_get known k) same.logs ∙ slice_get-map (λ s. s.log) facts.servers k
+  pub log-at : slice_get past.logs.members k ≡ Some s.log
+  log-at = ap (λ (known : Logs). slice_get known.members k) same.logs ∙ slice_get-map (λ s. s.log) facts.servers k
       ∙ ap (option_map (λ s. s.log)) found
 
   pub required-at : slice_get past.required k ≡ Some s.required
@@ -69,7 +70,7 @@ module _ (past : Past) (facts : Facts) (same : IsSameServers past facts) (k : �
   pub writes-at : past.lease.writes k ≡ writes s.state
   writes-at = same.writes k ∙ ap writes_now found
 
-  pub whole-log : HasLog s.log → log_found (slice_get past.logs k) ≡ Some (entries_of s.log)
+  pub whole-log : HasLog s.log → log_found (slice_get past.logs.members k) ≡ Some (entries_of s.log)
   whole-log has = ap log_found log-at ∙ has.is ∙ ap (λ (o : Option (List Entry)). Some (entries_of o)) (sym has.is)
 
 live-at : (volatile_states : ℕ → VolatileState) (known : List ServerFacts) (k : ℕ) (s : ServerFacts)
@@ -251,12 +252,12 @@ module _ (setup : Setup) (past : Past) (facts : Facts) (volatile_states : ℕ �
   acknowledge-allowed : (m commit : ℕ) (may : Acknowledges facts.servers m commit)
       → StandsIn (entries_of may.server.log) may.first
       → MayAcknowledge (state_of setup past volatile_states) m
-      (front_to commit (entries_of (log_found (slice_get past.logs m)))) commit
+      (front_to commit (entries_of (log_found (slice_get past.logs.members m)))) commit
   acknowledge-allowed m commit may stands =
       let s : ServerFacts = may.server in
       let log : List Entry = entries_of s.log in
       let sound : IsServerSound facts.commits s = fits.sound.each m s may.is in
-      let is_log : log_found (slice_get past.logs m) ≡ Some log =
+      let is_log : log_found (slice_get past.logs.members m) ≡ Some log =
       whole-log past facts fits.same m s may.is (sound.log (live-data s.state (writes-live s.state may.is_writer))) in
       let end : end_of (front_to commit log) ≡ may.first.end.position =
       ap (λ (n : ℕ). end_of (front_to n log)) may.commit_is ∙ stands.end in
@@ -287,7 +288,7 @@ module _ (setup : Setup) (past : Past) (facts : Facts) (volatile_states : ℕ �
   acknowledged-action server commit may =
       let m = server.id.number in
       record {
-        action = Acknowledge m (front_to commit (entries_of (log_found (slice_get past.logs m)))) commit;
+        action = Acknowledge m (front_to commit (entries_of (log_found (slice_get past.logs.members m)))) commit;
         allowed = acknowledge-allowed m commit may
             (subst (AllStandIn (entries_of may.server.log)) may.waiting
             (fits.sound.each m may.server may.is).waiting).0;

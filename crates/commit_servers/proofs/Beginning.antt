@@ -105,7 +105,8 @@ fits-agents past facts volatile_states m agent fits = record {
 
 -- ---- what changes no server but those whose start or stop is complete with a tick
 live-aside : (volatile_states : ℕ → VolatileState) (now : ℕ) (facts : Facts) (kind : EventKind) → IsAside kind
-    → IsLiveAs volatile_states facts.servers → IsLiveAs volatile_states (servers_after now facts.servers kind)
+    → IsLiveAs volatile_states facts.servers
+    → IsLiveAs volatile_states (servers_after now facts.servers facts.remote kind)
 live-aside volatile_states now facts kinds.Tick aside is = record {
   live = λ m. is.live m ∙ sym (live-ticked (record { 0 = now }) facts.servers m);
 }

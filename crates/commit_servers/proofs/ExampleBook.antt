@@ -103,13 +103,13 @@ example-follows first name other = (
 )
 
 first-waits : (first : Settings) (name other : Name) → let start = start_of first (name ∷ other ∷ []) 8 in
-    Fits (past_over (first_past (logs_in start.servers) (required_in start.servers) (confirmed_in start.servers))
+    Fits (past_over (first_past (logs_in start) (required_in start.servers) (confirmed_in start.servers))
     (beginning name other))
     (facts_over start (beginning name other))
     (λ m. record { live = live_in (facts_over start (beginning name other)).servers m; agent = None })
 first-waits first name other =
     let start : Facts = start_of first (name ∷ other ∷ []) 8 in
-    let past : Past = first_past (logs_in start.servers) (required_in start.servers) (confirmed_in start.servers) in
+    let past : Past = first_past (logs_in start) (required_in start.servers) (confirmed_in start.servers) in
     let names : List Name = other ∷ [] in
     let server : ServerOf = server_of (member_at 0 zero-one name) in
     let set : MemberSet = record { bits = 2 } in
@@ -126,7 +126,7 @@ first-waits first name other =
 
 pub example : (first : Settings) (name other : Name) → let start = start_of first (name ∷ other ∷ []) 8 in
     (before : List Event) × (volatile_states : ℕ → VolatileState) × (events : List Event)
-    × Fits (past_over (first_past (logs_in start.servers) (required_in start.servers) (confirmed_in start.servers))
+    × Fits (past_over (first_past (logs_in start) (required_in start.servers) (confirmed_in start.servers))
     before)
     (facts_over start before) volatile_states
     × MayFollow (facts_over start before) events

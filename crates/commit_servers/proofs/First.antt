@@ -62,7 +62,7 @@ bytes-in (suc count) base zero log least is =
 bytes-in (suc count) base (suc m) log least is = bytes-in count base m log least is
 
 pub bytes-first : (first : Settings) (names : List Name) (base : ℕ) → 1 ≤ base
-    → AllHaveBytes (logs_in (start_of first names base).servers)
+    → AllHaveBytes (logs_in (start_of first names base))
 bytes-first first names base least m log is = bytes-in (length names) base m log least is
 
 live-none : (count base m : ℕ) → false ≡ live_in (replicate count (fresh base)) m
@@ -76,7 +76,7 @@ live-first first names base = record { live = λ m. live-none (length names) bas
 
 pub fits-first : (first : Settings) (names : List Name) (base : ℕ) → base ≤ 2 ^ 40 →
     let facts = start_of first names base in
-    Fits (first_past (logs_in facts.servers) (required_in facts.servers) (confirmed_in facts.servers)) facts
+    Fits (first_past (logs_in facts) (required_in facts.servers) (confirmed_in facts.servers)) facts
     first_volatile_states
 fits-first first names base most = record {
   same = same-first first names base;

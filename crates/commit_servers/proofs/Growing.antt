@@ -98,7 +98,7 @@ abbrev Required_ : Past → ℕ → Confirmers
 Required_ past m = confirmers_of (slice_get past.required m)
 
 abbrev Log_ : Past → ℕ → Option (List Entry)
-Log_ past m = log_found (slice_get past.logs m)
+Log_ past m = log_found (slice_get past.logs.members m)
 
 event-follows : (past : Past) (kind : EventKind) (later : ℕ → Option (List Entry)) (m : ℕ)
     → Follows (Required_ past m) (Required_ (past_after past kind) m) (Log_ past m) (later m) (past.grown m)
@@ -106,15 +106,18 @@ event-follows : (past : Past) (kind : EventKind) (later : ℕ → Option (List E
 event-follows past (kinds.Replication (replications.RequiredSet server required names)) later m =
     let k : ℕ = server.id.number in
     put-all past.grown k
-    (grown_of (end_of (entries_found (slice_get past.logs k))) (past.grown k) (slice_get past.required k) required)
+    (grown_of (end_of (entries_found (slice_get past.logs.members k))) (past.grown k)
+    (slice_get past.required k) required)
     (λ n new. Follows (Required_ past n)
     (confirmers_of (slice_get (with_changed past.required k (λ (before : Required). required)) n))
     (Log_ past n) (later n) (past.grown n) new)
     (subst (λ (o : Option Required). Follows (Required_ past k) (confirmers_of o) (Log_ past k) (later k) (past.grown k)
-    (grown_of (end_of (entries_found (slice_get past.logs k))) (past.grown k) (slice_get past.required k) required))
+    (grown_of (end_of (entries_found (slice_get past.logs.members k))) (past.grown k)
+    (slice_get past.required k) required))
     (sym (get-here past.required k (λ (before : Required). required)))
     (sets-by (slice_get past.required k) required (Log_ past k) (later k)
-    (end_of (entries_found (slice_get past.logs k))) (past.grown k) (ap end_of (entries-same (slice_get past.logs k)))))
+    (end_of (entries_found (slice_get past.logs.members k))) (past.grown k)
+    (ap end_of (entries-same (slice_get past.logs.members k)))))
     (λ n other. Stays refl (ap confirmers_of (get-elsewhere past.required k n (λ (before : Required). required) other)))
     m
 event-follows past (kinds.Replication _) later m = Stays refl refl
@@ -155,7 +158,7 @@ events-follow past (event ∷ events) (inl order) once m =
       | inl commits ↦
           behind-aside past next (Required_ later) (Log_ past m) (Log_ later m) m (later.grown m)
           (aside-seen past event.kind order.0)
-          (subst (λ (l : Logs). Follows (Required_ next m) (Required_ later m) (log_found (slice_get l m))
+          (subst (λ (l : Logs). Follows (Required_ next m) (Required_ later m) (log_found (slice_get l.members m))
           (Log_ later m) (next.grown m) (later.grown m))
           (aside-logs past.logs event.kind commits.0)
           (events-follow next events order.1 commits.1 m))
@@ -164,7 +167,7 @@ events-follow past (event ∷ events) (inl order) once m =
           (aside-seen past event.kind order.0)
           (from-other (Required_ next m) (Required_ later m) (Log_ past m) (Log_ next m) (Log_ later m)
           (next.grown m) (later.grown m)
-          (ap (λ (l : Logs). log_found (slice_get l m)) (sym (all-logs-aside next events leave)))
+          (ap (λ (l : Logs). log_found (slice_get l.members m)) (sym (all-logs-aside next events leave)))
           (events-follow next events order.1 (once-of events leave) m))
     ]
 events-follow past (event ∷ events) (inr leave) once m =

@@ -22,7 +22,9 @@ use Rattle.event_book.specs.declared.event.WatchdogEvent.TheVariants as watchdog
 use Rattle.event_book.specs.Acknowledged.{commits_after}
 use Rattle.event_book.specs.Clock.{now_after}
 use Rattle.event_book.specs.Facts.{Facts, facts_after}
+use Rattle.event_book.specs.Remote.{server_at}
 use Rattle.event_book.specs.Servers.{becomes_copy, copied_by, cut_to, goes_back, loses_log, received_by, servers_after, servers_by, servers_by_log, servers_by_replication, servers_by_watchdog, starts_as_primary, starts_as_replica, stops}
+use Rattle.event_book.proofs.Remote.{server-listed}
 use Rattle.lease_model.proofs.Tools.{some-is, both}
 use Rattle.commit_actions.specs.States.{HasLog}
 use Rattle.commit_servers.specs.Sound.{IsServerSound, AreServersSound}
@@ -121,11 +123,13 @@ server-sound commits now known (servers.Thawed server) facts same leaves all = a
 quiet-taker : (known : List ServerFacts) (m from : ℕ) (takes : Takes known m from) → writes takes.server.state ≡ false
 quiet-taker known m from takes = not-live-quiet takes.server.state takes.not_live
 
-received-sound : (commits : ℕ) (known : List ServerFacts) (m from count : ℕ) → Receives known m from
-    → Each commits known → Each commits (received_by known m count (slice_get known from))
-received-sound commits known m from count may all =
+received-sound : (commits : ℕ) (known : List ServerFacts) (remote : Option ServerFacts) (m from count : ℕ)
+    → Receives known m from → Each commits known
+    → Each commits (received_by known m count (server_at known remote from))
+received-sound commits known remote m from count may all =
     let source : ServerFacts = may.takes.source in
-    subst (λ (o : Option ServerFacts). Each commits (received_by known m count o)) (sym may.takes.source_is)
+    subst (λ (o : Option ServerFacts). Each commits (received_by known m count o))
+    (sym (server-listed known remote from source may.takes.source_is))
     (this-sound commits known m (λ s. received_from count s source) may.takes.server may.takes.is
     (sound-received commits may.takes.server source count (quiet-taker known m from may.takes) may.prefix
     (all from source may.takes.source_is))
@@ -137,11 +141,13 @@ back-sound : (commits kept : ℕ) (s source : ServerFacts) (rewindable : Bool) �
 back-sound commits kept s source true e quiet is = sound-rewound commits s source kept quiet is
 back-sound commits kept s source false e quiet is = absurd (both e)
 
-rewound-sound : (commits : ℕ) (known : List ServerFacts) (m from kept : ℕ) → Rewinds known m from kept
-    → Each commits known → Each commits (with_changed known m (goes_back kept (slice_get known from)))
-rewound-sound commits known m from kept may all =
+rewound-sound : (commits : ℕ) (known : List ServerFacts) (remote : Option ServerFacts) (m from kept : ℕ)
+    → Rewinds known m from kept → Each commits known
+    → Each commits (with_changed known m (goes_back kept (server_at known remote from)))
+rewound-sound commits known remote m from kept may all =
     let source : ServerFacts = may.takes.source in
-    subst (λ (o : Option ServerFacts). Each commits (with_changed known m (goes_back kept o))) (sym may.takes.source_is)
+    subst (λ (o : Option ServerFacts). Each commits (with_changed known m (goes_back kept o)))
+    (sym (server-listed known remote from source may.takes.source_is))
     (this-sound commits known m (goes_back kept (Some source)) may.takes.server may.takes.is
     (back-sound commits kept may.takes.server source (is_rewindable may.takes.server.state) may.rewindable
     (quiet-taker known m from may.takes))
@@ -154,11 +160,12 @@ copy-sound commits s source true e quiet with_data source_is is =
     sound-cloned commits s source quiet (source_is.log with_data) source_is is
 copy-sound commits s source false e quiet with_data source_is is = absurd (both e)
 
-copied-sound : (commits : ℕ) (known : List ServerFacts) (m from : ℕ) → Copies known m from
-    → Each commits known → Each commits (copied_by known m (slice_get known from))
-copied-sound commits known m from may all =
+copied-sound : (commits : ℕ) (known : List ServerFacts) (remote : Option ServerFacts) (m from : ℕ)
+    → Copies known m from → Each commits known → Each commits (copied_by known m (server_at known remote from))
+copied-sound commits known remote m from may all =
     let source : ServerFacts = may.takes.source in
-    subst (λ (o : Option ServerFacts). Each commits (copied_by known m o)) (sym may.takes.source_is)
+    subst (λ (o : Option ServerFacts). Each commits (copied_by known m o))
+    (sym (server-listed known remote from source may.takes.source_is))
     (this-sound commits known m (becomes_copy source) may.takes.server may.takes.is
     (copy-sound commits may.takes.server source (is_creating may.takes.server.state) may.creating
     (quiet-taker known m from may.takes)
@@ -184,14 +191,14 @@ appended-sound facts m entry may all =
     (λ s is. sound-later facts.commits entry.serial s (omega (arith, may.next)) is) all
 
 log-sound : (facts : Facts) (happening : LogEvent) → MayHappenToLog facts happening → Each facts.commits facts.servers
-    → Each (commits_after facts.commits (kinds.Log happening)) (servers_by_log facts.servers happening)
+    → Each (commits_after facts.commits (kinds.Log happening)) (servers_by_log facts.servers facts.remote happening)
 log-sound facts (logs.Appended server entry) may all = appended-sound facts server.id.number entry may all
 log-sound facts (logs.Received server from count) may all =
-    received-sound facts.commits facts.servers server.id.number from.id.number count may all
+    received-sound facts.commits facts.servers facts.remote server.id.number from.id.number count may all
 log-sound facts (logs.Rewound server from kept at) may all =
-    rewound-sound facts.commits facts.servers server.id.number from.id.number kept may all
+    rewound-sound facts.commits facts.servers facts.remote server.id.number from.id.number kept may all
 log-sound facts (logs.Copied server from) may all =
-    copied-sound facts.commits facts.servers server.id.number from.id.number may all
+    copied-sound facts.commits facts.servers facts.remote server.id.number from.id.number may all
 log-sound facts (logs.Wiped server) may all = wiped-sound facts.commits facts.servers server.id.number may all
 
 -- ---- all else
@@ -216,7 +223,8 @@ watched-sound commits known (watchdogs.Measured member since) all = all
 watched-sound commits known (watchdogs.HoldTaken member until from incarnation sequence) all = all
 
 each-sound : (facts : Facts) (kind : EventKind) → LeavesSound facts kind → Each facts.commits facts.servers
-    → Each (commits_after facts.commits kind) (servers_after (now_after facts.clock kind) facts.servers kind)
+    → Each (commits_after facts.commits kind)
+    (servers_after (now_after facts.clock kind) facts.servers facts.remote kind)
 each-sound facts kinds.Tick leaves all =
     each-mapped (IsServerSound facts.commits) facts.servers (ticked_unless_live (record { 0 = facts.clock + 1 }))
     (sound-ticked facts.commits (record { 0 = facts.clock + 1 })) all

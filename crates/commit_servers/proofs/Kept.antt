@@ -1,5 +1,5 @@
 -- Behind such actions commits are kept, and who else is live.
-use Rattle.std.proofs.Common.{ℕ, ◌≡◌, List, [], ◌∷◌, ◌++◌, refl, ◌∙◌, ap, sym, subst, inr}
+use Rattle.std.proofs.Common.{ℕ, ◌≡◌, List, [], ◌∷◌, ◌++◌, Option, refl, ◌∙◌, ap, sym, subst, inr}
 use Rattle.pat_base.specs.declared.ticks.Ticks.{Ticks}
 use Rattle.pat_base.specs.Changes.{with_changed}
 use Rattle.pat_base.specs.ServerState.{live}
@@ -112,24 +112,27 @@ others-server now known (servers.Promoted server) m n here other = refl
 others-server now known (servers.Frozen server) m n here other = refl
 others-server now known (servers.Thawed server) m n here other = refl
 
-pub others-stay : (now : ℕ) (known : List ServerFacts) (kind : EventKind) (m n : ℕ) → MovesOnly m kind
-    → (n ≡ m → ⊥) → live_in (servers_after now known kind) n ≡ live_in known n
-others-stay now known kinds.Tick m n here other = live-ticked (record { 0 = now }) known n
-others-stay now known (kinds.Server happening) m n here other = others-server now known happening m n here other
-others-stay now known (kinds.Log happening) m n here other =
-    live-kept known _ n (logged-kept (λ s. live s.state) (λ s t live writes required confirmed. live) known happening)
-others-stay now known (kinds.Replication happening) m n here other =
+pub others-stay : (now : ℕ) (known : List ServerFacts) (remote : Option ServerFacts) (kind : EventKind) (m n : ℕ)
+    → MovesOnly m kind → (n ≡ m → ⊥) → live_in (servers_after now known remote kind) n ≡ live_in known n
+others-stay now known remote kinds.Tick m n here other = live-ticked (record { 0 = now }) known n
+others-stay now known remote (kinds.Server happening) m n here other = others-server now known happening m n here other
+others-stay now known remote (kinds.Log happening) m n here other =
+    live-kept known _ n
+    (logged-kept (λ s. live s.state) (λ s t live writes required confirmed. live) known remote happening)
+others-stay now known remote (kinds.Replication happening) m n here other =
     live-kept known _ n (replicated-kept (λ s. live s.state) (λ s t state log. ap live state) known happening)
-others-stay now known (kinds.Watchdog (watchdogs.Reset member)) m n here other =
+others-stay now known remote (kinds.Watchdog (watchdogs.Reset member)) m n here other =
     other-stays known member.id.number m n _ here other
-others-stay now known (kinds.Watchdog (watchdogs.Armed member until answer)) m n here other = refl
-others-stay now known (kinds.Watchdog (watchdogs.Fed member until basis)) m n here other = refl
-others-stay now known (kinds.Watchdog (watchdogs.Disarmed member)) m n here other = refl
-others-stay now known (kinds.Watchdog (watchdogs.Measured member since)) m n here other = refl
-others-stay now known (kinds.Watchdog (watchdogs.HoldTaken member until from incarnation sequence)) m n here other =
+others-stay now known remote (kinds.Watchdog (watchdogs.Armed member until answer)) m n here other = refl
+others-stay now known remote (kinds.Watchdog (watchdogs.Fed member until basis)) m n here other = refl
+others-stay now known remote (kinds.Watchdog (watchdogs.Disarmed member)) m n here other = refl
+others-stay now known remote (kinds.Watchdog (watchdogs.Measured member since)) m n here other = refl
+others-stay now known remote (kinds.Watchdog (watchdogs.HoldTaken member until from incarnation sequence)) m n here
+    other =
     refl
-others-stay now known _ m n here other = refl
+others-stay now known remote _ m n here other = refl
 
 pub others-by : (facts : Facts) (kind : EventKind) (m n : ℕ) → MovesOnly m kind → (n ≡ m → ⊥)
     → live_in (facts_after facts kind).servers n ≡ live_in facts.servers n
-others-by facts kind m n here other = others-stay (now_after facts.clock kind) facts.servers kind m n here other
+others-by facts kind m n here other =
+    others-stay (now_after facts.clock kind) facts.servers facts.remote kind m n here other

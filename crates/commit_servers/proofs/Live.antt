@@ -158,14 +158,14 @@ live-server volatile_states now known (servers.Thawed server) may is = is
 pub live-after : (volatile_states : ℕ → VolatileState) (now : ℕ) (facts : Facts) (kind : EventKind)
     → MayHappen facts kind
     → IsLiveAs volatile_states facts.servers
-    → IsLiveAs (volatile_after volatile_states kind) (servers_after now facts.servers kind)
+    → IsLiveAs (volatile_after volatile_states kind) (servers_after now facts.servers facts.remote kind)
 live-after volatile_states now facts kinds.Tick may is = absurd may
 live-after volatile_states now facts (kinds.Server happening) may is =
     live-server volatile_states now facts.servers happening may is
 live-after volatile_states now facts (kinds.Log happening) may is =
     stays volatile_states facts.servers _
     (λ m. live-kept facts.servers _ m
-    (logged-kept (λ s. live s.state) (λ s t live writes required confirmed. live) facts.servers happening))
+    (logged-kept (λ s. live s.state) (λ s t live writes required confirmed. live) facts.servers facts.remote happening))
     is
 live-after volatile_states now facts (kinds.Replication happening) may is =
     stays volatile_states facts.servers _

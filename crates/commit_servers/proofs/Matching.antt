@@ -1,5 +1,5 @@
 -- Each event leaves the same of servers by the law's definitions as by the book's.
-use Rattle.std.proofs.Common.{ℕ, ◌≡◌, ◌<◌, ◌≤◌, zero, suc, Bool, true, false, List, [], ◌∷◌, length, replicate, refl, ◌∙◌, ap, sym, ◌⊎◌, inl, inr, arith}
+use Rattle.std.proofs.Common.{ℕ, ◌≡◌, ◌<◌, ◌≤◌, zero, suc, Bool, true, false, List, [], ◌∷◌, length, replicate, Option, refl, ◌∙◌, ap, sym, ◌⊎◌, inl, inr, arith}
 use Rattle.std.proofs.lemmas.Option.{slice_get_cases, slice_get_past}
 use Rattle.pat_base.specs.declared.name.Name.{Name}
 use Rattle.store_keys.specs.Settings.{Settings}
@@ -73,15 +73,15 @@ writes-kind : (before after : ℕ → Bool) (kind : EventKind) (n : ℕ) → bef
 writes-kind before after kind n same =
     let event : Event = record { tick = record { 0 = 0 }; kind = kind } in writes-same before after (event ∷ []) n same
 
-writes-in : (before : ℕ → Bool) (now : ℕ) (known : List ServerFacts) (kind : EventKind)
+writes-in : (before : ℕ → Bool) (now : ℕ) (known : List ServerFacts) (remote : Option ServerFacts) (kind : EventKind)
     → BeginsKind (λ server. server < length known) kind
     → ((n : ℕ) → before n ≡ writes_in known n) → (n : ℕ)
-    → writes_after before kind n ≡ writes_in (servers_after now known kind) n
-writes-in before now known kind is same n = elim (slice_get_cases known n).1 [
-  | inl found ↦ writes-kind before (writes_in known) kind n (same n) ∙ sym (writes-of now known kind n found.1)
+    → writes_after before kind n ≡ writes_in (servers_after now known remote kind) n
+writes-in before now known remote kind is same n = elim (slice_get_cases known n).1 [
+  | inl found ↦ writes-kind before (writes_in known) kind n (same n) ∙ sym (writes-of now known remote kind n found.1)
   | inr past ↦
       no-writes before kind n (aside-past (length known) n kind past.0 is) (same n ∙ writes-past known n past.0)
-      ∙ sym (writes-past (servers_after now known kind) n (rw (count-of now known kind) past.0))
+      ∙ sym (writes-past (servers_after now known remote kind) n (rw (count-of now known remote kind) past.0))
 ]
 
 pub same-by : (past : Past) (facts : Facts) (kind : EventKind)
@@ -90,10 +90,12 @@ pub same-by : (past : Past) (facts : Facts) (kind : EventKind)
 same-by past facts kind is old =
     let now : ℕ = now_after facts.clock kind in
     record {
-      logs = ap (λ known. logs_after known kind) old.logs ∙ sym (logs-of now facts.servers kind);
-      required = ap (λ known. required_after known kind) old.required ∙ sym (required-of now facts.servers kind);
-      confirmed = ap (λ known. confirmed_after known kind) old.confirmed ∙ sym (confirmed-of now facts.servers kind);
-      writes = writes-in past.lease.writes now facts.servers kind is old.writes;
+      logs = ap (λ known. logs_after known kind) old.logs ∙ sym (logs-of facts kind);
+      required =
+          ap (λ known. required_after known kind) old.required ∙ sym (required-of now facts.servers facts.remote kind);
+      confirmed = ap (λ known. confirmed_after known kind) old.confirmed
+          ∙ sym (confirmed-of now facts.servers facts.remote kind);
+      writes = writes-in past.lease.writes now facts.servers facts.remote kind is old.writes;
       acknowledged = ap (λ told. acknowledged_after told kind) old.acknowledged;
     }
 
@@ -104,7 +106,7 @@ fresh-writes (suc count) base (suc n) = fresh-writes count base n
 
 pub same-first : (first : Settings) (names : List Name) (base : ℕ) →
     let facts = start_of first names base in
-    IsSameServers (first_past (logs_in facts.servers) (required_in facts.servers) (confirmed_in facts.servers)) facts
+    IsSameServers (first_past (logs_in facts) (required_in facts.servers) (confirmed_in facts.servers)) facts
 same-first first names base = record {
   logs = refl;
   required = refl;

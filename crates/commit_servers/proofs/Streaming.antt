@@ -28,7 +28,9 @@ use Rattle.event_book.specs.declared.member.Member.{Member}
 use Rattle.event_book.specs.Facts.{Facts, facts_after}
 use Rattle.event_book.specs.Links.{CutLinks, is_cut}
 use Rattle.event_book.specs.Members.{server_of}
+use Rattle.event_book.specs.Remote.{server_at}
 use Rattle.event_book.specs.Servers.{received_by}
+use Rattle.event_book.proofs.Remote.{server-listed}
 use Rattle.cluster_model.specs.Cluster.{cluster_after}
 use Rattle.cluster_model.specs.Next.{all_entries, confirm_events, receive_events, receive_events_at_most, receive_events_of}
 use Rattle.cluster_model.specs.State.{Cluster}
@@ -236,8 +238,10 @@ behind-received facts member from count between prefix =
     let source : ServerFacts = between.source in
     let after : List ServerFacts =
     with_changed facts.servers member.id.number (λ (t : ServerFacts). received_from count t source) in
-    let changed : received_by facts.servers member.id.number count (slice_get facts.servers from.id.number) ≡ after =
-    ap (received_by facts.servers member.id.number count) between.source_is in
+    let changed : received_by facts.servers member.id.number count
+    (server_at facts.servers facts.remote from.id.number) ≡ after =
+    ap (received_by facts.servers member.id.number count)
+    (server-listed facts.servers facts.remote from.id.number source between.source_is) in
     let other : from.id.number ≡ member.id.number → ⊥ = λ e.
     let same : s ≡ source =
     same_Some s source (sym between.is ∙ ap (slice_get facts.servers) (sym e) ∙ between.source_is) in

@@ -26,7 +26,7 @@ live_in servers m = live_now (slice_get servers m)
 -- a book's past has of servers what the book leaves: their logs, whom their commits wait for,
 -- what was confirmed to them, which of them accept writes, and which commits were acknowledged
 pub record IsSameServers (past : Past) (facts : Facts) : Type 0 where
-  pub logs : past.logs ≡ logs_in facts.servers
+  pub logs : past.logs ≡ logs_in facts
   pub required : past.required ≡ required_in facts.servers
   pub confirmed : past.confirmed ≡ confirmed_in facts.servers
   pub writes : (m : ℕ) → past.lease.writes m ≡ writes_in facts.servers m

@@ -35,7 +35,7 @@ ghost use Rattle.pat_base.specs.declared.member_id.TheConstants.{MOST_MEMBERS};
 /// own: each event keeps it, if only the server of a member begins.
 pub fn same_servers()
     ensures first { (first : Settings) (names : List Name) (base : ℕ) → let facts = start_of first names base in
-        IsSameServers (first_past (logs_in facts.servers) (required_in facts.servers) (confirmed_in facts.servers)) facts }
+        IsSameServers (first_past (logs_in facts) (required_in facts.servers) (confirmed_in facts.servers)) facts }
     ensures each { (past : Past) (facts : Facts) (kind : EventKind) → BeginsKind (λ server. server < length facts.servers) kind
         → IsSameServers past facts → IsSameServers (past_after past kind) (facts_after facts kind) }
 {}
@@ -47,7 +47,7 @@ pub fn servers_are_sound()
     // An event that may happen beside inputs of agents leaves servers sound.
     ensures may { (facts : Facts) (kind : EventKind) → MayHappen facts kind → LeavesSound facts kind }
     // What the law of commits asks of logs before the first event, and what is needed of members.
-    ensures bytes { (first : Settings) (names : List Name) (base : ℕ) → 1 ≤ base → AllHaveBytes (logs_in (start_of first names base).servers) }
+    ensures bytes { (first : Settings) (names : List Name) (base : ℕ) → 1 ≤ base → AllHaveBytes (logs_in (start_of first names base)) }
     ensures members { (first : Settings) (names : List Name) (base : ℕ) → length names ≤ MOST_MEMBERS → AreInPlace (start_of first names base).members }
     // A required list of sixteen bits is of members.
     ensures sets { (set : MemberSet) → set.bits < 2 ^ MOST_MEMBERS → WaitsForMembers (requireds.All set) }
@@ -68,7 +68,7 @@ pub fn required_is_met()
 /// All fits before the first event, and behind each event that changes no server but those whose start or stop is complete with a tick.
 pub fn all_fits()
     ensures first { (first : Settings) (names : List Name) (base : ℕ) → base ≤ 2 ^ 40 → let facts = start_of first names base in
-        Fits (first_past (logs_in facts.servers) (required_in facts.servers) (confirmed_in facts.servers)) facts first_volatile_states }
+        Fits (first_past (logs_in facts) (required_in facts.servers) (confirmed_in facts.servers)) facts first_volatile_states }
     ensures aside { (past : Past) (facts : Facts) (volatile_states : ℕ → VolatileState) (kind : EventKind) → IsAside kind
         → Fits past facts volatile_states → Fits (past_after past kind) (facts_after facts kind) volatile_states }
     // Agents are any.
@@ -108,7 +108,7 @@ pub fn actions_keep_commits()
 pub fn example()
     ensures { (first : Settings) (name other : Name) → let start = start_of first (name ∷ other ∷ []) 8 in
         (before : List Event) × (volatile_states : ℕ → VolatileState) × (events : List Event)
-        × Fits (past_over (first_past (logs_in start.servers) (required_in start.servers) (confirmed_in start.servers)) before) (facts_over start before) volatile_states
+        × Fits (past_over (first_past (logs_in start) (required_in start.servers) (confirmed_in start.servers)) before) (facts_over start before) volatile_states
         × MayFollow (facts_over start before) events
         × ((facts_over (facts_over start before) events).acknowledged ≡ 1 ∷ []) }
 {}

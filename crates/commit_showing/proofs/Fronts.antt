@@ -49,7 +49,7 @@ sound-seen setup past volatile_states inv server writes commit told =
     let log = k.logs server writes in
     let entry = k.kept server writes commit told log.entries log.is in
     subst (λ (l : List Entry). has_serial l commit ≡ true)
-    (sym (entries-are (slice_get past.logs server) log.entries log.is))
+    (sym (entries-are (slice_get past.logs.members server) log.entries log.is))
     ((looked-up log.entries commit).1 (record {
       front = entry.front;
       entry = entry.entry;
@@ -205,7 +205,7 @@ pub inv-first : (setup : Setup) (logs : Logs) (required : List Required) (confir
     → AllHaveBytes logs → IsSound (state_of setup (first_past logs required confirmed) first_volatile_states)
 inv-first setup logs required confirmed have_bytes =
     inv-first-state setup.member_count setup.creates_compare (λ m. confirmers_of (slice_get required m))
-    (λ m. position_of (slice_get confirmed m)) (λ m. log_found (slice_get logs m)) have_bytes
+    (λ m. position_of (slice_get confirmed m)) (λ m. log_found (slice_get logs.members m)) have_bytes
 
 pub kept-book : (setup : Setup) (logs : Logs) (required : List Required) (confirmed : List (List (Option Lsn)))
     (transitions : List Transition) (front rest : List Event) → AllHaveBytes logs

@@ -263,20 +263,20 @@ input-shown setup past volatile_states m heard agent live sends events own fligh
     (ap (λ (x : VolatileState). machine_of past' x m) (put-here volatile_states m volatile_state)
     ∙ machine-eq live live (past'.lease.writes m) (past.lease.writes m) (confirmers_of (slice_get past'.required m))
     (confirmers_of (slice_get past'.required m)) (position_of (slice_get past'.confirmed m))
-    (position_of (slice_get past.confirmed m)) (log_found (slice_get past'.logs m))
-    (log_found (slice_get past.logs m)) (Some agent) (Some agent) (past'.lease.runs m) (past.lease.runs m)
+    (position_of (slice_get past.confirmed m)) (log_found (slice_get past'.logs.members m))
+    (log_found (slice_get past.logs.members m)) (Some agent) (Some agent) (past'.lease.runs m) (past.lease.runs m)
     refl (ap (λ (w : ℕ → Bool). w m) f.writes) refl
     (ap (λ (c : List (List (Option Lsn))). position_of (slice_get c m)) f.confirmed)
-    (ap (λ (l : Logs). log_found (slice_get l m)) f.logs) refl (ap (λ (r : ℕ → ℕ). r m) f.runs))
+    (ap (λ (l : Logs). log_found (slice_get l.members m)) f.logs) refl (ap (λ (r : ℕ → ℕ). r m) f.runs))
     (λ n other. ap (λ (x : VolatileState). machine_of past' x n) (put-there volatile_states m volatile_state n other)
     ∙ machine-eq (volatile_states n).live (volatile_states n).live (past'.lease.writes n) (past.lease.writes n)
     (confirmers_of (slice_get past'.required n)) (confirmers_of (slice_get past.required n))
     (position_of (slice_get past'.confirmed n)) (position_of (slice_get past.confirmed n))
-    (log_found (slice_get past'.logs n)) (log_found (slice_get past.logs n)) (volatile_states n).agent
+    (log_found (slice_get past'.logs.members n)) (log_found (slice_get past.logs.members n)) (volatile_states n).agent
     (volatile_states n).agent (past'.lease.runs n) (past.lease.runs n)
     refl (ap (λ (w : ℕ → Bool). w n) f.writes) (ap confirmers_of (f.required n other))
     (ap (λ (c : List (List (Option Lsn))). position_of (slice_get c n)) f.confirmed)
-    (ap (λ (l : Logs). log_found (slice_get l n)) f.logs) refl (ap (λ (r : ℕ → ℕ). r n) f.runs)))
+    (ap (λ (l : Logs). log_found (slice_get l.members n)) f.logs) refl (ap (λ (r : ℕ → ℕ). r n) f.runs)))
     f.acknowledged_log f.acknowledged
 
 -- ---- all else

@@ -327,7 +327,8 @@ snapshot-shown setup past volatile_states tick i j by incarnation sequence none 
 -- a member answers in a race
 pub race-answer-shown : (setup : Setup) (past : Past) (volatile_states : ℕ → VolatileState) (tick : Ticks)
     (j : ℕ) (by member : Member) (incarnation sequence : ℕ) (answer : PeerAnswer) (end : Lsn)
-    → answer.end ≡ Some end → end.position ≡ end_of (entries_of (log_found (slice_get past.logs by.id.number))) →
+    → answer.end ≡ Some end
+    → end.position ≡ end_of (entries_of (log_found (slice_get past.logs.members by.id.number))) →
     IsShown setup past volatile_states (record {
       action = AnswerRace by.id.number member.id.number incarnation sequence j;
       events = event_at tick (kinds.Message (messages.Sent j (record {

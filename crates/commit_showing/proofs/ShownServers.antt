@@ -17,7 +17,8 @@ use Rattle.event_book.specs.declared.member.Member.{Member}
 use Rattle.event_book.specs.declared.member.ServerOf.{ServerOf}
 use Rattle.pat_base.specs.Changes.{changed_at, with_changed}
 use Rattle.event_book.specs.Functions.{put_at}
-use Rattle.event_book.specs.Logs.{Logs, logs_by, log_received, log_copied}
+use Rattle.event_book.specs.Logs.{Logs, log_at, log_with, logs_by, log_received, log_copied}
+use Rattle.event_book.proofs.Remote.{server-listed}
 use Rattle.commit_actions.specs.Keys.{Confirmers}
 use Rattle.commit_actions.specs.States.{Agent, Machine}
 use Rattle.commit_actions.specs.Actions.{Commit, Acknowledge, Receive, Confirm, Rewind, Clone, Wipe, Accept, Cease, End, Start, Kill, with_machine, with_log, fresh_agent}
@@ -83,8 +84,8 @@ machine-eq live live' writes writes' required required' confirmed confirmed' log
 
 -- ---- logs
 log-machine : (setup : Setup) (past : Past) (volatile_states : ℕ → VolatileState) (logs : Logs) (k : ℕ)
-    (log : Option (List Entry)) → log_found (slice_get logs k) ≡ log
-    → ((n : ℕ) → (n ≡ k → ⊥) → slice_get logs n ≡ slice_get past.logs n)
+    (log : Option (List Entry)) → log_found (slice_get logs.members k) ≡ log
+    → ((n : ℕ) → (n ≡ k → ⊥) → slice_get logs.members n ≡ slice_get past.logs.members n)
     → state_of setup (record past { logs = logs }) volatile_states
     ≡ with_log (state_of setup past volatile_states) k log
 log-machine setup past volatile_states logs k log here there =
@@ -97,7 +98,8 @@ log-machine setup past volatile_states logs k log here there =
     (there n other)))
 
 pub commit-shown : (setup : Setup) (past : Past) (volatile_states : ℕ → VolatileState) (tick : Ticks)
-    (server : ServerOf) (entry : Entry) (log : Option (List Entry)) → slice_get past.logs server.id.number ≡ Some log →
+    (server : ServerOf) (entry : Entry) (log : Option (List Entry))
+    → slice_get past.logs.members server.id.number ≡ Some log →
     IsShown setup past volatile_states (record {
       action = Commit server.id.number entry;
       events = event_at tick (kinds.Log (logs.Appended server entry));
@@ -106,14 +108,15 @@ pub commit-shown : (setup : Setup) (past : Past) (volatile_states : ℕ → Vola
 commit-shown setup past volatile_states tick server entry log is =
     let k = server.id.number in
     log-machine setup past volatile_states (logs_by past.logs (logs.Appended server entry)) k
-    (Some (entries_of (log_found (slice_get past.logs k)) ++ entry ∷ []))
-    (ap log_found (changed-here past.logs k (λ l. Some (entries_of l ++ entry ∷ [])) log is)
+    (Some (entries_of (log_found (slice_get past.logs.members k)) ++ entry ∷ []))
+    (ap log_found (changed-here past.logs.members k (log_with entry) log is)
     ∙ ap (λ (o : Option (Option (List Entry))). Some (entries_of (log_found o) ++ entry ∷ [])) (sym is))
-    (changed-there past.logs k (λ l. Some (entries_of l ++ entry ∷ [])))
+    (changed-there past.logs.members k (log_with entry))
 
 pub receive-shown : (setup : Setup) (past : Past) (volatile_states : ℕ → VolatileState) (tick : Ticks)
     (server from : ServerOf) (count : ℕ) (log theirs : Option (List Entry))
-    → slice_get past.logs server.id.number ≡ Some log → slice_get past.logs from.id.number ≡ Some theirs →
+    → slice_get past.logs.members server.id.number ≡ Some log
+    → slice_get past.logs.members from.id.number ≡ Some theirs →
     IsShown setup past volatile_states (record {
       action = Receive server.id.number from.id.number count;
       events = event_at tick (kinds.Log (logs.Received server from count));
@@ -122,22 +125,24 @@ pub receive-shown : (setup : Setup) (past : Past) (volatile_states : ℕ → Vol
 receive-shown setup past volatile_states tick server from count log theirs is from_is =
     let k = server.id.number in
     let f : Option (List Entry) → Option (List Entry) = λ l. Some (received (entries_of l) (entries_of theirs) count) in
-    log-machine setup past volatile_states (log_received past.logs k count (slice_get past.logs from.id.number)) k
-    (Some (received (entries_of (log_found (slice_get past.logs k)))
-    (entries_of (log_found (slice_get past.logs from.id.number))) count))
-    (ap (λ (o : Option (Option (List Entry))). log_found (slice_get (log_received past.logs k count o) k)) from_is
-    ∙ ap log_found (changed-here past.logs k f log is)
+    let found : log_at past.logs from.id.number ≡ Some theirs =
+    server-listed past.logs.members past.logs.remote from.id.number theirs from_is in
+    log-machine setup past volatile_states (logs_by past.logs (logs.Received server from count)) k
+    (Some (received (entries_of (log_found (slice_get past.logs.members k)))
+    (entries_of (log_found (slice_get past.logs.members from.id.number))) count))
+    (ap (λ (o : Option (Option (List Entry))). log_found (slice_get (log_received past.logs.members k count o) k)) found
+    ∙ ap log_found (changed-here past.logs.members k f log is)
     ∙ ap (λ (o : Option (Option (List Entry))). Some (received (entries_of (log_found o)) (entries_of theirs) count))
     (sym is)
     ∙ ap (λ (o : Option (Option (List Entry))).
-    Some (received (entries_of (log_found (slice_get past.logs k))) (entries_of (log_found o)) count))
+    Some (received (entries_of (log_found (slice_get past.logs.members k))) (entries_of (log_found o)) count))
     (sym from_is))
-    (λ n other. ap (λ (o : Option (Option (List Entry))). slice_get (log_received past.logs k count o) n) from_is
-    ∙ changed-there past.logs k f n other)
+    (λ n other. ap (λ (o : Option (Option (List Entry))). slice_get (log_received past.logs.members k count o) n) found
+    ∙ changed-there past.logs.members k f n other)
 
 pub rewind-shown : (setup : Setup) (past : Past) (volatile_states : ℕ → VolatileState) (tick : Ticks)
     (server from : ServerOf) (kept : ℕ) (at : Lsn) (log theirs : Option (List Entry))
-    → slice_get past.logs server.id.number ≡ Some log → slice_get past.logs from.id.number ≡ Some theirs
+    → slice_get past.logs.members server.id.number ≡ Some log → slice_get past.logs.members from.id.number ≡ Some theirs
     → take kept (entries_of log) ≡ common_of (entries_of log) (entries_of theirs) →
     IsShown setup past volatile_states (record {
       action = Rewind server.id.number from.id.number;
@@ -147,20 +152,21 @@ pub rewind-shown : (setup : Setup) (past : Past) (volatile_states : ℕ → Vola
 rewind-shown setup past volatile_states tick server from kept at log theirs is from_is common =
     let k = server.id.number in
     log-machine setup past volatile_states (logs_by past.logs (logs.Rewound server from kept at)) k
-    (Some (common_of (entries_of (log_found (slice_get past.logs k)))
-    (entries_of (log_found (slice_get past.logs from.id.number)))))
-    (ap log_found (changed-here past.logs k (λ l. Some (take kept (entries_of l))) log is)
+    (Some (common_of (entries_of (log_found (slice_get past.logs.members k)))
+    (entries_of (log_found (slice_get past.logs.members from.id.number)))))
+    (ap log_found (changed-here past.logs.members k (λ l. Some (take kept (entries_of l))) log is)
     ∙ ap (λ (l : List Entry). Some l) common
     ∙ ap (λ (o : Option (Option (List Entry))). Some (common_of (entries_of (log_found o)) (entries_of theirs)))
     (sym is)
     ∙ ap (λ (o : Option (Option (List Entry))).
-    Some (common_of (entries_of (log_found (slice_get past.logs k))) (entries_of (log_found o))))
+    Some (common_of (entries_of (log_found (slice_get past.logs.members k))) (entries_of (log_found o))))
     (sym from_is))
-    (changed-there past.logs k (λ l. Some (take kept (entries_of l))))
+    (changed-there past.logs.members k (λ l. Some (take kept (entries_of l))))
 
 pub clone-shown : (setup : Setup) (past : Past) (volatile_states : ℕ → VolatileState) (tick : Ticks)
     (server from : ServerOf) (log theirs : Option (List Entry))
-    → slice_get past.logs server.id.number ≡ Some log → slice_get past.logs from.id.number ≡ Some theirs →
+    → slice_get past.logs.members server.id.number ≡ Some log
+    → slice_get past.logs.members from.id.number ≡ Some theirs →
     IsShown setup past volatile_states (record {
       action = Clone server.id.number from.id.number;
       events = event_at tick (kinds.Log (logs.Copied server from));
@@ -168,15 +174,17 @@ pub clone-shown : (setup : Setup) (past : Past) (volatile_states : ℕ → Volat
     })
 clone-shown setup past volatile_states tick server from log theirs is from_is =
     let k = server.id.number in
-    log-machine setup past volatile_states (log_copied past.logs k (slice_get past.logs from.id.number)) k
-    (log_found (slice_get past.logs from.id.number))
-    (ap (λ (o : Option (Option (List Entry))). log_found (slice_get (log_copied past.logs k o) k)) from_is
-    ∙ ap log_found (changed-here past.logs k (λ l. theirs) log is) ∙ ap log_found (sym from_is))
-    (λ n other. ap (λ (o : Option (Option (List Entry))). slice_get (log_copied past.logs k o) n) from_is
-    ∙ changed-there past.logs k (λ l. theirs) n other)
+    let found : log_at past.logs from.id.number ≡ Some theirs =
+    server-listed past.logs.members past.logs.remote from.id.number theirs from_is in
+    log-machine setup past volatile_states (logs_by past.logs (logs.Copied server from)) k
+    (log_found (slice_get past.logs.members from.id.number))
+    (ap (λ (o : Option (Option (List Entry))). log_found (slice_get (log_copied past.logs.members k o) k)) found
+    ∙ ap log_found (changed-here past.logs.members k (λ l. theirs) log is) ∙ ap log_found (sym from_is))
+    (λ n other. ap (λ (o : Option (Option (List Entry))). slice_get (log_copied past.logs.members k o) n) found
+    ∙ changed-there past.logs.members k (λ l. theirs) n other)
 
 pub wipe-shown : (setup : Setup) (past : Past) (volatile_states : ℕ → VolatileState) (tick : Ticks)
-    (server : ServerOf) (log : Option (List Entry)) → slice_get past.logs server.id.number ≡ Some log →
+    (server : ServerOf) (log : Option (List Entry)) → slice_get past.logs.members server.id.number ≡ Some log →
     IsShown setup past volatile_states (record {
       action = Wipe server.id.number;
       events = event_at tick (kinds.Log (logs.Wiped server));
@@ -184,15 +192,15 @@ pub wipe-shown : (setup : Setup) (past : Past) (volatile_states : ℕ → Volati
     })
 wipe-shown setup past volatile_states tick server log is =
     log-machine setup past volatile_states (logs_by past.logs (logs.Wiped server)) server.id.number None
-    (ap log_found (changed-here past.logs server.id.number (λ l. None) log is))
-    (changed-there past.logs server.id.number (λ l. None))
+    (ap log_found (changed-here past.logs.members server.id.number (λ l. None) log is))
+    (changed-there past.logs.members server.id.number (λ l. None))
 
 -- ---- replication
 pub acknowledge-shown : (setup : Setup) (past : Past) (volatile_states : ℕ → VolatileState) (tick : Ticks)
     (server : ServerOf) (commit : ℕ) →
     IsShown setup past volatile_states (record {
       action = Acknowledge server.id.number
-          (front_to commit (entries_of (log_found (slice_get past.logs server.id.number)))) commit;
+          (front_to commit (entries_of (log_found (slice_get past.logs.members server.id.number)))) commit;
       events = event_at tick (kinds.Replication (replications.Acknowledged server commit));
       volatile_states = volatile_states;
     })
@@ -211,7 +219,7 @@ positions-shown positions by end position less same =
 pub confirm-shown : (setup : Setup) (past : Past) (volatile_states : ℕ → VolatileState) (tick : Ticks)
     (server : ServerOf) (by : Member) (end : Lsn) (positions : List (Option Lsn))
     → slice_get past.confirmed server.id.number ≡ Some positions → by.id.number < length positions
-    → end.position ≡ end_of (entries_of (log_found (slice_get past.logs by.id.number))) →
+    → end.position ≡ end_of (entries_of (log_found (slice_get past.logs.members by.id.number))) →
     IsShown setup past volatile_states (record {
       action = Confirm server.id.number by.id.number;
       events = event_at tick (kinds.Replication (replications.Confirmed server by end));
@@ -221,7 +229,7 @@ confirm-shown setup past volatile_states tick server by end positions is less at
     let k = server.id.number in
     let j = by.id.number in
     let f : List (Option Lsn) → List (Option Lsn) = λ before. slice_set before j (Some end) in
-    let position : ℕ = end_of (entries_of (log_found (slice_get past.logs j))) in
+    let position : ℕ = end_of (entries_of (log_found (slice_get past.logs.members j))) in
     ap (λ (members : ℕ → Machine). record (state_of setup past volatile_states) { members = members })
     (members-shown past (record past { confirmed = with_changed past.confirmed k f }) volatile_states volatile_states k
     (record (machine_of past (volatile_states k) k) {

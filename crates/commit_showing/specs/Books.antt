@@ -19,7 +19,7 @@ KeepsNow past = WritersHold past.lease.writes past.logs past.acknowledged
 
 -- in each of these logs, each entry has bytes
 abbrev pub AllHaveBytes : Logs → Type 0
-AllHaveBytes logs = (m : ℕ) (log : List Entry) → log_found (slice_get logs m) ≡ Some log → HaveBytes log
+AllHaveBytes logs = (m : ℕ) (log : List Entry) → log_found (slice_get logs.members m) ≡ Some log → HaveBytes log
 
 -- an action, its events, and what no event says of the members after it
 pub record Transition : Type 0 where

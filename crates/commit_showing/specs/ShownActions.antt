@@ -46,7 +46,7 @@ use Rattle.commit_showing.specs.Showing.{event_at, decided_events, AreOwn, with_
 pub record ActionsAreShown : Type 0 where
   -- logs and replication
   pub commit : (setup : Setup) (past : Past) (volatile_states : ℕ → VolatileState) (tick : Ticks) (server : ServerOf)
-      (entry : Entry) (log : Option (List Entry)) → slice_get past.logs server.id.number ≡ Some log
+      (entry : Entry) (log : Option (List Entry)) → slice_get past.logs.members server.id.number ≡ Some log
       → IsShown setup past volatile_states (record {
         action = Commit server.id.number entry;
         events = event_at tick (kinds.Log (logs.Appended server entry));
@@ -54,7 +54,8 @@ pub record ActionsAreShown : Type 0 where
       })
   pub receive : (setup : Setup) (past : Past) (volatile_states : ℕ → VolatileState) (tick : Ticks)
       (server from : ServerOf) (count : ℕ) (log theirs : Option (List Entry))
-      → slice_get past.logs server.id.number ≡ Some log → slice_get past.logs from.id.number ≡ Some theirs
+      → slice_get past.logs.members server.id.number ≡ Some log
+      → slice_get past.logs.members from.id.number ≡ Some theirs
       → IsShown setup past volatile_states (record {
         action = Receive server.id.number from.id.number count;
         events = event_at tick (kinds.Log (logs.Received server from count));
@@ -62,7 +63,8 @@ pub record ActionsAreShown : Type 0 where
       })
   pub rewind : (setup : Setup) (past : Past) (volatile_states : ℕ → VolatileState) (tick : Ticks)
       (server from : ServerOf) (kept : ℕ) (at : Lsn) (log theirs : Option (List Entry))
-      → slice_get past.logs server.id.number ≡ Some log → slice_get past.logs from.id.number ≡ Some theirs
+      → slice_get past.logs.members server.id.number ≡ Some log
+      → slice_get past.logs.members from.id.number ≡ Some theirs
       → take kept (entries_of log) ≡ common_of (entries_of log) (entries_of theirs)
       → IsShown setup past volatile_states (record {
         action = Rewind server.id.number from.id.number;
@@ -70,14 +72,15 @@ pub record ActionsAreShown : Type 0 where
         volatile_states = volatile_states;
       })
   pub clone : (setup : Setup) (past : Past) (volatile_states : ℕ → VolatileState) (tick : Ticks)
-      (server from : ServerOf) (log theirs : Option (List Entry)) → slice_get past.logs server.id.number ≡ Some log
-      → slice_get past.logs from.id.number ≡ Some theirs → IsShown setup past volatile_states (record {
+      (server from : ServerOf) (log theirs : Option (List Entry))
+      → slice_get past.logs.members server.id.number ≡ Some log
+      → slice_get past.logs.members from.id.number ≡ Some theirs → IsShown setup past volatile_states (record {
         action = Clone server.id.number from.id.number;
         events = event_at tick (kinds.Log (logs.Copied server from));
         volatile_states = volatile_states;
       })
   pub wipe : (setup : Setup) (past : Past) (volatile_states : ℕ → VolatileState) (tick : Ticks)
-      (server : ServerOf) (log : Option (List Entry)) → slice_get past.logs server.id.number ≡ Some log
+      (server : ServerOf) (log : Option (List Entry)) → slice_get past.logs.members server.id.number ≡ Some log
       → IsShown setup past volatile_states (record {
         action = Wipe server.id.number;
         events = event_at tick (kinds.Log (logs.Wiped server));
@@ -86,14 +89,14 @@ pub record ActionsAreShown : Type 0 where
   pub acknowledge : (setup : Setup) (past : Past) (volatile_states : ℕ → VolatileState) (tick : Ticks)
       (server : ServerOf) (commit : ℕ) → IsShown setup past volatile_states (record {
         action = Acknowledge server.id.number
-            (front_to commit (entries_of (log_found (slice_get past.logs server.id.number)))) commit;
+            (front_to commit (entries_of (log_found (slice_get past.logs.members server.id.number)))) commit;
         events = event_at tick (kinds.Replication (replications.Acknowledged server commit));
         volatile_states = volatile_states;
       })
   pub confirm : (setup : Setup) (past : Past) (volatile_states : ℕ → VolatileState) (tick : Ticks)
       (server : ServerOf) (by : Member) (end : Lsn) (positions : List (Option Lsn))
       → slice_get past.confirmed server.id.number ≡ Some positions → by.id.number < length positions
-      → end.position ≡ end_of (entries_of (log_found (slice_get past.logs by.id.number)))
+      → end.position ≡ end_of (entries_of (log_found (slice_get past.logs.members by.id.number)))
       → IsShown setup past volatile_states (record {
         action = Confirm server.id.number by.id.number;
         events = event_at tick (kinds.Replication (replications.Confirmed server by end));
@@ -264,7 +267,7 @@ pub record ActionsAreShown : Type 0 where
   -- an answer in a race, an input, and all else
   pub replied : (setup : Setup) (past : Past) (volatile_states : ℕ → VolatileState) (tick : Ticks) (j : ℕ)
       (by member : Member) (incarnation sequence : ℕ) (answer : PeerAnswer) (end : Lsn) → answer.end ≡ Some end
-      → end.position ≡ end_of (entries_of (log_found (slice_get past.logs by.id.number)))
+      → end.position ≡ end_of (entries_of (log_found (slice_get past.logs.members by.id.number)))
       → IsShown setup past volatile_states (record {
         action = AnswerRace by.id.number member.id.number incarnation sequence j;
         events = event_at tick (kinds.Message (messages.Sent j (record {

@@ -1,5 +1,5 @@
 -- Parts of servers that events of some concerns leave as they were.
-use Rattle.std.proofs.Common.{ℕ, ◌≡◌, ◌==◌, ◌&&◌, not, nat_le, Bool, cond, true, false, List, map, slice_get, Option, Some, None, refl, ap, sym}
+use Rattle.std.proofs.Common.{ℕ, ◌≡◌, ◌==◌, ◌&&◌, not, nat_le, Bool, cond, true, false, List, map, Option, Some, None, refl, ap, sym}
 use Rattle.pat_base.specs.declared.server_state.State.{State}
 use Rattle.pat_base.specs.declared.server_state.State.TheVariants as states
 use Rattle.pat_base.specs.declared.server_id.ServerId.{ServerId}
@@ -18,6 +18,7 @@ use Rattle.event_book.specs.declared.event.ServerEvent.TheVariants as servers
 use Rattle.event_book.specs.declared.event.WatchdogEvent.{WatchdogEvent}
 use Rattle.event_book.specs.declared.event.WatchdogEvent.TheVariants as watchdogs
 use Rattle.event_book.specs.Servers.{stops_quietly, stops, replica_starts_in, servers_by, received_by, cut_to, goes_back, copied_by, servers_by_log, servers_by_replication, servers_by_watchdog}
+use Rattle.event_book.specs.Remote.{server_at}
 use Rattle.event_book.specs.Writers.{BeginsServer}
 use Rattle.event_book.proofs.Changed.{kept-one, kept-each, same-if}
 
@@ -141,15 +142,16 @@ module _ {B : Type 0} (f : ServerFacts → B)
   wiped-kept (states.Starting false at) s is = reads (wiped s) s (sym (ap live is)) (sym (ap writes is)) refl refl
   wiped-kept _ s is = reads (wiped s) s (sym (ap live is)) (sym (ap writes is)) refl refl
 
-  pub logged-kept : (known : List ServerFacts) (happening : LogEvent)
-      → map f (servers_by_log known happening) ≡ map f known
-  logged-kept known (logs.Received server from count) =
-      received-kept known server.id.number count (slice_get known from.id.number)
-  logged-kept known (logs.Rewound server from kept at) =
-      kept-one f known _ _ (back-kept kept (slice_get known from.id.number))
-  logged-kept known (logs.Copied server from) = copied-kept known server.id.number (slice_get known from.id.number)
-  logged-kept known (logs.Wiped server) = kept-one f known _ _ (λ s. wiped-kept s.state s refl)
-  logged-kept known _ = kept-one f known _ _ (λ s. reads _ s refl refl refl refl)
+  pub logged-kept : (known : List ServerFacts) (remote : Option ServerFacts) (happening : LogEvent)
+      → map f (servers_by_log known remote happening) ≡ map f known
+  logged-kept known remote (logs.Received server from count) =
+      received-kept known server.id.number count (server_at known remote from.id.number)
+  logged-kept known remote (logs.Rewound server from kept at) =
+      kept-one f known _ _ (back-kept kept (server_at known remote from.id.number))
+  logged-kept known remote (logs.Copied server from) =
+      copied-kept known server.id.number (server_at known remote from.id.number)
+  logged-kept known remote (logs.Wiped server) = kept-one f known _ _ (λ s. wiped-kept s.state s refl)
+  logged-kept known remote _ = kept-one f known _ _ (λ s. reads _ s refl refl refl refl)
 
 -- what only the state and the log determine stays where a required
 -- list, what was confirmed, or what waits for acknowledgement changes

@@ -1,6 +1,6 @@
 -- What a book leaves of the servers, by what the book alone says. Of
 -- each part, a lemma '-of' says it of one event, and '-told' of a book.
-use Rattle.std.proofs.Common.{ℕ, ◌≡◌, ◌≢◌, ◌<◌, ◌==◌, ◌&&◌, ◌||◌, not, ◌++◌, nat_le, Bool, true, false, cond, List, [], ◌∷◌, length, get_or, map, take, slice_get, Option, Some, None, option_map, refl, ◌∙◌, ap, sym, subst, append_assoc, append-nil, arith}
+use Rattle.std.proofs.Common.{ℕ, ◌≡◌, ◌≢◌, ◌<◌, ◌+◌, ◌==◌, ◌&&◌, ◌||◌, not, ◌++◌, nat_le, Bool, true, false, cond, List, [], ◌∷◌, length, get_or, map, take, slice_get, Option, Some, None, option_map, refl, ◌∙◌, ap, sym, subst, append_assoc, append-nil, arith}
 use Rattle.std.proofs.lemmas.Option.{none-some, slice_get-get_or, slice_get-map, unwrap_or-slice_get}
 use Rattle.std.proofs.lemmas.Bool.Decides.{nat_tests}
 use Rattle.std.proofs.lemmas.Grind.{get_or-set_at}
@@ -11,6 +11,8 @@ use Rattle.pat_base.specs.declared.server_state.State.{State}
 use Rattle.pat_base.specs.declared.server_state.State.TheVariants as states
 use Rattle.pat_base.specs.declared.server_id.ServerId.{ServerId}
 use Rattle.pat_base.specs.declared.ticks.Ticks.{Ticks}
+use Rattle.pat_base.specs.declared.member_id.TheConstants.{MOST_MEMBERS}
+use Rattle.wal_model.specs.declared.entry.Entry.{Entry}
 use Rattle.pat_base.specs.Changes.{changed_at, with_changed}
 use Rattle.pat_base.specs.ServerState.{writes, live}
 use Rattle.pg_model.specs.Facts.{ServerFacts, entries_of, is_creating, is_down, is_up, none_confirmed}
@@ -31,11 +33,13 @@ use Rattle.event_book.specs.Acknowledged.{acknowledged_after, acknowledged_of, a
 use Rattle.event_book.specs.Clock.{now_after}
 use Rattle.event_book.specs.Facts.{Facts, facts_after, facts_over}
 use Rattle.event_book.specs.Functions.{put_at}
-use Rattle.event_book.specs.Logs.{log_received, log_copied, logs_in, logs_by, logs_after, logs_over}
+use Rattle.event_book.specs.Logs.{Logs, MemberLogs, log_received, log_copied, log_with, logs_in, logs_of, member_logs_by, remote_log_by, logs_after, logs_over}
+use Rattle.event_book.specs.Remote.{server_at}
 use Rattle.event_book.specs.Required.{required_in, required_after, required_over, confirmed_in, confirmed_after, confirmed_over}
-use Rattle.event_book.specs.Servers.{begun_in, replica_starts_in, servers_by, received_by, cut_to, goes_back, copied_by, servers_by_log, servers_by_replication, servers_by_watchdog, servers_after}
+use Rattle.event_book.specs.Servers.{begun_in, replica_starts_in, servers_by, received_by, cut_to, goes_back, copied_by, servers_by_log, servers_by_replication, servers_by_watchdog, servers_after, supplied, remote_by_log}
 use Rattle.event_book.specs.Writers.{writes_now, writes_in, writes_after, writes_by_server, writes_by_watchdog, writes_over}
 use Rattle.event_book.proofs.Parts.{ticked-kept, others-kept, watched-kept, logged-kept, replicated-kept}
+use Rattle.event_book.proofs.Remote.{server-part}
 use Rattle.event_book.proofs.Changed.{changed-one, kept-one, kept-each, same-if, length-one}
 
 -- a part of the servers that one event changes by itself is, after a
@@ -43,34 +47,38 @@ use Rattle.event_book.proofs.Changed.{changed-one, kept-one, kept-each, same-if,
 part-told : {A : Type 0} (part : List ServerFacts → A) (one : A → EventKind → A) (each : A → List Event → A)
     → ((x : A) → each x [] ≡ x)
     → ((x : A) (event : Event) (events : List Event) → each x (event ∷ events) ≡ each (one x event.kind) events)
-    → ((now : ℕ) (known : List ServerFacts) (kind : EventKind) →
-    part (servers_after now known kind) ≡ one (part known) kind)
+    → ((now : ℕ) (known : List ServerFacts) (remote : Option ServerFacts) (kind : EventKind) →
+    part (servers_after now known remote kind) ≡ one (part known) kind)
     → (facts : Facts) (book : List Event) → part (facts_over facts book).servers ≡ each (part facts.servers) book
 part-told part one each none more of facts [] = sym (none (part facts.servers))
 part-told part one each none more of facts (event ∷ events) =
     part-told part one each none more of (facts_after facts event.kind) events
-    ∙ ap (λ x. each x events) (of (now_after facts.clock event.kind) facts.servers event.kind)
+    ∙ ap (λ x. each x events) (of (now_after facts.clock event.kind) facts.servers facts.remote event.kind)
     ∙ sym (more (part facts.servers) event events)
 
 -- the logs
+
+abbrev logs-of-members : List ServerFacts → MemberLogs
+logs-of-members known = map (λ s. s.log) known
 
 log-begun : (state : State) (s : ServerFacts) → (begun_in state s).log ≡ s.log
 log-begun states.Replica s = refl
 log-begun _ s = refl
 
 logs-by-server : (now : ℕ) (known : List ServerFacts) (happening : ServerEvent)
-    → logs_in (servers_by now known happening) ≡ logs_in known
+    → logs-of-members (servers_by now known happening) ≡ logs-of-members known
 logs-by-server now known (servers.Began server timeline) = kept-one (λ s. s.log) known _ _ (λ s. log-begun s.state s)
 logs-by-server now known happening = others-kept (λ s. s.log) (λ s t log required confirmed. log) now known happening tt
 
 logs-received : (known : List ServerFacts) (number count : ℕ) (found : Option ServerFacts)
-    → logs_in (received_by known number count found)
-    ≡ log_received (logs_in known) number count (option_map (λ s. s.log) found)
+    → logs-of-members (received_by known number count found)
+    ≡ log_received (logs-of-members known) number count (option_map (λ s. s.log) found)
 logs-received known number count None = refl
 logs-received known number count (Some upstream) = changed-one (λ s. s.log) known number _ _ (λ s. refl)
 
 logs-copied : (known : List ServerFacts) (number : ℕ) (found : Option ServerFacts)
-    → logs_in (copied_by known number found) ≡ log_copied (logs_in known) number (option_map (λ s. s.log) found)
+    → logs-of-members (copied_by known number found)
+    ≡ log_copied (logs-of-members known) number (option_map (λ s. s.log) found)
 logs-copied known number None = refl
 logs-copied known number (Some source) = changed-one (λ s. s.log) known number _ _
     (λ s.
@@ -82,34 +90,61 @@ log-back kept None s = refl
 log-back kept (Some source) s = same-if (λ s. s.log) (is_rewindable s.state) (rewound_to kept s source)
     (cut_to kept s) (Some (take kept (entries_of s.log))) refl refl
 
-logs-logged : (known : List ServerFacts) (happening : LogEvent)
-    → logs_in (servers_by_log known happening) ≡ logs_by (logs_in known) happening
-logs-logged known (logs.Appended server entry) = changed-one (λ s. s.log) known server.id.number _ _ (λ s. refl)
-logs-logged known (logs.Received server from count) =
-    logs-received known server.id.number count (slice_get known from.id.number)
-    ∙ ap (λ o. log_received (logs_in known) server.id.number count o)
-    (sym (slice_get-map (λ s. s.log) known from.id.number))
-logs-logged known (logs.Rewound server from kept at) =
-    changed-one (λ s. s.log) known server.id.number _ _ (log-back kept (slice_get known from.id.number))
-logs-logged known (logs.Copied server from) =
-    logs-copied known server.id.number (slice_get known from.id.number)
-    ∙ ap (λ o. log_copied (logs_in known) server.id.number o) (sym (slice_get-map (λ s. s.log) known from.id.number))
-logs-logged known (logs.Wiped server) = changed-one (λ s. s.log) known server.id.number _ _
+logs-logged : (known : List ServerFacts) (remote : Option ServerFacts) (happening : LogEvent)
+    → logs-of-members (servers_by_log known remote happening) ≡ member_logs_by (logs_of known remote) happening
+logs-logged known remote (logs.Appended server entry) =
+    changed-one (λ s. s.log) known server.id.number _ _ (λ s. refl)
+logs-logged known remote (logs.Received server from count) =
+    logs-received known server.id.number count (server_at known remote from.id.number)
+    ∙ ap (λ o. log_received (logs-of-members known) server.id.number count o)
+    (server-part (λ s. s.log) known remote from.id.number)
+logs-logged known remote (logs.Rewound server from kept at) =
+    changed-one (λ s. s.log) known server.id.number _ _ (log-back kept (server_at known remote from.id.number))
+logs-logged known remote (logs.Copied server from) =
+    logs-copied known server.id.number (server_at known remote from.id.number)
+    ∙ ap (λ o. log_copied (logs-of-members known) server.id.number o)
+    (server-part (λ s. s.log) known remote from.id.number)
+logs-logged known remote (logs.Wiped server) = changed-one (λ s. s.log) known server.id.number _ _
     (λ s. same-if (λ s. s.log) (live s.state) (record s { log = None }) (wiped s) None refl refl)
 
-pub logs-of : (now : ℕ) (known : List ServerFacts) (kind : EventKind)
-    → logs_in (servers_after now known kind) ≡ logs_after (logs_in known) kind
-logs-of now known kinds.Tick = ticked-kept (λ s. s.log) (λ s t log required confirmed. log) (record { 0 = now }) known
-logs-of now known (kinds.Server happening) = logs-by-server now known happening
-logs-of now known (kinds.Log happening) = logs-logged known happening
-logs-of now known (kinds.Replication happening) = replicated-kept (λ s. s.log) (λ s t state log. log) known happening
-logs-of now known (kinds.Watchdog happening) =
-    watched-kept (λ s. s.log) (λ s t log required confirmed. log) known happening
-logs-of now known _ = refl
+remote-supplied : (remote : ServerFacts) (entry : Entry) (own : Bool)
+    → (cond own (supplied entry remote) remote).log ≡ cond own (log_with entry remote.log) remote.log
+remote-supplied remote entry true = refl
+remote-supplied remote entry false = refl
+
+remote-logged : (remote : Option ServerFacts) (happening : LogEvent)
+    → option_map (λ s. s.log) (remote_by_log remote happening)
+    ≡ remote_log_by (option_map (λ s. s.log) remote) happening
+remote-logged None (logs.Appended server entry) = refl
+remote-logged (Some remote) (logs.Appended server entry) =
+    ap (λ (log : Option (List Entry)). Some log) (remote-supplied remote entry (server.id.number == MOST_MEMBERS))
+remote-logged remote _ = refl
+
+with-members : (before after : MemberLogs) (remote : Option (Option (List Entry))) → before ≡ after
+    → ◌≡◌ {A = Logs} (record { members = before; remote = remote }) (record { members = after; remote = remote })
+with-members before after remote same = ap (λ (known : MemberLogs). record { members = known; remote = remote }) same
+
+pub logs-of : (facts : Facts) (kind : EventKind) → logs_in (facts_after facts kind) ≡ logs_after (logs_in facts) kind
+logs-of facts kinds.Tick = with-members _ _ _
+    (ticked-kept (λ s. s.log) (λ s t log required confirmed. log) (record { 0 = facts.clock + 1 }) facts.servers)
+logs-of facts (kinds.Server happening) = with-members _ _ _ (logs-by-server facts.clock facts.servers happening)
+logs-of facts (kinds.Log happening) =
+    with-members _ _ _ (logs-logged facts.servers facts.remote happening)
+    ∙ ap (λ (remote : Option (Option (List Entry))). record {
+      members = member_logs_by (logs_in facts) happening;
+      remote = remote;
+    }) (remote-logged facts.remote happening)
+logs-of facts (kinds.Replication happening) =
+    with-members _ _ _ (replicated-kept (λ s. s.log) (λ s t state log. log) facts.servers happening)
+logs-of facts (kinds.Watchdog happening) =
+    with-members _ _ _ (watched-kept (λ s. s.log) (λ s t log required confirmed. log) facts.servers happening)
+logs-of facts _ = refl
 
 pub logs-told : (facts : Facts) (book : List Event)
-    → logs_in (facts_over facts book).servers ≡ logs_over (logs_in facts.servers) book
-logs-told = part-told logs_in logs_after logs_over (λ known. refl) (λ known event events. refl) logs-of
+    → logs_in (facts_over facts book) ≡ logs_over (logs_in facts) book
+logs-told facts [] = refl
+logs-told facts (event ∷ events) =
+    logs-told (facts_after facts event.kind) events ∙ ap (λ known. logs_over known events) (logs-of facts event.kind)
 
 -- whose confirmation their commits wait for
 
@@ -132,17 +167,17 @@ required-replicated known (replications.RequiredSet server required names) =
 required-replicated known (replications.Lacks server) = refl
 required-replicated known _ = kept-one (λ s. s.required) known _ _ (λ s. refl)
 
-pub required-of : (now : ℕ) (known : List ServerFacts) (kind : EventKind)
-    → required_in (servers_after now known kind) ≡ required_after (required_in known) kind
-required-of now known kinds.Tick =
+pub required-of : (now : ℕ) (known : List ServerFacts) (remote : Option ServerFacts) (kind : EventKind)
+    → required_in (servers_after now known remote kind) ≡ required_after (required_in known) kind
+required-of now known remote kinds.Tick =
     ticked-kept (λ s. s.required) (λ s t log required confirmed. required) (record { 0 = now }) known
-required-of now known (kinds.Server happening) = required-by-server now known happening
-required-of now known (kinds.Log happening) =
-    logged-kept (λ s. s.required) (λ s t live writes required confirmed. required) known happening
-required-of now known (kinds.Replication happening) = required-replicated known happening
-required-of now known (kinds.Watchdog happening) =
+required-of now known remote (kinds.Server happening) = required-by-server now known happening
+required-of now known remote (kinds.Log happening) =
+    logged-kept (λ s. s.required) (λ s t live writes required confirmed. required) known remote happening
+required-of now known remote (kinds.Replication happening) = required-replicated known happening
+required-of now known remote (kinds.Watchdog happening) =
     watched-kept (λ s. s.required) (λ s t log required confirmed. required) known happening
-required-of now known _ = refl
+required-of now known remote _ = refl
 
 pub required-told : (facts : Facts) (book : List Event)
     → required_in (facts_over facts book).servers ≡ required_over (required_in facts.servers) book
@@ -170,17 +205,17 @@ confirmed-replicated known (replications.Confirmed server by end) =
 confirmed-replicated known (replications.Lacks server) = refl
 confirmed-replicated known _ = kept-one (λ s. s.confirmed) known _ _ (λ s. refl)
 
-pub confirmed-of : (now : ℕ) (known : List ServerFacts) (kind : EventKind)
-    → confirmed_in (servers_after now known kind) ≡ confirmed_after (confirmed_in known) kind
-confirmed-of now known kinds.Tick =
+pub confirmed-of : (now : ℕ) (known : List ServerFacts) (remote : Option ServerFacts) (kind : EventKind)
+    → confirmed_in (servers_after now known remote kind) ≡ confirmed_after (confirmed_in known) kind
+confirmed-of now known remote kinds.Tick =
     ticked-kept (λ s. s.confirmed) (λ s t log required confirmed. confirmed) (record { 0 = now }) known
-confirmed-of now known (kinds.Server happening) = confirmed-by-server now known happening
-confirmed-of now known (kinds.Log happening) =
-    logged-kept (λ s. s.confirmed) (λ s t live writes required confirmed. confirmed) known happening
-confirmed-of now known (kinds.Replication happening) = confirmed-replicated known happening
-confirmed-of now known (kinds.Watchdog happening) =
+confirmed-of now known remote (kinds.Server happening) = confirmed-by-server now known happening
+confirmed-of now known remote (kinds.Log happening) =
+    logged-kept (λ s. s.confirmed) (λ s t live writes required confirmed. confirmed) known remote happening
+confirmed-of now known remote (kinds.Replication happening) = confirmed-replicated known happening
+confirmed-of now known remote (kinds.Watchdog happening) =
     watched-kept (λ s. s.confirmed) (λ s t log required confirmed. confirmed) known happening
-confirmed-of now known _ = refl
+confirmed-of now known remote _ = refl
 
 pub confirmed-told : (facts : Facts) (book : List Event)
     → confirmed_in (facts_over facts book).servers ≡ confirmed_over (confirmed_in facts.servers) book
@@ -222,17 +257,17 @@ count-by now known (servers.Began server timeline) = length-one known _ _
 count-by now known happening = length-kept known (servers_by now known happening)
     (others-kept seen-as-one (λ s t log required confirmed. refl) now known happening tt)
 
-pub count-of : (now : ℕ) (known : List ServerFacts) (kind : EventKind)
-    → length (servers_after now known kind) ≡ length known
-count-of now known kinds.Tick = length-map known _
-count-of now known (kinds.Server happening) = count-by now known happening
-count-of now known (kinds.Log happening) = length-kept known (servers_by_log known happening)
-    (logged-kept seen-as-one (λ s t live writes required confirmed. refl) known happening)
-count-of now known (kinds.Replication happening) = length-kept known (servers_by_replication known happening)
+pub count-of : (now : ℕ) (known : List ServerFacts) (remote : Option ServerFacts) (kind : EventKind)
+    → length (servers_after now known remote kind) ≡ length known
+count-of now known remote kinds.Tick = length-map known _
+count-of now known remote (kinds.Server happening) = count-by now known happening
+count-of now known remote (kinds.Log happening) = length-kept known (servers_by_log known remote happening)
+    (logged-kept seen-as-one (λ s t live writes required confirmed. refl) known remote happening)
+count-of now known remote (kinds.Replication happening) = length-kept known (servers_by_replication known happening)
     (replicated-kept seen-as-one (λ s t state log. refl) known happening)
-count-of now known (kinds.Watchdog happening) = length-kept known (servers_by_watchdog known happening)
+count-of now known remote (kinds.Watchdog happening) = length-kept known (servers_by_watchdog known happening)
     (watched-kept seen-as-one (λ s t log required confirmed. refl) known happening)
-count-of now known _ = refl
+count-of now known remote _ = refl
 
 pub count-told : (facts : Facts) (book : List Event) → length (facts_over facts book).servers ≡ length facts.servers
 count-told = part-told (λ known. length known) (λ count kind. count) (λ count events. count) (λ count. refl)
@@ -369,21 +404,21 @@ writes-watched : (known : List ServerFacts) (happening : WatchdogEvent) (n : ℕ
 writes-watched known (watchdogs.Reset member) n small = writes-put known _ n _ false small (λ s. writes-crashed s.state)
 writes-watched known _ n small = refl
 
-pub writes-of : (now : ℕ) (known : List ServerFacts) (kind : EventKind) (n : ℕ) → n < length known
-    → writes_in (servers_after now known kind) n ≡ writes_after (writes_in known) kind n
-writes-of now known kinds.Tick n small =
+pub writes-of : (now : ℕ) (known : List ServerFacts) (remote : Option ServerFacts) (kind : EventKind) (n : ℕ)
+    → n < length known → writes_in (servers_after now known remote kind) n ≡ writes_after (writes_in known) kind n
+writes-of now known remote kinds.Tick n small =
     let at : Ticks = record { 0 = now } in
     writes-kept known _ n
     (kept-each (λ s. writes s.state) (ticked_unless_live at) (λ s. writes-completed at s.state s refl) known)
-writes-of now known (kinds.Server happening) n small = writes-by-server now known happening n small
-writes-of now known (kinds.Log happening) n small =
-    writes-kept known (servers_by_log known happening) n
-    (logged-kept (λ s. writes s.state) (λ s t live writes required confirmed. writes) known happening)
-writes-of now known (kinds.Replication happening) n small =
+writes-of now known remote (kinds.Server happening) n small = writes-by-server now known happening n small
+writes-of now known remote (kinds.Log happening) n small =
+    writes-kept known (servers_by_log known remote happening) n
+    (logged-kept (λ s. writes s.state) (λ s t live writes required confirmed. writes) known remote happening)
+writes-of now known remote (kinds.Replication happening) n small =
     writes-kept known (servers_by_replication known happening) n
     (replicated-kept (λ s. writes s.state) (λ s t state log. ap writes state) known happening)
-writes-of now known (kinds.Watchdog happening) n small = writes-watched known happening n small
-writes-of now known _ n small = refl
+writes-of now known remote (kinds.Watchdog happening) n small = writes-watched known happening n small
+writes-of now known remote _ n small = refl
 
 -- whether one server accepts writes depends on nothing that was said of another
 put-same : (f g : ℕ → Bool) (k n : ℕ) (value : Bool) → f n ≡ g n → put_at f k value n ≡ put_at g k value n
@@ -417,8 +452,8 @@ pub writes-told : (facts : Facts) (book : List Event) (n : ℕ) → n < length f
 writes-told facts [] n small = refl
 writes-told facts (event ∷ events) n small =
     let now : ℕ = now_after facts.clock event.kind in
-    let known : List ServerFacts = servers_after now facts.servers event.kind in
-    let few : n < length known = rw (count-of now facts.servers event.kind) small in
+    let known : List ServerFacts = servers_after now facts.servers facts.remote event.kind in
+    let few : n < length known = rw (count-of now facts.servers facts.remote event.kind) small in
     writes-told (facts_after facts event.kind) events n few
     ∙ writes-same (writes_in known) (writes_after (writes_in facts.servers) event.kind) events n
-    (writes-of now facts.servers event.kind n small)
+    (writes-of now facts.servers facts.remote event.kind n small)

@@ -17,13 +17,14 @@ use Rattle.event_book.specs.Frozen.{frozen_after}
 use Rattle.event_book.specs.Keys.{keys_after}
 use Rattle.event_book.specs.Links.{CutLinks, cuts_after, none_cut}
 use Rattle.event_book.specs.Members.{members_from}
-use Rattle.event_book.specs.Servers.{servers_after}
+use Rattle.event_book.specs.Servers.{remote_after, servers_after}
 use Rattle.event_book.specs.Watchdogs.{deadlines_after, holds_after}
 
 -- what a book determines over the declared members: the clock, the keys, which agents run, which links
--- are cut, the messages in flight, the number of the message that was sent last, the servers and which
--- of them are frozen, when each armed watchdog resets its machine, until when each member promised not
--- to take the leader key, the number of the last commit, and the commits that were acknowledged
+-- are cut, the messages in flight, the number of the message that was sent last, the servers of members,
+-- the remote, which of the servers are frozen, when each armed watchdog resets its machine, until when each
+-- member promised not to take the leader key, the number of the last commit, and the commits that were
+-- acknowledged
 pub record Facts : Type 0 where
   pub clock : ℕ
   pub keys : Keys
@@ -33,6 +34,8 @@ pub record Facts : Type 0 where
   pub flight : Flight
   pub sent : ℕ
   pub servers : List ServerFacts
+  -- the primary of another cluster, whose server has the first number that no member has; absent where there is none
+  pub remote : Option ServerFacts
   pub frozen : List Bool
   pub deadlines : List (Option Ticks)
   pub holds : List (Option Ticks)
@@ -49,7 +52,8 @@ facts_after facts kind = record {
   cuts = cuts_after facts.cuts kind;
   flight = flight_after facts.clock facts.keys facts.flight kind;
   sent = sent_after facts.sent kind;
-  servers = servers_after (now_after facts.clock kind) facts.servers kind;
+  servers = servers_after (now_after facts.clock kind) facts.servers facts.remote kind;
+  remote = remote_after facts.remote kind;
   frozen = frozen_after facts.frozen kind;
   deadlines = deadlines_after facts.deadlines kind;
   holds = holds_after facts.holds kind;
@@ -74,6 +78,7 @@ start_of first names base = record {
   flight = [];
   sent = 0;
   servers = replicate (length names) (fresh base);
+  remote = None;
   frozen = replicate (length names) false;
   deadlines = replicate (length names) None;
   holds = replicate (length names) None;

@@ -17,6 +17,7 @@ pub mod NoteText
 pub mod Premises
 pub mod Processes
 pub mod Reasons
+pub mod Remote
 pub mod Required
 pub mod ServerText
 pub mod Servers

@@ -1,10 +1,11 @@
--- The servers of a book, by the number of their member.
-use Rattle.std.specs.Prelude.{ℕ, ◌==◌, ◌&&◌, ◌||◌, not, if◌then◌else◌, Bool, true, List, Option, Some, None, map, take, drop, slice_get}
+-- The servers of a book, by the number of their member, and the remote beside them.
+use Rattle.std.specs.Prelude.{ℕ, ◌==◌, ◌&&◌, ◌||◌, not, ◌++◌, if◌then◌else◌, Bool, true, List, [], ◌∷◌, Option, Some, None, map, take, drop}
 use Rattle.pat_base.specs.declared.server_state.State.{State}
 use Rattle.pat_base.specs.declared.server_state.State.TheVariants as states
 use Rattle.pat_base.specs.declared.ticks.Ticks.{Ticks}
 use Rattle.pat_base.specs.Changes.{with_changed}
 use Rattle.pat_base.specs.ServerState.{live}
+use Rattle.wal_model.specs.declared.entry.Entry.{Entry}
 use Rattle.pg_model.specs.Facts.{ServerFacts, entries_of, is_creating, is_down, is_up}
 use Rattle.pg_model.specs.Replication.{appended, confirming, following, received_from, requiring}
 use Rattle.pg_model.specs.Rewinding.{cloned, is_rewindable, rewound_to}
@@ -19,6 +20,7 @@ use Rattle.event_book.specs.declared.event.ServerEvent.{ServerEvent}
 use Rattle.event_book.specs.declared.event.ServerEvent.TheVariants as servers
 use Rattle.event_book.specs.declared.event.WatchdogEvent.{WatchdogEvent}
 use Rattle.event_book.specs.declared.event.WatchdogEvent.TheVariants as watchdogs
+use Rattle.event_book.specs.Remote.{remote_changed, server_at}
 
 -- it accepts writes from now on: a replica by its promotion, and else by the
 -- end of its start as a primary; what was confirmed before counts no more
@@ -103,15 +105,16 @@ copied_by known number (Some source) = with_changed known number (becomes_copy s
 abbrev pub loses_log : ServerFacts → ServerFacts
 loses_log s = if live s.state then record s { log = None } else wiped s
 
--- the servers after what happens to a log
-abbrev pub servers_by_log : List ServerFacts → LogEvent → List ServerFacts
-servers_by_log known (logs.Appended server entry) = with_changed known server.id.number (appended entry)
-servers_by_log known (logs.Received server from count) =
-    received_by known server.id.number count (slice_get known from.id.number)
-servers_by_log known (logs.Rewound server from kept at) =
-    with_changed known server.id.number (goes_back kept (slice_get known from.id.number))
-servers_by_log known (logs.Copied server from) = copied_by known server.id.number (slice_get known from.id.number)
-servers_by_log known (logs.Wiped server) = with_changed known server.id.number loses_log
+-- the servers after what happens to a log, beside this remote
+abbrev pub servers_by_log : List ServerFacts → Option ServerFacts → LogEvent → List ServerFacts
+servers_by_log known remote (logs.Appended server entry) = with_changed known server.id.number (appended entry)
+servers_by_log known remote (logs.Received server from count) =
+    received_by known server.id.number count (server_at known remote from.id.number)
+servers_by_log known remote (logs.Rewound server from kept at) =
+    with_changed known server.id.number (goes_back kept (server_at known remote from.id.number))
+servers_by_log known remote (logs.Copied server from) =
+    copied_by known server.id.number (server_at known remote from.id.number)
+servers_by_log known remote (logs.Wiped server) = with_changed known server.id.number loses_log
 
 -- the servers after what happens in synchronous replication
 abbrev pub servers_by_replication : List ServerFacts → ReplicationEvent → List ServerFacts
@@ -128,11 +131,26 @@ abbrev pub servers_by_watchdog : List ServerFacts → WatchdogEvent → List Ser
 servers_by_watchdog known (watchdogs.Reset member) = with_changed known member.id.number crashed
 servers_by_watchdog known _ = known
 
--- the servers after an event of this moment: a tick completes the starts and stops that no event tells
-abbrev pub servers_after : ℕ → List ServerFacts → EventKind → List ServerFacts
-servers_after now known kinds.Tick = map (ticked_unless_live (record { 0 = now })) known
-servers_after now known (kinds.Server happening) = servers_by now known happening
-servers_after now known (kinds.Log happening) = servers_by_log known happening
-servers_after now known (kinds.Replication happening) = servers_by_replication known happening
-servers_after now known (kinds.Watchdog happening) = servers_by_watchdog known happening
-servers_after now known _ = known
+-- the servers after an event of this moment, beside this remote: a
+-- tick completes the starts and stops that no event tells
+abbrev pub servers_after : ℕ → List ServerFacts → Option ServerFacts → EventKind → List ServerFacts
+servers_after now known remote kinds.Tick = map (ticked_unless_live (record { 0 = now })) known
+servers_after now known remote (kinds.Server happening) = servers_by now known happening
+servers_after now known remote (kinds.Log happening) = servers_by_log known remote happening
+servers_after now known remote (kinds.Replication happening) = servers_by_replication known happening
+servers_after now known remote (kinds.Watchdog happening) = servers_by_watchdog known happening
+servers_after now known remote _ = known
+
+-- a commit stands at the end of the remote's log; its client isn't one of the cluster's, so it waits for no member
+abbrev pub supplied : Entry → ServerFacts → ServerFacts
+supplied entry s = record s { log = Some (entries_of s.log ++ entry ∷ []) }
+
+-- the remote after what happens to a log
+abbrev pub remote_by_log : Option ServerFacts → LogEvent → Option ServerFacts
+remote_by_log remote (logs.Appended server entry) = remote_changed remote server.id.number (supplied entry)
+remote_by_log remote _ = remote
+
+-- the remote after an event
+abbrev pub remote_after : Option ServerFacts → EventKind → Option ServerFacts
+remote_after remote (kinds.Log happening) = remote_by_log remote happening
+remote_after remote _ = remote

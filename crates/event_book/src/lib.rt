@@ -18,7 +18,9 @@ pub use event::{
     AgentEvent, Event, EventKind, LinkEvent, LogEvent, MessageEvent, Note, ReplicationEvent,
     ServerEvent, StoreEvent, WatchdogEvent,
 };
-pub use laws::{links_are_told, restarts_and_wipes_are_told, servers_match_events};
+pub use laws::{
+    a_remote_is_found, links_are_told, restarts_and_wipes_are_told, servers_match_events,
+};
 pub use link::{Link, LinkEnd};
 pub use member::{Member, ServerOf};
 pub use message::{Body, Message};

@@ -21,6 +21,7 @@ use Rattle.event_book.specs.declared.event.WatchdogEvent.TheVariants as watchdog
 use Rattle.event_book.specs.declared.link.LinkEnd.{LinkEnd}
 use Rattle.event_book.specs.declared.link.LinkEnd.TheVariants as ends
 use Rattle.event_book.specs.Flight.{InFlightFacts, in_flight}
+use Rattle.event_book.specs.Remote.{server_at}
 use Rattle.event_book.specs.Servers.{received_by, copied_by, servers_by, servers_by_log, servers_by_replication}
 use Rattle.cluster_model.specs.Cluster.{agent_facts_reached, agent_facts_reached_at, cluster_after, cluster_over}
 use Rattle.cluster_model.specs.State.{Cluster}
@@ -112,14 +113,16 @@ module _ (n : ℕ) where
   same-server cluster (servers.Thawed server) other = refl
 
   same-log : (cluster : Cluster) (happening : LogEvent) → IsElsewhere n cluster (kinds.Log happening)
-      → StateOf (servers_by_log cluster.facts.servers happening) ≡ StateOf cluster.facts.servers
+      → StateOf (servers_by_log cluster.facts.servers cluster.facts.remote happening) ≡ StateOf cluster.facts.servers
   same-log cluster (logs.Appended server entry) other = state-kept cluster.facts.servers server.id.number _ (λ s. refl)
   same-log cluster (logs.Received server from count) other =
-      received-kept cluster.facts.servers server.id.number count (slice_get cluster.facts.servers from.id.number)
+      received-kept cluster.facts.servers server.id.number count
+      (server_at cluster.facts.servers cluster.facts.remote from.id.number)
   same-log cluster (logs.Rewound server from kept at) other =
       state-elsewhere cluster.facts.servers server.id.number _ other
   same-log cluster (logs.Copied server from) other =
-      copied-elsewhere cluster.facts.servers server.id.number (slice_get cluster.facts.servers from.id.number) other
+      copied-elsewhere cluster.facts.servers server.id.number
+      (server_at cluster.facts.servers cluster.facts.remote from.id.number) other
   same-log cluster (logs.Wiped server) other = state-elsewhere cluster.facts.servers server.id.number _ other
 
   same-replication : (known : List ServerFacts) (happening : ReplicationEvent)

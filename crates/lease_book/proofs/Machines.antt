@@ -205,12 +205,13 @@ runs-kept states runs _ old = old
 abbrev WritesAgree : List ServerFacts → (ℕ → Bool) → Type 0
 WritesAgree servers writes = (m : ℕ) → m < length servers → writes m ≡ writes_in servers m
 
-writes-kept : (now : ℕ) (servers : List ServerFacts) (writes : ℕ → Bool) (kind : EventKind)
-    → WritesAgree servers writes → WritesAgree (servers_after now servers kind) (writes_after writes kind)
-writes-kept now servers writes kind old m small =
-    let few : m < length servers = omega (arith, small, count-of now servers kind) in
+writes-kept : (now : ℕ) (servers : List ServerFacts) (remote : Option ServerFacts) (writes : ℕ → Bool)
+    (kind : EventKind) → WritesAgree servers writes
+    → WritesAgree (servers_after now servers remote kind) (writes_after writes kind)
+writes-kept now servers remote writes kind old m small =
+    let few : m < length servers = omega (arith, small, count-of now servers remote kind) in
     writes-same writes (writes_in servers) (record { tick = record { 0 = 0 }; kind = kind } ∷ []) m (old m few)
-    ∙ sym (writes-of now servers kind m few)
+    ∙ sym (writes-of now servers remote kind m few)
 
 pub machines-by : (past : Past) (facts : Facts) (kind : EventKind) → IsSameMachines past facts
     → IsSameMachines (past_after past kind) (facts_after facts kind)
@@ -219,7 +220,7 @@ machines-by past facts kind old =
     let agents_are = agents-long facts.processes kind in
     let deadlines_are = deadlines-long facts.deadlines kind in
     let holds_are = holds-long facts.holds kind in
-    let servers_are = count-of now facts.servers kind in
+    let servers_are = count-of now facts.servers facts.remote kind in
     record {
       deadline_count = deadlines_are ∙ old.deadline_count ∙ sym agents_are;
       hold_count = holds_are ∙ old.hold_count ∙ sym agents_are;
@@ -230,7 +231,7 @@ machines-by past facts kind old =
       hold = λ m small. hold-kept facts.holds past.hold kind (λ n few. old.hold n (omega (arith, few, old.hold_count)))
           m (omega (arith, small, agents_are, holds_are, old.hold_count));
       runs = λ m small. runs-kept facts.processes past.runs kind old.runs m small;
-      writes = λ m small. writes-kept now facts.servers past.writes kind
+      writes = λ m small. writes-kept now facts.servers facts.remote past.writes kind
           (λ n few. old.writes n (omega (arith, few, old.server_count))) m
           (omega (arith, small, agents_are, servers_are, old.server_count));
     }

@@ -96,8 +96,9 @@ logged-resembles : (cluster : Cluster) (m : ℕ) (machine : Machine) (happening 
     → Resembles cluster m machine → Resembles (cluster_after cluster (kinds.Log happening)) m machine
 logged-resembles cluster m machine happening old = record {
   lives =
-      live-kept cluster.facts.servers (servers_by_log cluster.facts.servers happening) m
-      (logged-kept (λ s. live s.state) (λ s t live writes required confirmed. live) cluster.facts.servers happening)
+      live-kept cluster.facts.servers (servers_by_log cluster.facts.servers cluster.facts.remote happening) m
+      (logged-kept (λ s. live s.state) (λ s t live writes required confirmed. live) cluster.facts.servers
+      cluster.facts.remote happening)
       ∙ old.lives;
   deadline = old.deadline;
   hold = old.hold;

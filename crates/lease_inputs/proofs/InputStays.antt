@@ -21,7 +21,8 @@ use Rattle.event_book.specs.Facts.{Facts}
 use Rattle.event_book.specs.Processes.{processes_after}
 use Rattle.event_book.specs.Clock.{now_after}
 use Rattle.event_book.specs.Members.{server_of}
-use Rattle.event_book.specs.Servers.{servers_after, becomes_copy, copied_by, servers_by_log}
+use Rattle.event_book.specs.Remote.{server_at}
+use Rattle.event_book.specs.Servers.{servers_after, becomes_copy, copied_by, servers_by, servers_by_log}
 use Rattle.agent_model.specs.declared.output.Output.{Output}
 use Rattle.agent_outputs.specs.Orders.{IsOfTable}
 use Rattle.cluster_model.specs.declared.heard_message.HeardMessage.{HeardMessage}
@@ -92,15 +93,15 @@ module _ (member : Member) (incarnation heard : ℕ) (Q : Output → Type 0) whe
   other-one known server change n other is =
       get-elsewhere known server.id.number n change (λ e. other (e ∙ ap (λ (s : ServerOf). s.id.number) is))
 
-  servers-by : (now : ℕ) (known : List ServerFacts) (happening : ServerEvent) → Mine (kinds.Server happening) → (n : ℕ)
-      → n ≢ member.id.number → slice_get (servers_after now known (kinds.Server happening)) n ≡ slice_get known n
-  servers-by now known (servers.Began server timeline) is n other = other-one known server _ n other is.0
-  servers-by now known (servers.StartsAsPrimary server) is n other = other-one known server _ n other is
-  servers-by now known (servers.StartsAsReplica server) is n other = other-one known server _ n other is
-  servers-by now known (servers.Follows server upstream) is n other = other-one known server _ n other is
-  servers-by now known (servers.Ended server) is n other = other-one known server _ n other is
-  servers-by now known (servers.Stops server) is n other = other-one known server _ n other is
-  servers-by now known _ is n other = absurd is
+  servers-here : (now : ℕ) (known : List ServerFacts) (happening : ServerEvent) → Mine (kinds.Server happening)
+      → (n : ℕ) → n ≢ member.id.number → slice_get (servers_by now known happening) n ≡ slice_get known n
+  servers-here now known (servers.Began server timeline) is n other = other-one known server _ n other is.0
+  servers-here now known (servers.StartsAsPrimary server) is n other = other-one known server _ n other is
+  servers-here now known (servers.StartsAsReplica server) is n other = other-one known server _ n other is
+  servers-here now known (servers.Follows server upstream) is n other = other-one known server _ n other is
+  servers-here now known (servers.Ended server) is n other = other-one known server _ n other is
+  servers-here now known (servers.Stops server) is n other = other-one known server _ n other is
+  servers-here now known _ is n other = absurd is
 
   copied-one : (known : List ServerFacts) (server : ServerOf) (source : Option ServerFacts) (n : ℕ)
       → n ≢ member.id.number → server ≡ server_of member
@@ -108,25 +109,26 @@ module _ (member : Member) (incarnation heard : ℕ) (Q : Output → Type 0) whe
   copied-one known server None n other is = refl
   copied-one known server (Some source) n other is = other-one known server (becomes_copy source) n other is
 
-  logs-by : (known : List ServerFacts) (happening : LogEvent) → Mine (kinds.Log happening) → (n : ℕ)
-      → n ≢ member.id.number → slice_get (servers_by_log known happening) n ≡ slice_get known n
-  logs-by known (logs.Rewound server from kept at) is n other = other-one known server _ n other is
-  logs-by known (logs.Copied server from) is n other =
-      copied-one known server (slice_get known from.id.number) n other is
-  logs-by known (logs.Wiped server) is n other = other-one known server _ n other is
-  logs-by known _ is n other = absurd is
+  logs-by : (known : List ServerFacts) (remote : Option ServerFacts) (happening : LogEvent)
+      → Mine (kinds.Log happening) → (n : ℕ) → n ≢ member.id.number
+      → slice_get (servers_by_log known remote happening) n ≡ slice_get known n
+  logs-by known remote (logs.Rewound server from kept at) is n other = other-one known server _ n other is
+  logs-by known remote (logs.Copied server from) is n other =
+      copied-one known server (server_at known remote from.id.number) n other is
+  logs-by known remote (logs.Wiped server) is n other = other-one known server _ n other is
+  logs-by known remote _ is n other = absurd is
 
-  servers-one : (now : ℕ) (known : List ServerFacts) (kind : EventKind) → Mine kind → (n : ℕ)
-      → n ≢ member.id.number → slice_get (servers_after now known kind) n ≡ slice_get known n
-  servers-one now known (kinds.Server happening) is n other = servers-by now known happening is n other
-  servers-one now known (kinds.Replication (replications.RequiredSet server required names)) is n other =
+  servers-one : (now : ℕ) (known : List ServerFacts) (remote : Option ServerFacts) (kind : EventKind) → Mine kind
+      → (n : ℕ) → n ≢ member.id.number → slice_get (servers_after now known remote kind) n ≡ slice_get known n
+  servers-one now known remote (kinds.Server happening) is n other = servers-here now known happening is n other
+  servers-one now known remote (kinds.Replication (replications.RequiredSet server required names)) is n other =
       other-one known server _ n other is
-  servers-one now known (kinds.Replication (replications.Lacks server)) is n other = refl
-  servers-one now known (kinds.Replication _) is n other = absurd is
-  servers-one now known (kinds.Log happening) is n other = logs-by known happening is n other
-  servers-one now known (kinds.Watchdog (watchdogs.Reset by)) is n other = absurd is
-  servers-one now known kinds.Tick is n other = absurd is
-  servers-one now known _ is n other = refl
+  servers-one now known remote (kinds.Replication (replications.Lacks server)) is n other = refl
+  servers-one now known remote (kinds.Replication _) is n other = absurd is
+  servers-one now known remote (kinds.Log happening) is n other = logs-by known remote happening is n other
+  servers-one now known remote (kinds.Watchdog (watchdogs.Reset by)) is n other = absurd is
+  servers-one now known remote kinds.Tick is n other = absurd is
+  servers-one now known remote _ is n other = refl
 
   pub stays-one : (cluster : Cluster) (kind : EventKind) → Mine kind
       → Stays member.id.number cluster (cluster_after cluster kind)
@@ -135,7 +137,7 @@ module _ (member : Member) (incarnation heard : ℕ) (Q : Output → Type 0) whe
     processes = processes-one cluster.facts.processes kind is;
     members = refl;
     clock = clock-one cluster.facts.clock kind is;
-    servers = servers-one (now_after cluster.facts.clock kind) cluster.facts.servers kind is;
+    servers = servers-one (now_after cluster.facts.clock kind) cluster.facts.servers cluster.facts.remote kind is;
   }
 
   pub stays-over : (cluster : Cluster) (events : List Event) → AllAre Mine events

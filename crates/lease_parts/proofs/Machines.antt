@@ -233,15 +233,15 @@ writes-kind : (before after : ℕ → Bool) (kind : EventKind) (n : ℕ) → bef
 writes-kind before after kind n same =
     let event : Event = record { tick = record { 0 = 0 }; kind = kind } in writes-same before after (event ∷ []) n same
 
-pub writes-in : (before : ℕ → Bool) (now : ℕ) (known : List ServerFacts) (kind : EventKind)
-    → IsWithinMembers (length known) kind
+pub writes-in : (before : ℕ → Bool) (now : ℕ) (known : List ServerFacts) (remote : Option ServerFacts)
+    (kind : EventKind) → IsWithinMembers (length known) kind
     → ((n : ℕ) → before n ≡ writes_in known n) → (n : ℕ)
-    → writes_after before kind n ≡ writes_in (servers_after now known kind) n
-writes-in before now known kind is same n = elim (slice_get_cases known n).1 [
-  | inl found ↦ writes-kind before (writes_in known) kind n (same n) ∙ sym (writes-of now known kind n found.1)
+    → writes_after before kind n ≡ writes_in (servers_after now known remote kind) n
+writes-in before now known remote kind is same n = elim (slice_get_cases known n).1 [
+  | inl found ↦ writes-kind before (writes_in known) kind n (same n) ∙ sym (writes-of now known remote kind n found.1)
   | inr past ↦
       no-writes before kind n (aside-past (length known) n kind past.0 is) (same n ∙ writes-past known n past.0)
-      ∙ sym (writes-past (servers_after now known kind) n (rw (count-of now known kind) past.0))
+      ∙ sym (writes-past (servers_after now known remote kind) n (rw (count-of now known remote kind) past.0))
 ]
 
 deadlines-sized : (deadlines : List (Option Ticks)) (happening : WatchdogEvent)
@@ -290,7 +290,7 @@ pub sized-by : (count : ℕ) (facts : Facts) (kind : EventKind) → IsSized coun
     → IsSized count (facts_after facts kind)
 sized-by count facts kind old = record {
   agents = sized-agents facts.processes kind ∙ old.agents;
-  servers = count-of (now_after facts.clock kind) facts.servers kind ∙ old.servers;
+  servers = count-of (now_after facts.clock kind) facts.servers facts.remote kind ∙ old.servers;
   deadlines = sized-deadlines facts.deadlines kind ∙ old.deadlines;
   holds = sized-holds facts.holds kind ∙ old.holds;
 }
@@ -304,6 +304,6 @@ machines-by count past facts kind sized is old = record {
   hold = hold-of past.hold facts.holds kind (subst (λ (n : ℕ). IsWithinMembers n kind) (sym sized.holds) is) old.hold;
   runs =
       runs-of past.runs facts.processes kind (subst (λ (n : ℕ). IsWithinMembers n kind) (sym sized.agents) is) old.runs;
-  writes = writes-in past.writes (now_after facts.clock kind) facts.servers kind
+  writes = writes-in past.writes (now_after facts.clock kind) facts.servers facts.remote kind
       (subst (λ (n : ℕ). IsWithinMembers n kind) (sym sized.servers) is) old.writes;
 }

@@ -75,7 +75,8 @@ quiet-machine cluster (kinds.Server happening) is m = machine-same _ _ _ _ _ _ _
 quiet-machine cluster (kinds.Log happening) is m =
     machine-same _ _ _ _ _ _ _ _ _ _ _ _
     (live-kept cluster.facts.servers _ m
-    (logged-kept (λ s. live s.state) (λ s t live writes required confirmed. live) cluster.facts.servers happening))
+    (logged-kept (λ s. live s.state)
+    (λ s t live writes required confirmed. live) cluster.facts.servers cluster.facts.remote happening))
     refl refl refl refl refl
 quiet-machine cluster (kinds.Replication happening) is m =
     machine-same _ _ _ _ _ _ _ _ _ _ _ _

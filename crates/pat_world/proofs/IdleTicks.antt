@@ -75,6 +75,7 @@ room-passed cluster count more has =
         numbers = fewer.numbers;
         agents = fewer.agents;
         timelines = fewer.timelines;
+        remote = fewer.remote;
         commits = fewer.commits;
       };
     }

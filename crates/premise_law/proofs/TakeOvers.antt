@@ -239,8 +239,8 @@ pub take-overs : (head : HeadText) (book : List Event) → NotesTakeOvers head b
 take-overs head book front rest event m parts takes =
     let start : Cluster = cluster_of head in
     let cluster : Cluster = cluster_over start front in
-    let logs : logs_in cluster.facts.servers ≡ logs_over (first_logs head) front =
-    ap (λ (facts : Facts). logs_in facts.servers) (facts-of start front) ∙ logs-told start.facts front in
+    let logs : logs_in cluster.facts ≡ logs_over (first_logs head) front =
+    ap logs_in (facts-of start front) ∙ logs-told start.facts front in
     ap (λ (c : Cluster). noted_by (slice_get c.agents m)) (over-one start front event)
     ∙ one-notes cluster m takes.server takes.is takes.live takes.before event.kind takes.after
     ∙ sym (ap (λ (l : Logs). (lsn_at (end_of (entries_at l m))).position) (sym logs)

@@ -30,7 +30,7 @@ is-stands start book world is =
     let servers : world.facts.servers ≡ (facts_over start.facts book).servers = ap (λ (f : Facts). f.servers) facts in
     record {
       world_is = is;
-      logs = ap logs_in servers ∙ logs-told start.facts book;
+      logs = ap logs_in facts ∙ logs-told start.facts book;
       writers = λ n declared. ap (λ (known : List ServerFacts). writes_in known n) servers
           ∙ writes-told start.facts book n declared;
       required = ap required_in servers ∙ required-told start.facts book;

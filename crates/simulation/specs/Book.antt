@@ -17,7 +17,7 @@ left_by start book = cluster_over start book
 -- a world is what the book determines, and what the book alone says of servers and commits is so of those that it keeps
 pub record StandsFor (start : Cluster) (book : List Event) (world : Cluster) : Type 0 where
   pub world_is : world ≡ left_by start book
-  pub logs : logs_in world.facts.servers ≡ logs_over (logs_in start.facts.servers) book
+  pub logs : logs_in world.facts ≡ logs_over (logs_in start.facts) book
   pub writers : (n : ℕ) → n < length start.facts.servers
       → writes_in world.facts.servers n ≡ writes_over (writes_in start.facts.servers) book n
   pub required : required_in world.facts.servers ≡ required_over (required_in start.facts.servers) book

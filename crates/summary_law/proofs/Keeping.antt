@@ -21,7 +21,7 @@ use Rattle.event_book.specs.declared.member.ServerOf.{ServerOf}
 use Rattle.event_book.specs.Acknowledged.{acknowledged_of, acknowledged_in}
 use Rattle.event_book.specs.Functions.{put_at}
 use Rattle.event_book.specs.Kept.{KeepsCommits}
-use Rattle.event_book.specs.Logs.{Logs, entries_at, entries_found, log_received, logs_after, logs_by, logs_over}
+use Rattle.event_book.specs.Logs.{Logs, MemberLogs, entries_at, entries_found, log_at, log_received, log_with, logs_after, logs_by, logs_over}
 use Rattle.event_book.specs.Writers.{writes_by_server, writes_by_watchdog, writes_after, writes_over, AcceptsWrites}
 use Rattle.lease_model.proofs.Tools.{both, put-all, put-here, put-there}
 use Rattle.std.proofs.lemmas.Bool.{cases_eq}
@@ -79,24 +79,26 @@ abbrev Grows : (Option (List Entry) → Option (List Entry)) → Type 0
 Grows change = (log : Option (List Entry)) (c : ℕ) → has_serial (entries_of log) c ≡ true
     → has_serial (entries_of (change log)) c ≡ true
 
-grown-at : (known : Logs) (k : ℕ) (change : Option (List Entry) → Option (List Entry))
+grown-at : (known : MemberLogs) (k : ℕ) (change : Option (List Entry) → Option (List Entry))
     (found : Option (Option (List Entry))) → slice_get known k ≡ found → Grows change → (n c : ℕ)
-    → has_serial (entries_at known n) c ≡ true → has_serial (entries_at (changed_at known k change found) n) c ≡ true
+    → has_serial (entries_found (slice_get known n)) c ≡ true
+    → has_serial (entries_found (slice_get (changed_at known k change found) n)) c ≡ true
 grown-at known k change None is grows n c has = has
 grown-at known k change (Some log) is grows n c has =
-    elim (cases_eq n k) as (λ w. has_serial (entries_at (slice_set known k (change log)) n) c ≡ true) [
+    elim (cases_eq n k) as (λ w. has_serial (entries_found (slice_get (slice_set known k (change log)) n)) c ≡ true) [
       | inl same ↦
           let was : has_serial (entries_found (Some log)) c ≡ true =
           subst (λ o. has_serial (entries_found o) c ≡ true) (ap (slice_get known) same ∙ is) has in
-          subst (λ m. has_serial (entries_at (slice_set known k (change log)) m) c ≡ true) (sym same)
+          subst (λ m. has_serial (entries_found (slice_get (slice_set known k (change log)) m)) c ≡ true) (sym same)
           (subst (λ o. has_serial (entries_found o) c ≡ true)
           (sym (got-set_same known k (change log) (slice_get_within known k log is))) (grows log c was))
       | inr other ↦
           subst (λ o. has_serial (entries_found o) c ≡ true) (sym (got-set_other known k n (change log) other)) has
     ]
 
-received-at : (known : Logs) (k count : ℕ) (theirs : Option (Option (List Entry))) (n c : ℕ)
-    → has_serial (entries_at known n) c ≡ true → has_serial (entries_at (log_received known k count theirs) n) c ≡ true
+received-at : (known : MemberLogs) (k count : ℕ) (theirs : Option (Option (List Entry))) (n c : ℕ)
+    → has_serial (entries_found (slice_get known n)) c ≡ true
+    → has_serial (entries_found (slice_get (log_received known k count theirs) n)) c ≡ true
 received-at known k count None n c has = has
 received-at known k count (Some theirs) n c has =
     grown-at known k (λ log. Some (received (entries_of log) (entries_of theirs) count)) (slice_get known k) refl
@@ -106,10 +108,11 @@ received-at known k count (Some theirs) n c has =
 log-grows : (known : Logs) (happening : LogEvent) (n c : ℕ) → may_lose_by_log happening ≡ false
     → has_serial (entries_at known n) c ≡ true → has_serial (entries_at (logs_by known happening) n) c ≡ true
 log-grows known (logs.Appended server entry) n c few has =
-    grown-at known server.id.number (λ log. Some (entries_of log ++ entry ∷ []))
-    (slice_get known server.id.number) refl (λ log s there. has-left (entries_of log) (entry ∷ []) s there) n c has
+    grown-at known.members server.id.number (log_with entry)
+    (slice_get known.members server.id.number) refl
+    (λ log s there. has-left (entries_of log) (entry ∷ []) s there) n c has
 log-grows known (logs.Received server from count) n c few has =
-    received-at known server.id.number count (slice_get known from.id.number) n c has
+    received-at known.members server.id.number count (log_at known from.id.number) n c has
 log-grows known (logs.Rewound server from kept at) n c few has = absurd (not-true few)
 log-grows known (logs.Copied server from) n c few has = absurd (not-true few)
 log-grows known (logs.Wiped server) n c few has = absurd (not-true few)

@@ -81,7 +81,7 @@ confirmed_at start book server = slice_get (confirmed_over (confirmed_in start.s
 -- where the log of this server ended when its required list last grew,
 -- at the end of this book: 0 where it has named nobody since
 abbrev pub grown_at : Facts → List Event → ℕ → ℕ
-grown_at start book = grown_over (required_in start.servers) (logs_in start.servers) (λ n. 0) book
+grown_at start book = grown_over (required_in start.servers) (logs_in start) (λ n. 0) book
 
 -- at the end of this book the sync key names each server that accepts
 -- writes as the leader, and its commits wait for each standby there

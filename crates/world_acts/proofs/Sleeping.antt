@@ -20,6 +20,7 @@ use Rattle.event_book.specs.declared.event.MessageEvent.TheVariants as messages
 use Rattle.event_book.specs.declared.event.ReplicationEvent.TheVariants as replications
 use Rattle.event_book.specs.declared.event.WatchdogEvent.TheVariants as watchdogs
 use Rattle.event_book.specs.declared.member.Member.{Member}
+use Rattle.event_book.specs.Remote.{server_at}
 use Rattle.event_book.specs.Servers.{received_by}
 use Rattle.event_book.specs.Watchdogs.{prolonged_to}
 use Rattle.event_list.specs.Listed.{Listed, ◌+++◌}
@@ -249,7 +250,9 @@ asleep-after asleep cluster (kinds.Log (logs.Appended server entry)) isnt sleep 
 asleep-after asleep cluster (kinds.Log (logs.Received server from count)) isnt sleep =
     served-asleep asleep cluster
     (cluster_after cluster (kinds.Log (logs.Received server from count))) refl refl refl refl refl
-    (received-state cluster.facts.servers server.id.number count (slice_get cluster.facts.servers from.id.number)) sleep
+    (received-state cluster.facts.servers server.id.number count
+    (server_at cluster.facts.servers cluster.facts.remote from.id.number))
+    sleep
 asleep-after asleep cluster (kinds.Replication (replications.RequiredSet server required names)) isnt sleep =
     served-asleep asleep cluster
     (cluster_after cluster (kinds.Replication (replications.RequiredSet server required names))) refl refl

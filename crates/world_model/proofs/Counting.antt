@@ -14,7 +14,7 @@ use Rattle.cluster_model.specs.State.{Cluster}
 use Rattle.world_model.specs.Counted.{AreCounted, HasNumbered, counted_by}
 use Rattle.world_model.specs.Room.{HasNumbers, HasRoom, most_steps, step_cost}
 use Rattle.world_model.specs.Idle.{at_moment}
-use Rattle.world_model.proofs.ServerRooms.{HasTimeline}
+use Rattle.world_model.proofs.ServerRooms.{HasTimeline, remote-weaker}
 
 abbrev RunsBelow : ℕ → AgentProcess → Type 0
 RunsBelow bound state = state.incarnation < bound
@@ -54,6 +54,8 @@ counted-room cluster bound cost enough counted = record {
       All-weaker (HasNumbered bound) (HasNumbers cost) (numbers-left bound cost enough) cluster.agents counted.agents;
   timelines = All-weaker (HasTimelineBelow bound) (HasTimeline cost)
       (λ s has. omega (arith, enough, has)) cluster.facts.servers counted.timelines;
+  remote = remote-weaker (HasTimelineBelow bound) (HasTimeline cost) cluster.facts.remote
+      (λ s has. omega (arith, enough, has)) counted.remote;
   commits = omega (arith, enough, counted.commits);
 }
 
@@ -69,6 +71,8 @@ room-counted cluster bound more whole room = record {
   agents = All-weaker (HasNumbers more) (HasNumbered bound) (numbers-taken bound more whole) cluster.agents room.agents;
   timelines = All-weaker (HasTimeline more) (HasTimelineBelow bound)
       (λ s has. omega (arith, whole, has)) cluster.facts.servers room.timelines;
+  remote = remote-weaker (HasTimeline more) (HasTimelineBelow bound) cluster.facts.remote
+      (λ s has. omega (arith, whole, has)) room.remote;
   commits = omega (arith, whole, room.commits);
 }
 
@@ -103,6 +107,8 @@ counted-passed cluster bound greater moment h within counted = record {
       All-weaker (HasNumbered bound) (HasNumbered greater) (numbers-more bound greater h) cluster.agents counted.agents;
   timelines = All-weaker (HasTimelineBelow bound) (HasTimelineBelow greater)
       (λ s has. omega (arith, h, has)) cluster.facts.servers counted.timelines;
+  remote = remote-weaker (HasTimelineBelow bound) (HasTimelineBelow greater) cluster.facts.remote
+      (λ s has. omega (arith, h, has)) counted.remote;
   commits = omega (arith, h, counted.commits);
 }
 
@@ -133,5 +139,6 @@ counted-first head = record {
   agents = first-numbered head.cluster (cluster_of head).options (cluster_of head).facts.members
       (cluster_of head).facts.members;
   timelines = first-timelines head.base (length (names_of head));
+  remote = tt;
   commits = omega arith;
 }

@@ -41,7 +41,7 @@ use Rattle.cluster_model.specs.State.{Cluster}
 use Rattle.world_model.specs.Comes.{Counts, CountsAgent, CountsMessage}
 use Rattle.world_model.specs.Room.{HasNumbers, HasRoom, agent_event_cost, event_cost, hearing_cost, message_event_cost}
 use Rattle.agent_cases.proofs.Bounds.{step-small}
-use Rattle.world_model.proofs.ServerRooms.{All-at, All-weaker, CountsCommit, HasTimeline, commits-more, servers-room}
+use Rattle.world_model.proofs.ServerRooms.{All-at, All-weaker, CountsCommit, HasTimeline, commits-more, remote-room, remote-weaker, servers-room}
 
 with_member_changed-all_at : (X : Type 0) (P Q : X → Type 0) (xs : List X) (n : ℕ) (change : X → X) (found : Option X)
     → slice_get xs n ≡ found → All P xs → ((x : X) → P x → Q x)
@@ -266,6 +266,8 @@ HasRoom-fewer cluster more fewer h room = record {
       (numbers-fewer more fewer h) room.agents;
   timelines = All-weaker ServerFacts (HasTimeline more) (HasTimeline fewer) cluster.facts.servers
       (λ s has. omega (arith, has, h)) room.timelines;
+  remote = remote-weaker (HasTimeline more) (HasTimeline fewer) cluster.facts.remote
+      (λ s has. omega (arith, has, h)) room.remote;
   commits = omega (arith, room.commits);
 }
 
@@ -282,7 +284,11 @@ HasRoom-cluster_after cluster kind events counts whole =
       runs = runs-room cluster events kind counts room.runs;
       numbers = omega (arith, room.numbers);
       agents = agents-numbers cluster events kind whole.numbers whole.agents;
-      timelines = servers-room (now_after cluster.facts.clock kind) events cluster.facts.servers kind room.timelines;
+      timelines = servers-room (now_after cluster.facts.clock kind) events cluster.facts.servers cluster.facts.remote
+          kind room.timelines room.remote;
+      remote = remote-room events cluster.facts.remote kind
+          (remote-weaker (HasTimeline (1 + events)) (HasTimeline events) cluster.facts.remote
+          (λ s has. omega (arith, has)) room.remote);
       commits =
           omega (arith, room.commits, commits-more cluster.facts.commits kind (commit-counts cluster kind counts));
     }
@@ -298,5 +304,6 @@ HasRoom-landed cluster flight events room = record {
   numbers = room.numbers;
   agents = room.agents;
   timelines = room.timelines;
+  remote = room.remote;
   commits = room.commits;
 }

@@ -1,8 +1,11 @@
 -- Timelines of servers, and commits, each of which an event counts up by one at most.
-use Rattle.std.proofs.Common.{◌≡◌, ℕ, ◌+◌, ◌^◌, ◌≤◌, ◌<◌, nat_le, ◌==◌, ◌&&◌, Bool, true, false, List, [], All, Option, Some, None, map, arith, refl, subst}
+use Rattle.std.proofs.Common.{◌≡◌, ℕ, ◌+◌, ◌^◌, ◌≤◌, ◌<◌, nat_le, ◌==◌, ◌&&◌, Bool, true, false, cond, List, [], All, Option, Some, None, map, arith, refl, subst}
 use Rattle.std.specs.Prelude.{slice_get, if◌then◌else◌}
 use Rattle.std.proofs.lemmas.List.Elements.{All-map, All-set}
-use Rattle.std.proofs.lemmas.Option.{slice_get_within, get_or_from_slice_get}
+use Rattle.std.proofs.lemmas.Option.{none-some, slice_get_within, get_or_from_slice_get}
+use Rattle.std.specs.Option.{ForSome}
+use Rattle.pat_base.specs.declared.member_id.TheConstants.{MOST_MEMBERS}
+use Rattle.wal_model.specs.declared.entry.Entry.{Entry}
 use Rattle.pat_base.specs.declared.server_id.ServerId.{ServerId}
 use Rattle.pat_base.specs.declared.server_state.State.{State}
 use Rattle.pat_base.specs.declared.server_state.State.TheVariants as states
@@ -24,7 +27,8 @@ use Rattle.event_book.specs.declared.event.ServerEvent.TheVariants as servers
 use Rattle.event_book.specs.declared.event.WatchdogEvent.{WatchdogEvent}
 use Rattle.event_book.specs.declared.event.WatchdogEvent.TheVariants as watchdogs
 use Rattle.event_book.specs.Acknowledged.{commits_after}
-use Rattle.event_book.specs.Servers.{becomes_copy, begun_in, copied_by, cut_to, goes_back, loses_log, received_by, replica_starts_in, servers_after, servers_by, servers_by_log, servers_by_replication, servers_by_watchdog, starts_as_primary, starts_as_replica, starts_slowly, stops, stops_quietly}
+use Rattle.event_book.specs.Remote.{listed_or_remote, server_at}
+use Rattle.event_book.specs.Servers.{becomes_copy, begun_in, copied_by, cut_to, goes_back, loses_log, received_by, replica_starts_in, servers_after, servers_by, servers_by_log, servers_by_replication, servers_by_watchdog, remote_after, remote_by_log, supplied, starts_as_primary, starts_as_replica, starts_slowly, stops, stops_quietly}
 use Rattle.world_model.specs.Comes.{CountsLog}
 
 -- what holds of each element holds of one
@@ -131,6 +135,29 @@ quiet-if now s false = completed-timeline now s.state s
 abbrev Roomy : ℕ → List ServerFacts → Type 0
 Roomy events known = All (HasTimeline events) known
 
+abbrev HasRemote : ℕ → Option ServerFacts → Type 0
+HasRemote events remote = ForSome remote (HasTimeline events)
+
+some-same : (s t : ServerFacts) → Some s ≡ Some t → s ≡ t
+some-same s t is = cc
+
+-- what holds of each server in the list and of the remote holds of whichever is found
+remote-holds : (P : ServerFacts → Type 0) (remote s : ServerFacts) (own : Bool) → P remote
+    → cond own (Some remote) None ≡ Some s → P s
+remote-holds P remote s true holds is = subst P (some-same remote s is) holds
+remote-holds P remote s false holds is = absurd (none-some s is)
+
+either-holds : (P : ServerFacts → Type 0) (remote s : ServerFacts) (n : ℕ) (found : Option ServerFacts) → P remote
+    → ((listed : ServerFacts) → found ≡ Some listed → P listed) → listed_or_remote remote n found ≡ Some s → P s
+either-holds P remote s n (Some listed) holds all is = all s is
+either-holds P remote s n None holds all is = remote-holds P remote s (n == MOST_MEMBERS) holds is
+
+found-holds : (P : ServerFacts → Type 0) (known : List ServerFacts) (remote : Option ServerFacts) (n : ℕ)
+    (s : ServerFacts) → All P known → ForSome remote P → server_at known remote n ≡ Some s → P s
+found-holds P known None n s all holds is = All-at ServerFacts P known n s all is
+found-holds P known (Some remote) n s all holds is =
+    either-holds P remote s n (slice_get known n) holds (λ listed at. All-at ServerFacts P known n listed all at) is
+
 with-same : (events : ℕ) (known : List ServerFacts) (place : ℕ) (change : ServerFacts → ServerFacts)
     → ((s : ServerFacts) → (change s).timeline ≡ s.timeline) → Roomy (1 + events) known
     → Roomy events (with_changed known place change)
@@ -163,11 +190,12 @@ room-by now events known (servers.Slowed server stop start) all =
     with-same events known server.id.number _ (λ s. refl) all
 room-by now events known _ all = fewer events known all
 
-room-received : (events : ℕ) (known : List ServerFacts) (number from count : ℕ) (found : Option ServerFacts)
-    → slice_get known from ≡ found → Roomy (1 + events) known → Roomy events (received_by known number count found)
-room-received events known number from count None is all = fewer events known all
-room-received events known number from count (Some upstream) is all =
-    let roomy = All-at ServerFacts (HasTimeline (1 + events)) known from upstream all is in
+room-received : (events : ℕ) (known : List ServerFacts) (remote : Option ServerFacts) (number from count : ℕ)
+    (found : Option ServerFacts) → server_at known remote from ≡ found → Roomy (1 + events) known
+    → HasRemote (1 + events) remote → Roomy events (received_by known number count found)
+room-received events known remote number from count None is all holds = fewer events known all
+room-received events known remote number from count (Some upstream) is all holds =
+    let roomy = found-holds (HasTimeline (1 + events)) known remote from upstream all holds is in
     with-all (HasTimeline (1 + events)) (HasTimeline events) known number
     (λ s. received_from count s upstream) all (timeline-fewer events) (λ s room. omega (arith, roomy))
 
@@ -177,13 +205,13 @@ back-if : (events kept : ℕ) (source s : ServerFacts) (may : Bool) → HasTimel
 back-if events kept source s true theirs own = omega (arith, theirs)
 back-if events kept source s false theirs own = omega (arith, own)
 
-room-back : (events : ℕ) (known : List ServerFacts) (number from kept : ℕ) (found : Option ServerFacts)
-    → slice_get known from ≡ found → Roomy (1 + events) known
-    → Roomy events (with_changed known number (goes_back kept found))
-room-back events known number from kept None is all =
+room-back : (events : ℕ) (known : List ServerFacts) (remote : Option ServerFacts) (number from kept : ℕ)
+    (found : Option ServerFacts) → server_at known remote from ≡ found → Roomy (1 + events) known
+    → HasRemote (1 + events) remote → Roomy events (with_changed known number (goes_back kept found))
+room-back events known remote number from kept None is all holds =
     with-same events known number (goes_back kept None) (λ s. refl) all
-room-back events known number from kept (Some source) is all =
-    let roomy = All-at ServerFacts (HasTimeline (1 + events)) known from source all is in
+room-back events known remote number from kept (Some source) is all holds =
+    let roomy = found-holds (HasTimeline (1 + events)) known remote from source all holds is in
     with-all (HasTimeline (1 + events)) (HasTimeline events) known number (goes_back kept (Some source)) all
     (timeline-fewer events) (λ s room. back-if events kept source s (is_rewindable s.state) roomy room)
 
@@ -192,11 +220,12 @@ copy-if : (events : ℕ) (source s : ServerFacts) (may : Bool) → HasTimeline (
 copy-if events source s true theirs own = omega (arith, theirs)
 copy-if events source s false theirs own = omega (arith, own)
 
-room-copied : (events : ℕ) (known : List ServerFacts) (number from : ℕ) (found : Option ServerFacts)
-    → slice_get known from ≡ found → Roomy (1 + events) known → Roomy events (copied_by known number found)
-room-copied events known number from None is all = fewer events known all
-room-copied events known number from (Some source) is all =
-    let roomy = All-at ServerFacts (HasTimeline (1 + events)) known from source all is in
+room-copied : (events : ℕ) (known : List ServerFacts) (remote : Option ServerFacts) (number from : ℕ)
+    (found : Option ServerFacts) → server_at known remote from ≡ found → Roomy (1 + events) known
+    → HasRemote (1 + events) remote → Roomy events (copied_by known number found)
+room-copied events known remote number from None is all holds = fewer events known all
+room-copied events known remote number from (Some source) is all holds =
+    let roomy = found-holds (HasTimeline (1 + events)) known remote from source all holds is in
     with-all (HasTimeline (1 + events)) (HasTimeline events) known number (becomes_copy source) all
     (timeline-fewer events) (λ s room. copy-if events source s (is_creating s.state) roomy room)
 
@@ -205,16 +234,20 @@ lost-if : (s : ServerFacts) (is_live : Bool)
 lost-if s true = refl
 lost-if s false = refl
 
-room-logged : (events : ℕ) (known : List ServerFacts) (happening : LogEvent) → Roomy (1 + events) known
-    → Roomy events (servers_by_log known happening)
-room-logged events known (logs.Appended server entry) all = with-same events known server.id.number _ (λ s. refl) all
-room-logged events known (logs.Received server from count) all =
-    room-received events known server.id.number from.id.number count (slice_get known from.id.number) refl all
-room-logged events known (logs.Rewound server from kept at) all =
-    room-back events known server.id.number from.id.number kept (slice_get known from.id.number) refl all
-room-logged events known (logs.Copied server from) all =
-    room-copied events known server.id.number from.id.number (slice_get known from.id.number) refl all
-room-logged events known (logs.Wiped server) all =
+room-logged : (events : ℕ) (known : List ServerFacts) (remote : Option ServerFacts) (happening : LogEvent)
+    → Roomy (1 + events) known → HasRemote (1 + events) remote → Roomy events (servers_by_log known remote happening)
+room-logged events known remote (logs.Appended server entry) all holds =
+    with-same events known server.id.number _ (λ s. refl) all
+room-logged events known remote (logs.Received server from count) all holds =
+    room-received events known remote server.id.number from.id.number count (server_at known remote from.id.number)
+    refl all holds
+room-logged events known remote (logs.Rewound server from kept at) all holds =
+    room-back events known remote server.id.number from.id.number kept (server_at known remote from.id.number)
+    refl all holds
+room-logged events known remote (logs.Copied server from) all holds =
+    room-copied events known remote server.id.number from.id.number (server_at known remote from.id.number)
+    refl all holds
+room-logged events known remote (logs.Wiped server) all holds =
     with-same events known server.id.number loses_log (λ s. lost-if s (live s.state)) all
 
 room-replicated : (events : ℕ) (known : List ServerFacts) (happening : ReplicationEvent)
@@ -233,17 +266,44 @@ room-watched events known (watchdogs.Reset member) all = with-same events known 
 room-watched events known _ all = fewer events known all
 
 -- one more event takes the room of one timeline
-pub servers-room : (now events : ℕ) (known : List ServerFacts) (kind : EventKind)
-    → All (HasTimeline (1 + events)) known → All (HasTimeline events) (servers_after now known kind)
-servers-room now events known kinds.Tick all =
+pub servers-room : (now events : ℕ) (known : List ServerFacts) (remote : Option ServerFacts) (kind : EventKind)
+    → All (HasTimeline (1 + events)) known → ForSome remote (HasTimeline (1 + events))
+    → All (HasTimeline events) (servers_after now known remote kind)
+servers-room now events known remote kinds.Tick all holds =
     map-all (HasTimeline (1 + events)) (HasTimeline events) (ticked_unless_live (record { 0 = now })) known all
     (λ s room. timeline-as events s (ticked_unless_live (record { 0 = now }) s)
     (quiet-if (record { 0 = now }) s (live s.state)) room)
-servers-room now events known (kinds.Watchdog happening) all = room-watched events known happening all
-servers-room now events known (kinds.Server happening) all = room-by now events known happening all
-servers-room now events known (kinds.Log happening) all = room-logged events known happening all
-servers-room now events known (kinds.Replication happening) all = room-replicated events known happening all
-servers-room now events known _ all = fewer events known all
+servers-room now events known remote (kinds.Watchdog happening) all holds = room-watched events known happening all
+servers-room now events known remote (kinds.Server happening) all holds = room-by now events known happening all
+servers-room now events known remote (kinds.Log happening) all holds =
+    room-logged events known remote happening all holds
+servers-room now events known remote (kinds.Replication happening) all holds =
+    room-replicated events known happening all
+servers-room now events known remote _ all holds = fewer events known all
+
+-- a bound on the remote's timeline is a greater one too
+pub remote-weaker : (P Q : ServerFacts → Type 0) (remote : Option ServerFacts) → ((s : ServerFacts) → P s → Q s)
+    → ForSome remote P → ForSome remote Q
+remote-weaker P Q None weaker holds = holds
+remote-weaker P Q (Some s) weaker holds = weaker s holds
+
+supplied-timeline : (entry : Entry) (s : ServerFacts) (own : Bool)
+    → (cond own (supplied entry s) s).timeline ≡ s.timeline
+supplied-timeline entry s true = refl
+supplied-timeline entry s false = refl
+
+remote-logged : (events : ℕ) (remote : Option ServerFacts) (happening : LogEvent) → HasRemote events remote
+    → HasRemote events (remote_by_log remote happening)
+remote-logged events None (logs.Appended server entry) holds = holds
+remote-logged events (Some s) (logs.Appended server entry) holds =
+    let same = supplied-timeline entry s (server.id.number == MOST_MEMBERS) in omega (arith, holds, same)
+remote-logged events remote _ holds = holds
+
+-- no event changes it
+pub remote-room : (events : ℕ) (remote : Option ServerFacts) (kind : EventKind) → ForSome remote (HasTimeline events)
+    → ForSome (remote_after remote kind) (HasTimeline events)
+remote-room events remote (kinds.Log happening) holds = remote-logged events remote happening holds
+remote-room events remote _ holds = holds
 
 log-more : (last : ℕ) (happening : LogEvent) → CountsLog last happening
     → commits_after last (kinds.Log happening) ≤ last + 1

@@ -1,12 +1,12 @@
 -- What happens at servers, one event at a time.
-use Rattle.std.proofs.Common.{◌≡◌, ◌≤◌, ℕ, Bool, arith, List, [], ◌∷◌, refl, ◌∙◌, ap, sym}
+use Rattle.std.proofs.Common.{◌≡◌, ◌≤◌, ℕ, Bool, arith, List, [], ◌∷◌, Option, refl, ◌∙◌, ap, sym}
 use Rattle.pat_base.specs.declared.ticks.Ticks.{Ticks}
 use Rattle.pg_model.specs.Facts.{ServerFacts}
 use Rattle.event_book.specs.declared.event.EventKind.{EventKind}
 use Rattle.event_book.specs.declared.event.EventKind.TheVariants as kinds
 use Rattle.event_book.specs.Acknowledged.{acknowledged_after, commits_after}
 use Rattle.event_book.specs.Frozen.{frozen_after}
-use Rattle.event_book.specs.Servers.{servers_after}
+use Rattle.event_book.specs.Servers.{remote_after, servers_after}
 use Rattle.event_list.specs.Listed.{Listed, ◌+++◌}
 use Rattle.cluster_model.specs.Cluster.{cluster_after}
 use Rattle.cluster_model.specs.State.{Cluster}
@@ -17,10 +17,16 @@ use Rattle.world_model.specs.Comes.{Counts}
 use Rattle.world_model.specs.Room.{event_cost}
 use Rattle.world_model.proofs.Taking.{Emits-one, Emits-weaker}
 
--- a cluster with other servers, other frozen ones, another last commit and other acknowledged ones
-abbrev pub serving : Cluster → List ServerFacts → List Bool → ℕ → List ℕ → Cluster
-serving cluster servers frozen commits acknowledged = record cluster {
-  facts = record cluster.facts { servers = servers; frozen = frozen; commits = commits; acknowledged = acknowledged };
+-- a cluster with other servers, another remote, other frozen ones, another last commit and other acknowledged ones
+abbrev pub serving : Cluster → List ServerFacts → Option ServerFacts → List Bool → ℕ → List ℕ → Cluster
+serving cluster servers remote frozen commits acknowledged = record cluster {
+  facts = record cluster.facts {
+    servers = servers;
+    remote = remote;
+    frozen = frozen;
+    commits = commits;
+    acknowledged = acknowledged;
+  };
 }
 
 -- what concerns servers, their logs and their replication, and notes
@@ -32,8 +38,10 @@ IsServing (kinds.Note note) = Unit {0}
 IsServing _ = ⊥
 
 abbrev pub served : Cluster → EventKind → Cluster
-served cluster kind = serving cluster (servers_after cluster.facts.clock cluster.facts.servers kind)
-    (frozen_after cluster.facts.frozen kind) (commits_after cluster.facts.commits kind)
+served cluster kind = serving cluster
+    (servers_after cluster.facts.clock cluster.facts.servers cluster.facts.remote kind)
+    (remote_after cluster.facts.remote kind) (frozen_after cluster.facts.frozen kind)
+    (commits_after cluster.facts.commits kind)
     (acknowledged_after cluster.facts.acknowledged kind)
 
 -- it changes nothing else

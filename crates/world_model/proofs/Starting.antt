@@ -102,6 +102,7 @@ start-room head = record {
   agents = first-numbers head.cluster (cluster_of head).options (cluster_of head).facts.members
       (cluster_of head).facts.members;
   timelines = first-timeline head.base (length (names_of head));
+  remote = tt;
   commits = omega arith;
 }
 

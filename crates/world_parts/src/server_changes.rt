@@ -1,5 +1,5 @@
 //! What a happening changes at servers.
-ghost use Rattle.std.specs.Prelude.{◌≡◌, ◌<◌, ◌≤◌, ◌^◌, ◌==◌, ◌&&◌, ◌||◌, not, OnOk, IfSome, IsTrue, slice_get};
+ghost use Rattle.std.specs.Prelude.{◌≡◌, ◌<◌, ◌≤◌, ◌^◌, ◌==◌, ◌&&◌, ◌||◌, not, OnOk, IfSome, IsTrue, None, slice_get};
 ghost use Rattle.pat_base.specs.Changes.{with_changed};
 ghost use Rattle.event_book.specs.Servers.{begun_in, servers_after, servers_by, servers_by_log, servers_by_replication, servers_by_watchdog, starts_as_primary, starts_as_replica, stops};
 ghost use Rattle.pg_model.specs.Facts.{is_down, is_up};
@@ -12,11 +12,11 @@ use pat_base::{State, Ticks};
 use pg_cluster::Servers;
 use std::alloc::AllocError;
 
-/// The servers after a happening of this moment. It fails only for want of memory.
+/// The servers after a happening of this moment, where the cluster follows no remote primary. It fails only for want of memory.
 pub fn change_servers(servers: &mut Servers, now: Ticks, kind: &EventKind) -> Result<(), AllocError>
     requires moment { now.0 ≤ latest }
     requires serves { ServesAt now.0 servers.old kind.now }
-    ensures { OnOk result (servers.new ≡ servers_after now.0 servers.old kind.now) }
+    ensures { OnOk result (servers.new ≡ servers_after now.0 servers.old None kind.now) }
 {
     match kind {
         EventKind::Tick => {
@@ -184,7 +184,7 @@ pub fn is_down(state: State) -> bool
 
 fn change_log(servers: &mut Servers, happening: &LogEvent) -> Result<(), AllocError>
     requires { LogComes servers.old happening.now }
-    ensures { OnOk result (servers.new ≡ servers_by_log servers.old happening.now) }
+    ensures { OnOk result (servers.new ≡ servers_by_log servers.old None happening.now) }
 {
     match happening {
         LogEvent::Appended { server, entry } => {

@@ -153,7 +153,8 @@ set-same (t ∷ known) (suc place) s is = ap (λ (xs : List ServerFacts). t ∷ 
 
 -- a cluster with other servers and other acknowledged commits
 abbrev pub telling : Cluster → List ServerFacts → List ℕ → Cluster
-telling cluster servers told = serving cluster servers cluster.facts.frozen cluster.facts.commits told
+telling cluster servers told =
+    serving cluster servers cluster.facts.remote cluster.facts.frozen cluster.facts.commits told
 
 -- an acknowledgement counts no counter up
 pub HasRoom-acknowledged : (cluster : Cluster) (member : Member) (commit events : ℕ) → HasRoom cluster events
@@ -167,6 +168,7 @@ HasRoom-acknowledged cluster member commit events room = record {
   agents = room.agents;
   timelines = with-all (HasTimeline events)
       (HasTimeline events) cluster.facts.servers member.id.number one_told room.timelines (λ s has. has) (λ s has. has);
+  remote = room.remote;
   commits = room.commits;
 }
 

@@ -1,5 +1,5 @@
 -- What happens keeps what a world keeps.
-use Rattle.std.proofs.Common.{◌≡◌, ◌≤◌, arith, ℕ, Bool, List, [], ◌∷◌, Option, refl, ◌∙◌, ap, sym}
+use Rattle.std.proofs.Common.{◌≡◌, ◌≤◌, arith, ℕ, Bool, List, [], ◌∷◌, Option, None, refl, ◌∙◌, ap, sym}
 use Rattle.pat_base.specs.declared.ticks.Ticks.{Ticks}
 use Rattle.lease_store.specs.Keys.{Keys}
 use Rattle.pg_model.specs.Facts.{ServerFacts}
@@ -17,8 +17,10 @@ use Rattle.event_book.specs.Frozen.{frozen_after}
 use Rattle.event_book.specs.Keys.{keys_after}
 use Rattle.event_book.specs.Links.{CutLinks, cuts_after}
 use Rattle.event_book.specs.Processes.{processes_after}
-use Rattle.event_book.specs.Servers.{servers_after}
+use Rattle.event_book.specs.Servers.{remote_after, remote_by_log, servers_after}
 use Rattle.event_book.specs.Watchdogs.{deadlines_after, holds_after}
+use Rattle.event_book.specs.declared.event.LogEvent.{LogEvent}
+use Rattle.event_book.specs.declared.event.LogEvent.TheVariants as logs
 use Rattle.event_list.specs.Listed.{Listed, ◌+++◌}
 use Rattle.agent_model.specs.Agents.{AgentFacts}
 use Rattle.cluster_model.specs.Cluster.{agent_facts_after, agent_facts_by, agent_facts_by_message, agent_facts_moved, cluster_after}
@@ -89,10 +91,20 @@ agents-apart cluster (kinds.Agent happening) bare = agents-apart-by cluster happ
 agents-apart cluster (kinds.Message happening) bare = agents-apart-message cluster happening bare
 agents-apart cluster _ bare = refl
 
+-- where there is no remote, none comes
+absent-logged : (happening : LogEvent) → remote_by_log None happening ≡ None
+absent-logged (logs.Appended server entry) = refl
+absent-logged _ = refl
+
+pub remote-absent : (kind : EventKind) → remote_after None kind ≡ None
+remote-absent (kinds.Log happening) = absent-logged happening
+remote-absent _ = refl
+
 -- a cluster with these fields
-abbrev pub changed : Cluster → ℕ → Keys → List AgentProcess → CutLinks → Flight → ℕ → List ServerFacts → List Bool
-    → List (Option Ticks) → List Bool → List (Option Ticks) → ℕ → List ℕ → List (Option AgentFacts) → Cluster
-changed cluster clock keys processes cuts flight sent servers frozen deadlines failsafe_deadlines holds commits
+abbrev pub changed : Cluster → ℕ → Keys → List AgentProcess → CutLinks → Flight → ℕ → List ServerFacts
+    → Option ServerFacts → List Bool → List (Option Ticks) → List Bool → List (Option Ticks) → ℕ → List ℕ
+    → List (Option AgentFacts) → Cluster
+changed cluster clock keys processes cuts flight sent servers remote frozen deadlines failsafe_deadlines holds commits
     acknowledged agents =
     record {
       scope = cluster.scope;
@@ -106,6 +118,7 @@ changed cluster clock keys processes cuts flight sent servers frozen deadlines f
         flight = flight;
         sent = sent;
         servers = servers;
+        remote = remote;
         frozen = frozen;
         deadlines = deadlines;
         holds = holds;
@@ -118,24 +131,28 @@ changed cluster clock keys processes cuts flight sent servers frozen deadlines f
 
 -- where each field is what a happening leaves of it, the cluster is what that leaves
 pub changed-is : (cluster : Cluster) (kind : EventKind) (clock : ℕ) (keys : Keys) (processes : List AgentProcess)
-    (cuts : CutLinks) (flight : Flight) (sent : ℕ) (servers : List ServerFacts) (frozen : List Bool)
+    (cuts : CutLinks) (flight : Flight) (sent : ℕ) (servers : List ServerFacts) (remote : Option ServerFacts)
+    (frozen : List Bool)
     (deadlines : List (Option Ticks)) (failsafe_deadlines : List Bool) (holds : List (Option Ticks))
     (commits : ℕ) (acknowledged : List ℕ) (agents : List (Option AgentFacts)) → IsBare kind
     → clock ≡ now_after cluster.facts.clock kind → keys ≡ keys_after clock cluster.facts.keys kind
     → processes ≡ processes_after cluster.facts.processes kind
     → cuts ≡ cuts_after cluster.facts.cuts kind
     → flight ≡ flight_after cluster.facts.clock cluster.facts.keys cluster.facts.flight kind
-    → sent ≡ sent_after cluster.facts.sent kind → servers ≡ servers_after clock cluster.facts.servers kind
+    → sent ≡ sent_after cluster.facts.sent kind
+    → servers ≡ servers_after clock cluster.facts.servers cluster.facts.remote kind
+    → remote ≡ remote_after cluster.facts.remote kind
     → frozen ≡ frozen_after cluster.facts.frozen kind → deadlines ≡ deadlines_after cluster.facts.deadlines kind
     → failsafe_deadlines ≡ failsafe_deadlines_after cluster.failsafe_deadlines kind
     → holds ≡ holds_after cluster.facts.holds kind → commits ≡ commits_after cluster.facts.commits kind
     → acknowledged ≡ acknowledged_after cluster.facts.acknowledged kind
     → agents ≡ agents_apart cluster.scope cluster.options cluster.facts.members cluster.facts.clock cluster.agents kind
-    → changed cluster clock keys processes cuts flight sent servers frozen deadlines failsafe_deadlines holds
+    → changed cluster clock keys processes cuts flight sent servers remote frozen deadlines failsafe_deadlines holds
     commits acknowledged agents
     ≡ cluster_after cluster kind
-changed-is cluster kind clock keys processes cuts flight sent servers frozen deadlines failsafe_deadlines holds commits
-    acknowledged agents bare clock_is keys_is processes_is cuts_is flight_is sent_is servers_is frozen_is
+changed-is cluster kind clock keys processes cuts flight sent servers remote frozen deadlines
+    failsafe_deadlines holds commits
+    acknowledged agents bare clock_is keys_is processes_is cuts_is flight_is sent_is servers_is remote_is frozen_is
     deadlines_is failsafe_is holds_is commits_is acknowledged_is agents_are =
     let agents_so : agents ≡ agent_facts_after cluster kind = agents_are ∙ sym (agents-apart cluster kind bare) in
     rw (
@@ -146,6 +163,7 @@ changed-is cluster kind clock keys processes cuts flight sent servers frozen dea
       failsafe_is,
       deadlines_is,
       frozen_is,
+      remote_is,
       servers_is,
       sent_is,
       flight_is,

@@ -14,7 +14,9 @@ use Rattle.event_book.specs.declared.event.LogEvent.TheVariants as logs
 use Rattle.event_book.specs.declared.member.Member.{Member}
 use Rattle.event_book.specs.declared.member.ServerOf.{ServerOf}
 use Rattle.event_book.specs.Members.{server_of}
+use Rattle.event_book.specs.Remote.{server_at}
 use Rattle.event_book.specs.Servers.{becomes_copy, copied_by, cut_to, goes_back}
+use Rattle.event_book.proofs.Remote.{server-listed}
 use Rattle.event_list.specs.Listed.{Listed, ◌+++◌}
 use Rattle.cluster_model.specs.Commands.{kinds_of}
 use Rattle.cluster_model.specs.Orders.{copying, rewinding}
@@ -46,22 +48,25 @@ back : (kept : ℕ) (s source : ServerFacts) → is_rewindable s.state ≡ true
     → rewound_to kept s source ≡ goes_back kept (Some source) s
 back kept s source able = sym (ap (λ (b : Bool). cond b (rewound_to kept s source) (cut_to kept s)) able)
 
-rewound-by : (known : List ServerFacts) (place from : ℕ) (rewind : Rewound) (own source : Option ServerFacts)
-    → slice_get known place ≡ own → slice_get known from ≡ source → rewind_between own source ≡ Some rewind
-    → rewind_at known place from ≡ Some rewind
-    → rewound_at known place from ≡ with_changed known place (goes_back rewind.kept source)
-rewound-by known place from rewind None source p q e is = absurd (no-rewind rewind e)
-rewound-by known place from rewind (Some s) None p q e is = absurd (no-rewind rewind e)
-rewound-by known place from rewind (Some s) (Some source) p q e is =
+rewound-by : (known : List ServerFacts) (remote : Option ServerFacts) (place from : ℕ) (rewind : Rewound)
+    (own source : Option ServerFacts) → slice_get known place ≡ own → slice_get known from ≡ source
+    → rewind_between own source ≡ Some rewind → rewind_at known place from ≡ Some rewind
+    → rewound_at known place from ≡ with_changed known place (goes_back rewind.kept (server_at known remote from))
+rewound-by known remote place from rewind None source p q e is = absurd (no-rewind rewind e)
+rewound-by known remote place from rewind (Some s) None p q e is = absurd (no-rewind rewind e)
+rewound-by known remote place from rewind (Some s) (Some source) p q e is =
     rewound_at-told known place from rewind source is q
     ∙ same-change known place (λ t. rewound_to rewind.kept t source) (goes_back rewind.kept (Some source)) s p
     (back rewind.kept s source (rewindable (is_rewindable s.state) (writes source.state) _ rewind e))
+    ∙ ap (λ (o : Option ServerFacts). with_changed known place (goes_back rewind.kept o))
+    (sym (server-listed known remote from source q))
 
 -- the servers after a rewind are as its event tells
-rewound-told : (known : List ServerFacts) (place from : ℕ) (rewind : Rewound) → rewind_at known place from ≡ Some rewind
-    → rewound_at known place from ≡ with_changed known place (goes_back rewind.kept (slice_get known from))
-rewound-told known place from rewind is =
-    rewound-by known place from rewind (slice_get known place) (slice_get known from) refl refl is is
+rewound-told : (known : List ServerFacts) (remote : Option ServerFacts) (place from : ℕ) (rewind : Rewound)
+    → rewind_at known place from ≡ Some rewind
+    → rewound_at known place from ≡ with_changed known place (goes_back rewind.kept (server_at known remote from))
+rewound-told known remote place from rewind is =
+    rewound-by known remote place from rewind (slice_get known place) (slice_get known from) refl refl is is
 
 pub rewound-took : (cluster : Cluster) (member leader : Member) (rewind : Rewound) (server from : ServerOf)
     (known : List ServerFacts) (tick : Ticks) (had has : Listed)
@@ -88,7 +93,8 @@ rewound-took cluster member leader rewind server from known tick had has is stat
     (events_of cluster (kinds_of (option_map (rewinding member leader) o))) 1)
     (sym is)
     (serving-took cluster (with_servers cluster known) (rewinding member leader rewind) tick had has tt tt
-    (ap (with_servers cluster) (state ∙ rewound-told cluster.facts.servers place leader.id.number rewind is))
+    (ap (with_servers cluster)
+    (state ∙ rewound-told cluster.facts.servers cluster.facts.remote place leader.id.number rewind is))
     moment written)
 
 not-may : (may : Bool) (x : Rewound) → cond may (Some x) None ≡ None → may ≡ false
@@ -137,20 +143,23 @@ copies s source able =
     sym (ap (λ (b : Bool). cond b (cloned s source) (let other : ServerFacts = record s { log = source.log } in other))
     able)
 
-cloned-by : (known : List ServerFacts) (place : ℕ) (own source : Option ServerFacts) → slice_get known place ≡ own
-    → holds_between may_clone own source ≡ true → changed_from known place cloned source ≡ copied_by known place source
-cloned-by known place None source p may = absurd (no-way may)
-cloned-by known place (Some s) None p may = absurd (no-way may)
-cloned-by known place (Some s) (Some source) p may =
+cloned-by : (known : List ServerFacts) (remote : Option ServerFacts) (place from : ℕ) (own source : Option ServerFacts)
+    → slice_get known place ≡ own → slice_get known from ≡ source → holds_between may_clone own source ≡ true
+    → changed_from known place cloned source ≡ copied_by known place (server_at known remote from)
+cloned-by known remote place from None source p q may = absurd (no-way may)
+cloned-by known remote place from (Some s) None p q may = absurd (no-way may)
+cloned-by known remote place from (Some s) (Some source) p q may =
     same-change known place (λ t. cloned t source) (becomes_copy source) s p
     (copies s source (creating (is_creating s.state) (writes source.state) may))
+    ∙ ap (copied_by known place) (sym (server-listed known remote from source q))
 
 -- the servers after a clone are as its event tells
-cloned-told : (known : List ServerFacts) (place from : ℕ) → may_clone_at known place from ≡ true
-    → cloned_at known place from ≡ copied_by known place (slice_get known from)
-cloned-told known place from may =
+cloned-told : (known : List ServerFacts) (remote : Option ServerFacts) (place from : ℕ)
+    → may_clone_at known place from ≡ true
+    → cloned_at known place from ≡ copied_by known place (server_at known remote from)
+cloned-told known remote place from may =
     ap (λ (b : Bool). cond b (changed_from known place cloned (slice_get known from)) known) may
-    ∙ cloned-by known place (slice_get known place) (slice_get known from) refl may
+    ∙ cloned-by known remote place from (slice_get known place) (slice_get known from) refl refl may
 
 pub copied-took : (cluster : Cluster) (member leader : Member) (server from : ServerOf)
     (known : List ServerFacts) (tick : Ticks) (had has : Listed)
@@ -173,7 +182,9 @@ copied-took cluster member leader server from known tick had has may state serve
     (events_of cluster (kinds_of (if b then Some (copying member leader) else None))) 1)
     (sym may)
     (serving-took cluster (with_servers cluster known) (copying member leader) tick had has tt tt
-    (ap (with_servers cluster) (state ∙ cloned-told cluster.facts.servers place leader.id.number may)) moment written)
+    (ap (with_servers cluster)
+    (state ∙ cloned-told cluster.facts.servers cluster.facts.remote place leader.id.number may))
+    moment written)
 
 -- nothing is copied
 pub uncopied-took : (cluster : Cluster) (member leader : Member) (known : List ServerFacts) (had : Listed)

@@ -17,7 +17,9 @@ use Rattle.event_book.specs.declared.event.ServerEvent.TheVariants as servers
 use Rattle.event_book.specs.declared.member.Member.{Member}
 use Rattle.event_book.specs.declared.member.ServerOf.{ServerOf}
 use Rattle.event_book.specs.Members.{server_of}
+use Rattle.event_book.specs.Remote.{server_at}
 use Rattle.event_book.specs.Servers.{received_by}
+use Rattle.event_book.proofs.Remote.{server-listed}
 use Rattle.event_list.specs.Listed.{Listed, ◌+++◌}
 use Rattle.cluster_model.specs.Cluster.{cluster_after}
 use Rattle.cluster_model.specs.State.{Cluster}
@@ -162,10 +164,16 @@ diverged-took cluster member from most at server upstream known tick had has new
 abbrev pub receipt : Member → Member → ℕ → EventKind
 receipt member from count = kinds.Log (logs.Received (server_of member) (server_of from) count)
 
-receive_events-by : (known : List ServerFacts) (place count : ℕ) (upstream : Option ServerFacts)
-    → after_streamed_from known place (streams.Received count) upstream ≡ received_by known place count upstream
-receive_events-by known place count None = refl
-receive_events-by known place count (Some upstream) = refl
+receive_events-by : (known : List ServerFacts) (remote : Option ServerFacts) (place from most count : ℕ)
+    (found upstream : Option ServerFacts) → slice_get known from ≡ upstream
+    → news_between found upstream most ≡ Some (streams.Received count)
+    → after_streamed_from known place (streams.Received count) upstream
+    ≡ received_by known place count (server_at known remote from)
+receive_events-by known remote place from most count None None is news = absurd (no-news (streams.Received count) news)
+receive_events-by known remote place from most count (Some s) None is news =
+    absurd (no-news (streams.Received count) news)
+receive_events-by known remote place from most count found (Some upstream) is news =
+    ap (received_by known place count) (sym (server-listed known remote from upstream is))
 
 -- a replica received what was new
 pub received-state : (cluster : Cluster) (member from : Member) (most count : ℕ) (known : List ServerFacts)
@@ -175,7 +183,8 @@ pub received-state : (cluster : Cluster) (member from : Member) (most count : �
 received-state cluster member from most count known news state =
     ap (with_servers cluster)
     (state ∙ ap (after_news_at cluster.facts.servers member.id.number from.id.number) news
-    ∙ receive_events-by cluster.facts.servers member.id.number count (slice_get cluster.facts.servers from.id.number))
+    ∙ receive_events-by cluster.facts.servers cluster.facts.remote member.id.number from.id.number most count
+    (slice_get cluster.facts.servers member.id.number) (slice_get cluster.facts.servers from.id.number) refl news)
     ∙ sym (serving-cluster_after cluster (receipt member from count) tt)
 
 pub received-room : (cluster : Cluster) (member from : Member) (most count : ℕ) (known : List ServerFacts)

@@ -1,4 +1,5 @@
 -- A world as a cluster.
+use Rattle.std.proofs.Common.{None}
 use Rattle.world_stage.specs.declared.stage.Stage.TheInside.{Inside}
 use Rattle.cluster_model.specs.State.{Cluster}
 
@@ -16,6 +17,7 @@ seen w = record {
     flight = w.flight;
     sent = w.sent;
     servers = w.servers;
+    remote = None;
     frozen = w.frozen.items;
     deadlines = w.deadlines.items;
     holds = w.holds.items;

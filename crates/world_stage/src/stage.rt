@@ -75,7 +75,7 @@ pub struct Stage {
 }
 
 impl Model for Stage {
-    ghost use Rattle.std.specs.Prelude.{◌≡◌, ◌≤◌, [], length};
+    ghost use Rattle.std.specs.Prelude.{◌≡◌, ◌≤◌, [], None, length};
     ghost use Rattle.pat_base.specs.declared.member_id.TheConstants.{MOST_MEMBERS};
     ghost use Rattle.cluster_model.specs.Machines.{hosts_of};
     ghost use Rattle.cluster_model.specs.State.{Cluster};
@@ -95,6 +95,7 @@ impl Model for Stage {
         flight = w.flight;
         sent = w.sent;
         servers = w.servers;
+        remote = None;
         frozen = w.frozen.items;
         deadlines = w.deadlines.items;
         holds = w.holds.items;

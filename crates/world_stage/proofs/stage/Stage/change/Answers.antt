@@ -1,10 +1,10 @@
-use Rattle.std.proofs.Common.{◌≡◌, ◌∙◌, List, ap, subst}
+use Rattle.std.proofs.Common.{◌≡◌, ◌∙◌, List, None, ap, subst, sym}
 use Rattle.member_options.specs.declared.member_option.MemberOptions.{MemberOptions}
 use Rattle.event_book.specs.declared.member.Member.{Member}
 use Rattle.cluster_model.specs.Cluster.{cluster_after}
 use Rattle.cluster_model.specs.State.{Cluster}
 use Rattle.world_model.specs.Apart.{agents_apart}
-use Rattle.world_stage.proofs.Comings.{changed, changed-is, sent-same}
+use Rattle.world_stage.proofs.Comings.{changed, changed-is, remote-absent, sent-same}
 use Rattle.world_flight.proofs.Tending.{numbered-fewer, tended-after, tended-looser}
 use Rattle.world_stage.proofs.Worlds.{seen}
 use Rattle.world_stage.proofs.stage.Stage.change.Goals as goal
@@ -68,19 +68,19 @@ returns c =
     (λ (b : Cluster).
     changed before c.now_after-now.result.0 c.change_keys.new.store c.change_processes.new.processes.items
     c.change_links.new.cuts c.change_flight.new.flight c.sent_after-self-inside.result c.change_servers.new.servers
-    c.change_frozen.new.frozen.items c.change_deadlines.new.deadlines.items
+    None c.change_frozen.new.frozen.items c.change_deadlines.new.deadlines.items
     c.change_failsafe_deadlines.new.failsafe_deadlines.items c.change_holds.new.holds.items
     c.commits_after-self-inside.result c.change_acknowledged.new.told c.change_agents.new.agents.items
     ≡ cluster_after b kind)
     c.self.view_is
     (changed-is before kind c.now_after-now.result.0 c.change_keys.new.store c.change_processes.new.processes.items
     c.change_links.new.cuts c.change_flight.new.flight c.sent_after-self-inside.result c.change_servers.new.servers
-    c.change_frozen.new.frozen.items c.change_deadlines.new.deadlines.items
+    None c.change_frozen.new.frozen.items c.change_deadlines.new.deadlines.items
     c.change_failsafe_deadlines.new.failsafe_deadlines.items c.change_holds.new.holds.items
     c.commits_after-self-inside.result c.change_acknowledged.new.told c.change_agents.new.agents.items
     c.requires.comes.bare
     c.now_after-now.ensures c.change_keys.ensures c.change_processes.ensures c.change_links.ensures
     (c.change_flight.ensures.flight before.facts.clock before.facts.keys) c.sent_after-self-inside.ensures
-    c.in_ok-change_servers.ensures
+    c.in_ok-change_servers.ensures (sym (remote-absent kind))
     c.change_frozen.ensures c.change_deadlines.ensures c.change_failsafe_deadlines.ensures
     c.change_holds.ensures c.commits_after-self-inside.ensures c.in_ok-change_acknowledged.ensures agents)
