@@ -1,11 +1,4 @@
 -- The sizes of sets that are put together.
-<<<<<<< HEAD
-use Rattle.std.proofs.Common.{◌≡◌, ℕ, ◌-◌, max, ap, arith}
-use Rattle.std.specs.Int.{bit_at}
-use Rattle.pat_base.specs.declared.member_set.MemberSet.{MemberSet}
-use Rattle.sync_state.specs.Sets.{either}
-use Rattle.sync_state.proofs.SetBits.{either-is, same-set}
-=======
 use Rattle.std.proofs.Common.{◌≡◌, ◌≢◌, min, ℕ, ◌+◌, ◌-◌, ◌<◌, max, Bool, true, false, map, take, get_or, ap, ◌∙◌, arith}
 use Rattle.std.specs.Int.{bit_at}
 use Rattle.std.specs.List.{range_with_len}
@@ -14,7 +7,6 @@ use Rattle.pat_base.specs.declared.member_id.TheConstants.{MOST_MEMBERS}
 use Rattle.pat_base.specs.declared.member_set.MemberSet.{MemberSet}
 use Rattle.sync_state.specs.Sets.{both, either, set_of}
 use Rattle.sync_state.proofs.SetBits.{both-is, either-is, same-set, set-in, set-out}
->>>>>>> 5f550c54d16382655d7924afa2fd7190ecbd8f7b
 use Rattle.quorum_commit.specs.Quorums.{difference, size}
 use Rattle.quorum_commit.proofs.Overlapping.{bit-le, bit-without}
 
@@ -24,15 +16,12 @@ pub either-size : (one other result : MemberSet)
     → size result ≡ size (either one other)
 either-size one other result h = ap (λ (s : MemberSet). size s) (either-is one other result h)
 
-<<<<<<< HEAD
-=======
 -- of those of both as many as these
 pub both-size : (one other result : MemberSet)
     → ((k : ℕ) → bit_at result.bits k ≡ min (bit_at one.bits k) (bit_at other.bits k))
     → size result ≡ size (both one other)
 both-size one other result h = ap (λ (s : MemberSet). size s) (both-is one other result h)
 
->>>>>>> 5f550c54d16382655d7924afa2fd7190ecbd8f7b
 -- and a set of the members of one that aren't in the other as many as those
 pub difference-size : (one other result : MemberSet)
     → ((k : ℕ) → bit_at result.bits k ≡ bit_at one.bits k - bit_at other.bits k)
@@ -45,8 +34,6 @@ difference-size one other result h =
       bit-le one.bits k,
       bit-le other.bits k,
     )))
-<<<<<<< HEAD
-=======
 
 -- ---- a set that is put together member by member, by the numbers of those that are chosen
 number-at : (n : ℕ) → n < MOST_MEMBERS → get_or (range_with_len 0 MOST_MEMBERS) n 0 ≡ n
@@ -68,4 +55,3 @@ pub numbered-out : (chosen : ℕ → Bool) (n : ℕ) (set : MemberSet) → n < M
 numbered-out chosen n set below so_far isnt =
     set-out chosen (range_with_len 0 MOST_MEMBERS) n 0 set below so_far
     (ap chosen (number-at n below) ∙ isnt)
->>>>>>> 5f550c54d16382655d7924afa2fd7190ecbd8f7b

@@ -1,9 +1,3 @@
-<<<<<<< HEAD
--- What overlap comes to, in sets of members.
-use Rattle.std.specs.Prelude.{ℕ, ◌≡◌, ◌≤◌, ◌<◌, ◌⊎◌}
-use Rattle.std.specs.Int.{bit_at}
-use Rattle.pat_base.specs.declared.member_set.MemberSet.{MemberSet}
-=======
 -- What overlap comes to, in sets of members, and who wins.
 use Rattle.std.specs.Prelude.{ℕ, ◌≡◌, ◌≤◌, ◌<◌, ◌⊎◌, Contains, List, true, false}
 use Rattle.std.specs.Int.{bit_at}
@@ -12,15 +6,11 @@ use Rattle.pat_base.specs.declared.peer_answer.PeerAnswer.{PeerAnswer}
 use Rattle.store_keys.specs.declared.value.SyncKey.{SyncKey}
 use Rattle.leader_race.specs.declared.racer.Racer.{Racer}
 use Rattle.leader_race.specs.Peers.{is_below, is_compared}
->>>>>>> 5f550c54d16382655d7924afa2fd7190ecbd8f7b
 use Rattle.sync_state.specs.Laws.{IsWithin}
 use Rattle.quorum_commit.specs.declared.quorums.Need.{Need}
 use Rattle.quorum_commit.specs.declared.quorums.Quorum.{Quorum}
 use Rattle.quorum_commit.specs.Quorums.{size}
-<<<<<<< HEAD
-=======
 use Rattle.quorum_commit.specs.Race.{compared}
->>>>>>> 5f550c54d16382655d7924afa2fd7190ecbd8f7b
 
 -- the member of this number is in the set
 abbrev pub IsIn : ℕ → MemberSet → Type 0
@@ -58,8 +48,6 @@ pub record EnoughHave (need : Need) (having : MemberSet) : Type 0 where
   pub members : MemberSet
   pub acknowledges : Acknowledges need members
   pub have : IsWithin members having
-<<<<<<< HEAD
-=======
 
 -- nobody that the member was compared with has a log that ends further on,
 -- and as many were compared as may lack an acknowledged commit
@@ -67,4 +55,3 @@ pub record WinsAsStandby (racer : Racer) (sync : SyncKey) (answers : List PeerAn
   pub not_behind : (answer : PeerAnswer) → Contains answers answer → is_compared racer answer ≡ true
       → is_below racer.end answer.end ≡ false
   pub enough : sync.quorum ≤ size (compared racer answers)
->>>>>>> 5f550c54d16382655d7924afa2fd7190ecbd8f7b

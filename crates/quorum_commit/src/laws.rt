@@ -1,12 +1,3 @@
-<<<<<<< HEAD
-//! What overlap comes to. Each is a function without a body whose contract is what is proved.
-ghost use Rattle.std.specs.Prelude.{◌≡◌, Bool, true};
-ghost use Rattle.pat_base.specs.declared.member_set.MemberSet.{MemberSet};
-ghost use Rattle.quorum_commit.specs.declared.quorums.Need.{Need};
-ghost use Rattle.quorum_commit.specs.declared.quorums.Quorum.{Quorum};
-ghost use Rattle.quorum_commit.specs.Laws.{Answers, EnoughHave, FewLack, Meet, Share};
-ghost use Rattle.quorum_commit.specs.Quorums.{may_publish, overlap};
-=======
 //! What overlap and the race come to. Each is a function without a body whose contract is what is proved.
 ghost use Rattle.std.specs.Prelude.{◌≡◌, ◌⊎◌, Bool, Contains, List, None, Some, false, true};
 ghost use Rattle.pat_base.specs.declared.member_set.MemberSet.{MemberSet};
@@ -21,7 +12,6 @@ ghost use Rattle.quorum_commit.specs.declared.quorums.Quorum.{Quorum};
 ghost use Rattle.quorum_commit.specs.Laws.{Answers, EnoughHave, FewLack, Meet, Share, WinsAsStandby};
 ghost use Rattle.quorum_commit.specs.Quorums.{may_publish, overlap};
 ghost use Rattle.quorum_commit.specs.Race.{quorum_outcome_by};
->>>>>>> 5f550c54d16382655d7924afa2fd7190ecbd8f7b
 
 /// Where a key's standbys and its leader's need overlap, whoever answers in a race that is won, and whoever confirms a
 /// commit that is acknowledged, have a member in common.
@@ -41,8 +31,6 @@ pub fn few_standbys_lack_a_commit()
 pub fn a_published_quorum_keeps_commits()
     ensures { (old new : Quorum) (need : Need) (confirmed : Bool) (having : MemberSet) → may_publish old new need confirmed ≡ true → FewLack old having → (confirmed ≡ true → EnoughHave need having) → FewLack new having }
 {}
-<<<<<<< HEAD
-=======
 
 /// Whoever wins heard of no other server that accepts writes. By a sync key it is the leader that this names; or nobody
 /// that it was compared with is ahead of it, and as many were compared as may lack an acknowledged commit.
@@ -50,4 +38,3 @@ pub fn who_wins_by_quorum()
     ensures no_writer { (view : AgentView) (keys : RaceKeys) (answers : List PeerAnswer) (answer : PeerAnswer) → quorum_outcome_by view keys answers ≡ None → Contains answers answer → counts view.me answer ≡ true → answer.writes ≡ false }
     ensures standby { (view : AgentView) (keys : RaceKeys) (sync : SyncKey) (answers : List PeerAnswer) → quorum_outcome_by view keys answers ≡ None → keys.sync ≡ Some sync → (sync.leader.number ≡ view.me.number) ⊎ WinsAsStandby (racer_of view keys) sync answers }
 {}
->>>>>>> 5f550c54d16382655d7924afa2fd7190ecbd8f7b

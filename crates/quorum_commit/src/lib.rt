@@ -2,13 +2,6 @@
 //! losing one.
 #![tactic(auto)]
 
-<<<<<<< HEAD
-mod laws;
-mod quorums;
-
-pub use laws::{a_published_quorum_keeps_commits, few_standbys_lack_a_commit, quorums_meet};
-pub use quorums::{Need, Quorum, may_publish, may_require, overlap};
-=======
 mod aims;
 mod candidates;
 mod laws;
@@ -25,4 +18,3 @@ pub use planning::quorum_plan;
 pub use quorums::{Need, Quorum, may_publish, may_require, overlap};
 pub use race::{quorum_wins, wins_by};
 pub use steps::QuorumPlan;
->>>>>>> 5f550c54d16382655d7924afa2fd7190ecbd8f7b

@@ -30,13 +30,8 @@ pub fn overlap(key: Quorum, need: Need) -> bool
 }
 
 /// Whether a leader with this need may publish the new standbys in place of the old: they overlap the need, and either
-<<<<<<< HEAD
-/// the members that they add are counted among those that may lack a commit, or as many as the need wants have confirmed
-/// what was acknowledged. It takes no memory.
-=======
 /// the members that they add are counted among those that may lack a commit, or as many as the need wants have
 /// confirmed what was acknowledged. It takes no memory.
->>>>>>> 5f550c54d16382655d7924afa2fd7190ecbd8f7b
 pub fn may_publish(old: Quorum, new: Quorum, need: Need, confirmed: bool) -> bool
     ensures { result ≡ may_publish old new need confirmed }
 {
