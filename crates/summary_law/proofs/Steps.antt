@@ -1,5 +1,5 @@
 -- The summary stands for the book, step by step.
-use Rattle.std.proofs.Common.{◌≡◌, ℕ, ◌≤◌, List, [], ◌∷◌, ◌++◌, Bool, false, length, refl, sym, ap, subst, ◌∙◌}
+use Rattle.std.proofs.Common.{◌≡◌, ℕ, ◌≤◌, List, [], ◌∷◌, ◌++◌, Bool, false, None, length, refl, sym, ap, subst, ◌∙◌}
 use Rattle.pat_base.specs.declared.ticks.Ticks.{Ticks}
 use Rattle.store_keys.specs.Settings.{Settings}
 use Rattle.event_book.specs.declared.event.Event.{Event}
@@ -101,7 +101,7 @@ steps-told members first logs steps within measured told =
 pub watches-first : (members : List WatchOf) (first : Settings) → length members ≤ MOST_MEMBERS
     → WatchStandsButForLosses members first [] (summary_of members first.config).watch
 watches-first members first within =
-    let stands = stands-first members first [] within in
+    let stands = stands-first members first (record { members = []; remote = None }) within in
     let is = stands.closing in
     record {
       margins = stands.margins;
