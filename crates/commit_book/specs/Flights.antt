@@ -13,6 +13,7 @@ use Rattle.event_book.specs.declared.message.Body.{Body}
 use Rattle.event_book.specs.declared.message.Body.TheVariants as bodies
 use Rattle.event_book.specs.Flight.{InFlightFacts, in_flight}
 use Rattle.event_book.specs.Facts.{Facts, facts_after}
+use Rattle.event_book.specs.Logs.{no_logs}
 use Rattle.lease_book.specs.Flights as bridge_flights
 use Rattle.commit_actions.specs.Flights.{Aim, ClaimSync, CreateLeader, PublishStandbys, SyncRequest, Flying}
 use Rattle.commit_actions.specs.Actions.{sync_key_by}
@@ -22,7 +23,7 @@ use Rattle.commit_book.specs.Keys.{sync_key_of, IsSameKeys}
 -- what commits read of a book as this message is sent: the keys of its
 -- snapshot, the revision of its grant, and these requests so far
 abbrev pub past_at_sending : (ℕ → Query) → InFlightFacts → Past
-past_at_sending asked carried = record (first_past [] [] []) {
+past_at_sending asked carried = record (first_past no_logs [] []) {
   lease = bridge_flights.past_at_sending (λ i. None) carried;
   sync = sync_key_of (find key_cmp keys.Sync carried.snapshot);
   asked = asked;

@@ -21,6 +21,10 @@ pub record Logs : Type 0 where
   pub members : MemberLogs
   pub remote : Option (Option (List Entry))
 
+-- none of anybody
+abbrev pub no_logs : Logs
+no_logs = record { members = []; remote = None }
+
 -- the logs of these servers
 abbrev pub logs_of : List ServerFacts → Option ServerFacts → Logs
 logs_of servers remote = record { members = map (λ s. s.log) servers; remote = option_map (λ s. s.log) remote }

@@ -1,10 +1,10 @@
 -- The summary stands for the book, step by step.
-use Rattle.std.proofs.Common.{◌≡◌, ℕ, ◌≤◌, List, [], ◌∷◌, ◌++◌, Bool, false, None, length, refl, sym, ap, subst, ◌∙◌}
+use Rattle.std.proofs.Common.{◌≡◌, ℕ, ◌≤◌, List, [], ◌∷◌, ◌++◌, Bool, false, length, refl, sym, ap, subst, ◌∙◌}
 use Rattle.pat_base.specs.declared.ticks.Ticks.{Ticks}
 use Rattle.store_keys.specs.Settings.{Settings}
 use Rattle.event_book.specs.declared.event.Event.{Event}
 use Rattle.event_book.specs.Kept.{KeepsCommits}
-use Rattle.event_book.specs.Logs.{Logs}
+use Rattle.event_book.specs.Logs.{Logs, no_logs}
 use Rattle.event_book.specs.Writers.{HasOneWriter, writes_over}
 use Rattle.event_book.specs.Premises.{ArePremisesMet, first_moments}
 use Rattle.lease_law.proofs.Runs.{cons-eq, assoc, none-more}
@@ -101,7 +101,7 @@ steps-told members first logs steps within measured told =
 pub watches-first : (members : List WatchOf) (first : Settings) → length members ≤ MOST_MEMBERS
     → WatchStandsButForLosses members first [] (summary_of members first.config).watch
 watches-first members first within =
-    let stands = stands-first members first (record { members = []; remote = None }) within in
+    let stands = stands-first members first no_logs within in
     let is = stands.closing in
     record {
       margins = stands.margins;
