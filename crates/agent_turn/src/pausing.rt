@@ -1,7 +1,6 @@
 //! What an agent does otherwise while the cluster is paused: by itself it neither starts nor ends nor rewinds a server, but for a
 //! handover (Patroni's documentation, "Pause/Resume mode for the cluster").
 ghost use Rattle.std.specs.Prelude.{option_copied, ◌≡◌};
-ghost use Rattle.pg_model.specs.Facts.{is_replica};
 ghost use Rattle.agent_model.specs.Pausing.{ends_forks, is_paused, is_wanted, is_wanted_by, lets_rewind, may_start_behind};
 
 use crate::Outputs;
@@ -46,7 +45,7 @@ pub fn ends_forks(settings: &Config) -> bool
 pub fn is_wanted(me: MemberId, failover: Option<FailoverKey>, state: State) -> bool
     ensures { result ≡ is_wanted me failover state }
 {
-    is_candidate(me, failover) && is_replica(state)
+    is_candidate(me, failover) && state.is_replica()
 }
 
 /// So they do by the failover key of the newest snapshot.
@@ -57,10 +56,4 @@ pub fn is_wanted_by(me: MemberId, seen: Option<&Snapshot>, state: State) -> bool
         None => false,
         Some(snapshot) => is_wanted(me, snapshot.failover(), state),
     }
-}
-
-fn is_replica(state: State) -> bool
-    ensures { result ≡ is_replica state }
-{
-    matches!(state, State::Replica)
 }

@@ -22,7 +22,28 @@ pub enum State {
 
 impl State {
     ghost use Rattle.std.specs.Prelude.{◌≡◌};
-    ghost use Rattle.pat_base.specs.ServerState.{writes, live};
+    ghost use Rattle.pat_base.specs.ServerState.{is_down, is_primary, is_replica, live, writes};
+
+    /// Whether a server in this state is down: it was shut down, or crashed.
+    pub fn is_down(&self) -> bool
+        ensures { result ≡ is_down self.now }
+    {
+        matches!(self, State::Stopped | State::Crashed)
+    }
+
+    /// Whether a server in this state runs as a replica, whether or not it receives.
+    pub fn is_replica(&self) -> bool
+        ensures { result ≡ is_replica self.now }
+    {
+        matches!(self, State::Replica)
+    }
+
+    /// Whether a server in this state runs as the primary.
+    pub fn is_primary(&self) -> bool
+        ensures { result ≡ is_primary self.now }
+    {
+        matches!(self, State::Primary)
+    }
 
     /// Whether a server in this state accepts writes.
     pub fn writes(&self) -> bool

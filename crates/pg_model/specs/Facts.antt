@@ -7,6 +7,7 @@ use Rattle.pat_base.specs.declared.member_set.MemberSet.{MemberSet}
 use Rattle.pat_base.specs.declared.server_state.State.{State}
 use Rattle.pat_base.specs.declared.server_state.State.TheVariants as states
 use Rattle.pat_base.specs.declared.server_state.Required.{Required}
+pub use Rattle.pat_base.specs.ServerState.{is_down, is_replica}
 use Rattle.pat_base.specs.declared.server_state.Required.TheVariants as required
 use Rattle.wal_model.specs.declared.entry.Entry.{Entry}
 use Rattle.wal_model.specs.declared.entry.HistoryPoint.{HistoryPoint}
@@ -73,17 +74,6 @@ entries_of (Some entries) = entries
 abbrev pub is_creating : State → Bool
 is_creating states.Creating = true
 is_creating _ = false
-
--- it runs as a replica
-abbrev pub is_replica : State → Bool
-is_replica states.Replica = true
-is_replica _ = false
-
--- it was shut down, or crashed
-abbrev pub is_down : State → Bool
-is_down states.Stopped = true
-is_down states.Crashed = true
-is_down _ = false
 
 -- it runs, or starts
 abbrev pub is_up : State → Bool

@@ -6,6 +6,7 @@ use Rattle.pat_base.specs.declared.server_state.State.{State}
 use Rattle.pat_base.specs.declared.server_state.State.TheVariants as states
 use Rattle.pat_base.specs.Lsn.{lsn_at}
 use Rattle.pat_base.specs.ServerState.{live}
+pub use Rattle.pat_base.specs.ServerState.{is_primary}
 use Rattle.wal_model.specs.Log.{end_of}
 use Rattle.pg_model.specs.Facts.{ServerFacts, none_confirmed, entries_of}
 
@@ -51,11 +52,6 @@ primary_started now s = starting true now s
 -- its stop is complete, and no commit waits any more
 abbrev pub stopped : ServerFacts → ServerFacts
 stopped s = record s { state = states.Stopped; waiting = [] }
-
--- it runs and accepts writes
-abbrev pub is_primary : State → Bool
-is_primary states.Primary = true
-is_primary _ = false
 
 -- it shuts down: at once where stops take no time, and else it has
 -- ended after the delay; a primary accepts writes until then

@@ -289,7 +289,7 @@ impl Server {
         ensures ok { OnOk result (self.new ≡ replica_started now upstream self.old) }
         ensures err { OnErr result (self.new ≡ self.old) }
     {
-        if !is_down(self.state) {
+        if !self.state.is_down() {
             return Err(InState(self.state));
         }
         self.upstream = upstream;
@@ -308,7 +308,7 @@ impl Server {
         ensures ok { OnOk result (self.new ≡ primary_started now self.old) }
         ensures err { OnErr result (self.new ≡ self.old) }
     {
-        if !is_down(self.state) || !self.was_primary {
+        if !self.state.is_down() || !self.was_primary {
             return Err(InState(self.state));
         }
         self.start(true, now);
@@ -597,12 +597,6 @@ fn position_by(confirmed: &[Option<Lsn>; MOST_MEMBERS], by: MemberId) -> Option<
     ensures { result ≡ slice_index_or confirmed.now by.number None }
 {
     confirmed[by.number as usize]
-}
-
-pub(crate) fn is_down(state: State) -> bool
-    ensures { result ≡ is_down state }
-{
-    matches!(state, State::Stopped | State::Crashed)
 }
 
 /// The state after a crash.

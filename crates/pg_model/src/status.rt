@@ -5,7 +5,7 @@ ghost use Rattle.pg_model.specs.Status.{status_of, status_promoted, status_start
 ghost use Rattle.pat_base.specs.Moments.{latest};
 
 use crate::Server;
-use crate::server::{is_down, is_up};
+use crate::server::is_up;
 use pat_base::{Lsn, ServerId, State, Ticks};
 
 /// What an agent sees of its server: all that it keeps but for its log, its history, and what its commits wait for. `end` is
@@ -64,7 +64,7 @@ impl ServerStatus {
         requires delay { self.old.start_delay.0 ≤ 2 ^ 40 }
         ensures { self.new ≡ status_replica_started now upstream self.old }
     {
-        if is_down(self.state) {
+        if self.state.is_down() {
             self.upstream = upstream;
             self.was_primary = false;
             self.start(false, now);
@@ -77,7 +77,7 @@ impl ServerStatus {
         requires delay { self.old.start_delay.0 ≤ 2 ^ 40 }
         ensures { self.new ≡ status_primary_started now self.old }
     {
-        if is_down(self.state) && self.was_primary {
+        if self.state.is_down() && self.was_primary {
             self.start(true, now);
         }
     }

@@ -17,7 +17,8 @@ use Rattle.cluster_view.specs.KeyValues.{sync_in}
 use Rattle.cluster_view.specs.Naming.{is_standby}
 use Rattle.cluster_view.specs.Snapshots.{SnapshotFacts}
 use Rattle.rest_facts.specs.Lags.{limit_of, status_on, is_within_limit}
-use Rattle.rest_facts.specs.Members.{is_primary, is_replica, is_standby_of, is_standby_on}
+use Rattle.pat_base.specs.ServerState.{is_primary, is_replica}
+use Rattle.rest_facts.specs.Members.{is_standby_of, is_standby_on}
 use Rattle.rest_facts.specs.Turns.{config_on, primary_span, other_span, is_fresh}
 use Rattle.rest_facts.specs.Laws.{TakesLoad, IsNamed, KeepsUp, TakesTurns, allowed_span}
 

@@ -5,7 +5,7 @@ ghost use Rattle.rest_facts.specs.Checks.{facts_of_view, health_of_view};
 
 use crate::freshness::{TTLS_OF_OTHERS, config_on, is_fresh};
 use crate::lag::{is_within_limit, limit_of, status_on};
-use crate::server::{is_primary, is_replica, is_standby_on};
+use crate::server::is_standby_on;
 use cluster_view::AgentView;
 use pat_base::Ticks;
 use rest_health::{Endpoint, Facts, health};
@@ -23,8 +23,8 @@ pub fn facts_of(view: &AgentView<'_>, lag: Option<&[u8]>) -> Facts
     let ttl = config_on(view.seen).ttl_ticks();
     let longer = Ticks(TTLS_OF_OTHERS * ttl.0);
     Facts {
-        primary: is_primary(view.state),
-        replica: is_replica(view.state),
+        primary: view.state.is_primary(),
+        replica: view.state.is_replica(),
         has_key: view.role.has_key(),
         no_load_balance: view.tags.noloadbalance,
         standby: is_standby_on(view.me, view.seen),

@@ -24,7 +24,7 @@ use Rattle.rest_health.specs.Health.{status_where}
 use Rattle.rest_health.specs.Laws.{is_for_primaries}
 use Rattle.rest_health.specs.Statuses.{ok}
 use Rattle.rest_facts.specs.Checks.{health_of_view}
-use Rattle.rest_facts.specs.Members.{is_primary}
+use Rattle.pat_base.specs.ServerState.{is_primary}
 use Rattle.rest_message.specs.Requests.{RequestText}
 use Rattle.rest_message.specs.Targets.{lag_of, path_of}
 use Rattle.rest_paths.specs.declared.asking.Ask.{Ask}

@@ -17,7 +17,6 @@ use world_orders::order_kinds::{
     declared_member, following_of, require_of, stop_of, upstream_of, wipe_of,
 };
 use world_orders::server_commands::{beginning_of, promoted_timeline, restart_of};
-use world_parts::server_changes::is_down;
 use world_stage::{Stage, begin_on};
 
 /// The server of a member is promoted by its operator, where it is a replica, and begins.
@@ -64,7 +63,7 @@ pub fn start_replica(
     let Some(state) = server_state(stage, member) else {
         return Ok(());
     };
-    if !is_down(state) {
+    if !state.is_down() {
         return Ok(());
     }
     let server = ServerOf::of(member);

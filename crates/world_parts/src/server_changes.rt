@@ -2,7 +2,7 @@
 ghost use Rattle.std.specs.Prelude.{◌≡◌, ◌<◌, ◌≤◌, ◌^◌, ◌==◌, ◌&&◌, ◌||◌, not, OnOk, IfSome, IsTrue, None, slice_get};
 ghost use Rattle.pat_base.specs.Changes.{with_changed};
 ghost use Rattle.event_book.specs.Servers.{begun_in, servers_after, servers_by, servers_by_log, servers_by_replication, servers_by_watchdog, starts_as_primary, starts_as_replica, stops};
-ghost use Rattle.pg_model.specs.Facts.{is_down, is_up};
+ghost use Rattle.pg_model.specs.Facts.{is_up};
 ghost use Rattle.pg_model.specs.Running.{is_primary, stopped};
 ghost use Rattle.world_model.specs.Comes.{begins_in, ends_at, LogComes, ReplicationComes, ServerComes, ServesAt};
 ghost use Rattle.pat_base.specs.Moments.{latest};
@@ -116,7 +116,7 @@ fn start_primary(servers: &mut Servers, now: Ticks, place: usize)
     let Some(server) = servers.get(place) else {
         return;
     };
-    if is_down(server.state()) && server.start_delay() != Ticks(0) {
+    if server.state().is_down() && server.start_delay() != Ticks(0) {
         servers.start_primary(place, now);
     }
 }
@@ -173,13 +173,6 @@ fn stops_quietly(state: State, delay: Ticks) -> bool
         State::Primary => delay.0 != 0,
         _ => false,
     }
-}
-
-/// Whether a server in this state is down.
-pub fn is_down(state: State) -> bool
-    ensures { result ≡ is_down state }
-{
-    matches!(state, State::Stopped | State::Crashed)
 }
 
 fn change_log(servers: &mut Servers, happening: &LogEvent) -> Result<(), AllocError>
