@@ -2,7 +2,7 @@
 use Rattle.std.proofs.Common.{◌≡◌, ℕ, ◌==◌, true, false, ◌∷◌, Some, None, refl, sym, subst, arith, inl, inr, []}
 use Rattle.commit_actions.specs.Keys.{Counted, Confirmed}
 use Rattle.commit_actions.specs.States.{State, Reaches}
-use Rattle.commit_actions.specs.Inputs.{WasLeaderless, Idling, Racing, HearingAnswer, WinningRace, CreatingLeader, Arming, ChangingRequired, Publishing, Promoting}
+use Rattle.commit_actions.specs.Inputs.{AsItStood, WasLeaderless, Idling, Racing, HearingAnswer, WinningRace, CreatingLeader, Arming, ChangingRequired, Publishing, Promoting}
 use Rattle.commit_actions.specs.Actions.{Input, IsAllowed, MayRenew, MayFollow, state_after, fresh_agent}
 use Rattle.lease_model.proofs.Tools.{both, eq-from}
 use Rattle.commit_law.proofs.Prefixes.{prefix-self}
@@ -21,21 +21,23 @@ law0 = (
     holder_was_live = inl refl;
     does = CreatingLeader (record {
       keeps = record { server = record { live = refl; required = refl }; ready = λ e. e; leads = λ e. e; noted = refl };
-      not_live = refl;
       turn = stays (fresh_agent 1) creates0.agent refl refl (λ e. e);
-      request = take0;
-      sends = record {
-        number = 9;
-        is = refl;
-        member = refl;
-        incarnation = refl;
-        later = omega arith;
-        counted = omega arith;
-        waits = refl;
+      asks = record {
+        not_live = refl;
+        request = take0;
+        sends = record {
+          number = 9;
+          is = refl;
+          member = refl;
+          incarnation = refl;
+          later = omega arith;
+          counted = omega arith;
+          waits = refl;
+        };
+        aim = refl;
+        leader = refl;
+        sync = refl;
       };
-      aim = refl;
-      leader = refl;
-      sync = refl;
     });
   },
   tt,
@@ -334,19 +336,21 @@ law28 = (
       sends = refl;
       turn = refl;
       won = λ e. e;
-      number = 21;
-      race_answer = record { member = 1; incarnation = 1; sequence = 1; by = 2; end = 8 };
-      heard = refl;
-      is = refl;
-      member = refl;
-      incarnation = refl;
-      before = race;
-      before_is = refl;
-      sequence = refl;
       race = heard;
       race_is = refl;
-      sequence_same = refl;
-      ends = heard-ends;
+      adds = record {
+        number = 21;
+        race_answer = record { member = 1; incarnation = 1; sequence = 1; by = 2; end = 8 };
+        heard = refl;
+        is = refl;
+        member = refl;
+        incarnation = refl;
+        before = race;
+        before_is = refl;
+        sequence = refl;
+        sequence_same = refl;
+        ends = heard-ends;
+      };
     });
   },
   tt,
@@ -363,11 +367,10 @@ law29 = (
     holder_was_live = inl refl;
     does = WinningRace (record {
       keeps = record { server = record { live = refl; required = refl }; ready = λ e. e; leads = λ e. e; noted = refl };
-      sends = refl;
       turn = refl;
       race_gone = refl;
       race = heard;
-      race_is = refl;
+      judges = AsItStood refl;
       key = key;
       key_is = refl;
       counts = omega arith;
@@ -378,6 +381,7 @@ law29 = (
       standbys = λ n e. subst (λ (j : ℕ). two j ≡ true) (sym (eq-from n 2 e)) refl;
       ends = λ n e. (8, subst (λ (j : ℕ). heard.ends j ≡ Some 8) (sym (eq-from n 2 e)) refl, omega arith);
       enough = omega arith;
+      asks = inl refl;
     });
   },
   tt,
@@ -394,21 +398,23 @@ law30 = (
     holder_was_live = inl refl;
     does = CreatingLeader (record {
       keeps = record { server = record { live = refl; required = refl }; ready = λ e. e; leads = λ e. e; noted = refl };
-      not_live = refl;
       turn = stays wins1.agent creates1.agent refl refl (λ e. e);
-      request = take1;
-      sends = record {
-        number = 25;
-        is = refl;
-        member = refl;
-        incarnation = refl;
-        later = omega arith;
-        counted = omega arith;
-        waits = refl;
+      asks = record {
+        not_live = refl;
+        request = take1;
+        sends = record {
+          number = 25;
+          is = refl;
+          member = refl;
+          incarnation = refl;
+          later = omega arith;
+          counted = omega arith;
+          waits = refl;
+        };
+        aim = refl;
+        leader = refl;
+        sync = refl;
       };
-      aim = refl;
-      leader = refl;
-      sync = refl;
     });
   },
   tt,
