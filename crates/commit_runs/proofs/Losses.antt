@@ -166,14 +166,15 @@ same-over past cluster [] begins same = same
 same-over past cluster (event ∷ events) begins same =
     same-over (past_after past event.kind) (cluster_after cluster event.kind) events
     (subst (λ (count : ℕ). Begins (λ n. n < count) events)
-    (sym (count-of (now_after cluster.facts.clock event.kind) cluster.facts.servers event.kind)) begins.1)
+    (sym (count-of (now_after cluster.facts.clock event.kind) cluster.facts.servers cluster.facts.remote event.kind))
+    begins.1)
     (same-by past cluster.facts event.kind begins.0 same)
 
 sized-over : (cluster : Cluster) (events : List Event)
     → length (cluster_over cluster events).facts.servers ≡ length cluster.facts.servers
 sized-over cluster [] = refl
 sized-over cluster (event ∷ events) = sized-over (cluster_after cluster event.kind) events
-    ∙ count-of (now_after cluster.facts.clock event.kind) cluster.facts.servers event.kind
+    ∙ count-of (now_after cluster.facts.clock event.kind) cluster.facts.servers cluster.facts.remote event.kind
 
 -- events that tell the first loss, in which only servers of members begin
 pub upheld-tells : (head : HeadText) (book : List Event) (cluster : Cluster) (events : List Event)

@@ -49,7 +49,7 @@ fn server_calls(rt: HostRuntime) {
     has(
         &rt,
         &acknowledged(&mut server),
-        &[None, Some(1), None, Some(1)],
+        &[None, None, Some(1), None],
     );
     has(&rt, &server.confirmed(B), &Some(END));
     check_streams(&rt, rt.alloc(), &server);
@@ -60,17 +60,17 @@ fn left_at(server: &Server) -> Option<Lsn> {
     server.history().point(1)
 }
 
-/// Which commit is acknowledged next where b is waited for, and once b has confirmed all; then where two of b and c are
-/// waited for, and where one is.
+/// Which commit is acknowledged next where b is waited for; once b has confirmed all, where two of b and c are waited for,
+/// and where one is; and where none waits any more.
 fn acknowledged(server: &mut Server) -> [Option<u64>; 4] {
     server.set_required(Required::All(MemberSet::empty().with(B)));
     let before = server.next_acknowledged();
     server.confirm(B, END);
-    let confirmed = server.next_acknowledged();
     server.set_required(of_both(2));
     let by_two = server.next_acknowledged();
     server.set_required(of_both(1));
-    [before, confirmed, by_two, server.next_acknowledged()]
+    let by_one = server.next_acknowledged();
+    [before, by_two, by_one, server.next_acknowledged()]
 }
 
 /// So many of b and c.

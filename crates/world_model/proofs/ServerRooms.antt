@@ -1,9 +1,8 @@
 -- Timelines of servers, and commits, each of which an event counts up by one at most.
 use Rattle.std.proofs.Common.{◌≡◌, ℕ, ◌+◌, ◌^◌, ◌≤◌, ◌<◌, nat_le, ◌==◌, ◌&&◌, Bool, true, false, cond, List, [], All, Option, Some, None, map, arith, refl, subst}
-use Rattle.std.specs.Prelude.{slice_get, if◌then◌else◌}
+use Rattle.std.specs.Prelude.{slice_get, if◌then◌else◌, IfSome}
 use Rattle.std.proofs.lemmas.List.Elements.{All-map, All-set}
 use Rattle.std.proofs.lemmas.Option.{none-some, slice_get_within, get_or_from_slice_get}
-use Rattle.std.specs.Option.{ForSome}
 use Rattle.pat_base.specs.declared.member_id.TheConstants.{MOST_MEMBERS}
 use Rattle.wal_model.specs.declared.entry.Entry.{Entry}
 use Rattle.pat_base.specs.declared.server_id.ServerId.{ServerId}
@@ -136,7 +135,7 @@ abbrev Roomy : ℕ → List ServerFacts → Type 0
 Roomy events known = All (HasTimeline events) known
 
 abbrev HasRemote : ℕ → Option ServerFacts → Type 0
-HasRemote events remote = ForSome remote (HasTimeline events)
+HasRemote events remote = IfSome remote (HasTimeline events)
 
 some-same : (s t : ServerFacts) → Some s ≡ Some t → s ≡ t
 some-same s t is = cc
@@ -153,7 +152,7 @@ either-holds P remote s n (Some listed) holds all is = all s is
 either-holds P remote s n None holds all is = remote-holds P remote s (n == MOST_MEMBERS) holds is
 
 found-holds : (P : ServerFacts → Type 0) (known : List ServerFacts) (remote : Option ServerFacts) (n : ℕ)
-    (s : ServerFacts) → All P known → ForSome remote P → server_at known remote n ≡ Some s → P s
+    (s : ServerFacts) → All P known → IfSome remote P → server_at known remote n ≡ Some s → P s
 found-holds P known None n s all holds is = All-at ServerFacts P known n s all is
 found-holds P known (Some remote) n s all holds is =
     either-holds P remote s n (slice_get known n) holds (λ listed at. All-at ServerFacts P known n listed all at) is
@@ -267,7 +266,7 @@ room-watched events known _ all = fewer events known all
 
 -- one more event takes the room of one timeline
 pub servers-room : (now events : ℕ) (known : List ServerFacts) (remote : Option ServerFacts) (kind : EventKind)
-    → All (HasTimeline (1 + events)) known → ForSome remote (HasTimeline (1 + events))
+    → All (HasTimeline (1 + events)) known → IfSome remote (HasTimeline (1 + events))
     → All (HasTimeline events) (servers_after now known remote kind)
 servers-room now events known remote kinds.Tick all holds =
     map-all (HasTimeline (1 + events)) (HasTimeline events) (ticked_unless_live (record { 0 = now })) known all
@@ -283,7 +282,7 @@ servers-room now events known remote _ all holds = fewer events known all
 
 -- a bound on the remote's timeline is a greater one too
 pub remote-weaker : (P Q : ServerFacts → Type 0) (remote : Option ServerFacts) → ((s : ServerFacts) → P s → Q s)
-    → ForSome remote P → ForSome remote Q
+    → IfSome remote P → IfSome remote Q
 remote-weaker P Q None weaker holds = holds
 remote-weaker P Q (Some s) weaker holds = weaker s holds
 
@@ -300,8 +299,8 @@ remote-logged events (Some s) (logs.Appended server entry) holds =
 remote-logged events remote _ holds = holds
 
 -- no event changes it
-pub remote-room : (events : ℕ) (remote : Option ServerFacts) (kind : EventKind) → ForSome remote (HasTimeline events)
-    → ForSome (remote_after remote kind) (HasTimeline events)
+pub remote-room : (events : ℕ) (remote : Option ServerFacts) (kind : EventKind) → IfSome remote (HasTimeline events)
+    → IfSome (remote_after remote kind) (HasTimeline events)
 remote-room events remote (kinds.Log happening) holds = remote-logged events remote happening holds
 remote-room events remote _ holds = holds
 

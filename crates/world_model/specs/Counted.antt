@@ -1,6 +1,5 @@
 -- How far the counters of a cluster have come.
 use Rattle.std.specs.Prelude.{ℕ, ◌+◌, ◌*◌, ◌<◌, ◌≤◌, All, Option, IfSome}
-use Rattle.std.specs.Option.{ForSome}
 use Rattle.agent_model.specs.Agents.{AgentFacts}
 use Rattle.cluster_model.specs.State.{Cluster}
 use Rattle.world_model.specs.Room.{step_cost}
@@ -18,7 +17,7 @@ pub record AreCounted (cluster : Cluster) (bound : ℕ) : Type 0 where
   pub runs : All (λ state. state.incarnation < bound) cluster.facts.processes
   pub agents : All (HasNumbered bound) cluster.agents
   pub timelines : All (λ s. s.timeline < bound) cluster.facts.servers
-  pub remote : ForSome cluster.facts.remote (λ s. s.timeline < bound)
+  pub remote : IfSome cluster.facts.remote (λ s. s.timeline < bound)
   pub commits : cluster.facts.commits < bound
 
 -- no counter of a cluster comes so far in so many steps: before the first one each is at most 1

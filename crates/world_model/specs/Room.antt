@@ -1,7 +1,6 @@
 -- How far a cluster may go, and how often the parts of a step count any one
 -- counter up at most: at most once an event, but for the inputs of agents.
 use Rattle.std.specs.Prelude.{ℕ, ◌+◌, ◌*◌, ◌^◌, ◌<◌, ◌≤◌, All, Option, IfSome}
-use Rattle.std.specs.Option.{ForSome}
 use Rattle.event_book.specs.declared.event.AgentEvent.{AgentEvent}
 use Rattle.event_book.specs.declared.event.AgentEvent.TheVariants as agents
 use Rattle.event_book.specs.declared.event.EventKind.{EventKind}
@@ -28,7 +27,7 @@ pub record HasRoom (cluster : Cluster) (cost : ℕ) : Type 0 where
   pub numbers : cost ≤ most_messages
   pub agents : All (HasNumbers cost) cluster.agents
   pub timelines : All (λ s. s.timeline + cost < 2 ^ 60) cluster.facts.servers
-  pub remote : ForSome cluster.facts.remote (λ s. s.timeline + cost < 2 ^ 60)
+  pub remote : IfSome cluster.facts.remote (λ s. s.timeline + cost < 2 ^ 60)
   pub commits : cluster.facts.commits + cost < 2 ^ 60
 
 -- an agent that hears something may number as many messages as an input brings outputs
