@@ -143,12 +143,8 @@ pub record Races (s : State) (m : ℕ) (input : AgentInput) (was : Agent) : Type
   -- else the answers say where logs ended before a commit
   pub unled : WhyUnled s view.keyless view.leaderless
 
--- it hears an answer in its race, and keeps where that log ends
-pub record HearsAnswer (s : State) (m : ℕ) (input : AgentInput) (was : Agent) : Type 0 where
-  pub keeps : KeepsRole s m input was
-  pub sends : input.sends ≡ None
-  pub turn : input.agent.turn ≡ was.turn
-  pub won : input.agent.won ≡ true → was.won ≡ true
+-- the race has one more answer, which is heard: where that log ends is kept
+pub record AddsAnswer (s : State) (m : ℕ) (input : AgentInput) (was : Agent) (race : Race) : Type 0 where
   pub number : ℕ
   pub race_answer : RaceAnswer
   pub heard : input.heard ≡ Some number
@@ -159,20 +155,44 @@ pub record HearsAnswer (s : State) (m : ℕ) (input : AgentInput) (was : Agent) 
   pub before_is : was.race ≡ Some before
   -- an answer to this race
   pub sequence : before.sequence ≡ race_answer.sequence
-  pub race : Race
-  pub race_is : input.agent.race ≡ Some race
   pub sequence_same : race.sequence ≡ before.sequence
   pub ends : (n end : ℕ) → race.ends n ≡ Some end
       → (before.ends n ≡ Some end) ⊎ ((n ≡ race_answer.by) × (end ≡ race_answer.end))
 
--- it finds that it won: enough other standbys answered, and none of them ends behind its own log
-pub record WinsRace (s : State) (m : ℕ) (input : AgentInput) (was : Agent) : Type 0 where
+-- it hears an answer in its race
+pub record HearsAnswer (s : State) (m : ℕ) (input : AgentInput) (was : Agent) : Type 0 where
   pub keeps : KeepsRole s m input was
   pub sends : input.sends ≡ None
   pub turn : input.agent.turn ≡ was.turn
+  pub won : input.agent.won ≡ true → was.won ≡ true
+  pub race : Race
+  pub race_is : input.agent.race ≡ Some race
+  pub adds : AddsAnswer s m input was race
+
+-- the race that is judged: as it stood, or with the answer that is heard
+pub data Judges (s : State) (m : ℕ) (input : AgentInput) (was : Agent) (race : Race) : Type 0 where
+  AsItStood : (is : was.race ≡ Some race) → Judges s m input was race
+  WithAnswer : (adds : AddsAnswer s m input was race) → Judges s m input was race
+
+-- it asks for the leader key by a create that compares the sync key
+pub record AsksForLeader (s : State) (m : ℕ) (input : AgentInput) (was : Agent) : Type 0 where
+  -- its server isn't live: a leader's create would give it its key back without a change of the sync key
+  pub not_live : (s.members m).live ≡ false
+  pub request : SyncRequest
+  pub sends : Sends m input was request
+  pub aim : request.aim ≡ CreateLeader
+  pub leader : request.leader ≡ 0
+  -- it compares the sync key that its turn read: then one from before
+  -- its server went live is refused, since the claim changed that
+  pub sync : request.sync ≡ sync_revision_of was.turn
+
+-- it finds that it won: enough other standbys answered, and none of them ends behind its own log
+pub record WinsRace (s : State) (m : ℕ) (input : AgentInput) (was : Agent) : Type 0 where
+  pub keeps : KeepsRole s m input was
+  pub turn : input.agent.turn ≡ was.turn
   pub race_gone : input.agent.race ≡ None
   pub race : Race
-  pub race_is : was.race ≡ Some race
+  pub judges : Judges s m input was race
   pub key : SyncKey
   pub key_is : was.turn ≡ Some key
   pub counts : m < s.member_count
@@ -187,6 +207,8 @@ pub record WinsRace (s : State) (m : ℕ) (input : AgentInput) (was : Agent) : T
   pub ends : (n : ℕ) → answered n ≡ true → (end : ℕ) × (race.ends n ≡ Some end) × (end ≤ end_of log.entries)
   -- with itself more than may lack a commit
   pub enough : key.quorum ≤ count s.member_count answered
+  -- it may ask for the leader key at once: sent is said here where that create compares the sync key
+  pub asks : (input.sends ≡ None) ⊎ AsksForLeader s m input was
 
 -- it becomes Ready, and claims the sync key: what it owes by itself
 pub record Arms (s : State) (m : ℕ) (input : AgentInput) (was : Agent) : Type 0 where
@@ -208,19 +230,11 @@ pub record Arms (s : State) (m : ℕ) (input : AgentInput) (was : Agent) : Type 
   -- the turn's key names it and no standby may lack a commit, or it won its race in this turn
   pub named : WinsByName was.turn m ⊎ (was.won ≡ true)
 
--- it asks for the leader key by a create that compares the sync key
+-- it asks for the leader key, and its turn goes on
 pub record CreatesLeader (s : State) (m : ℕ) (input : AgentInput) (was : Agent) : Type 0 where
   pub keeps : KeepsRole s m input was
-  -- its server isn't live: a leader's create would give it its key back without a change of the sync key
-  pub not_live : (s.members m).live ≡ false
   pub turn : KeepsTurn was input.agent
-  pub request : SyncRequest
-  pub sends : Sends m input was request
-  pub aim : request.aim ≡ CreateLeader
-  pub leader : request.leader ≡ 0
-  -- it compares the sync key that its turn read: then one from before
-  -- its server went live is refused, since the claim changed that
-  pub sync : request.sync ≡ sync_revision_of was.turn
+  pub asks : AsksForLeader s m input was
 
 -- it takes over its running server, as one that starts again does
 pub record TakesOver (s : State) (m : ℕ) (input : AgentInput) (was : Agent) : Type 0 where

@@ -4,7 +4,7 @@ use Rattle.wal_model.specs.Log.{end_of}
 use Rattle.commit_actions.specs.Keys.{SyncKey, count}
 use Rattle.commit_actions.specs.Flights.{SnapshotView}
 use Rattle.commit_actions.specs.States.{Race, Agent, State, Includes, HasLog, IsUndiverged}
-use Rattle.commit_actions.specs.Inputs.{IsUnled, AgentInput, Races, HearsAnswer, WinsRace, WhyUnled, WasKeyless, WasLeaderless, OnlyHolderLives, OnlyHolderLivesIf}
+use Rattle.commit_actions.specs.Inputs.{IsUnled, AgentInput, Races, AddsAnswer, HearsAnswer, Judges, AsItStood, WithAnswer, WinsRace, WhyUnled, WasKeyless, WasLeaderless, OnlyHolderLives, OnlyHolderLivesIf}
 use Rattle.commit_actions.specs.Carried.{IsComplete, IsRead, IsRaceKept, IsWonKept, IsSound, IsSnapshotKept, HolderIsNotLive}
 use Rattle.lease_model.proofs.Tools.{some-is, none-some, not-false, eq-from}
 use Rattle.commit_actions.proofs.Tools.{or-cases}
@@ -80,6 +80,30 @@ races-kept s m input was inv goes does held =
       won = λ key now w k e same. absurd (not-false input.agent.won does.won w);
     })
 
+-- a race with one more answer, while the sync key is as its agent read it
+race-heard : (s : State) (m : ℕ) (input : AgentInput) (was : Agent) (race : Race) (key now : SyncKey)
+    → IsSound s → (s.members m).agent ≡ Some was → AddsAnswer s m input was race → was.turn ≡ Some key
+    → s.sync ≡ Some now → now.revision ≡ key.revision
+    → IsRaceKept s.member_count s.acknowledged_log s.flight s.members m was.incarnation race key
+race-heard s m input was race key now inv was_is adds turn e same =
+    let old = (inv.kept m was was_is).turn_kept.race adds.before key now adds.before_is turn e same in record {
+      unled = old.unled;
+      spared = old.spared;
+      few = old.few;
+      complete = old.complete;
+      heard = λ n end named other is. elim (adds.ends n end is) [
+        | inl before ↦ old.heard n end named other before
+        | inr new ↦ omega (
+          arith,
+          new.1,
+          old.coming adds.number adds.race_answer adds.is adds.member (sym adds.incarnation)
+              (sym adds.sequence) (ap key.standbys (sym new.0) ∙ named) (ap old.spared (sym new.0) ∙ other),
+        )
+      ];
+      coming = λ i y at mine run_is sequence_is. old.coming i y at mine run_is (sequence_is ∙ adds.sequence_same);
+    }
+
+-- hears an answer
 pub hears-kept : (s : State) (m : ℕ) (input : AgentInput) (was : Agent) → IsSound s → Goes s m input was
     → HearsAnswer s m input was → IsMachineKept s m input was
 hears-kept s m input was inv goes does =
@@ -87,35 +111,29 @@ hears-kept s m input was inv goes does =
     role-kept s m input was inv goes does.keeps (was-turn s m was input.agent.turn inv goes.was_is does.turn)
     (record {
       race = λ race key now r k e same.
-          let race_is : does.race ≡ race = some-is does.race race (sym does.race_is ∙ r) in
-          let old = turn_kept.race does.before key now does.before_is (sym does.turn ∙ k) e same in
           race-same s m was.incarnation input.agent.incarnation race key (sym goes.incarnation)
           (subst (λ (x : Race). IsRaceKept s.member_count s.acknowledged_log s.flight s.members m was.incarnation x key)
-          race_is (record {
-            unled = old.unled;
-            spared = old.spared;
-            few = old.few;
-            complete = old.complete;
-            heard = λ n end named other is. elim (does.ends n end is) [
-              | inl before ↦ old.heard n end named other before
-              | inr new ↦ omega (
-                arith,
-                new.1,
-                old.coming does.number does.race_answer does.is does.member (sym does.incarnation)
-                    (sym does.sequence) (ap key.standbys (sym new.0) ∙ named) (ap old.spared (sym new.0) ∙ other),
-              )
-            ];
-            coming = λ i y at mine run_is sequence_is. old.coming i y at mine run_is (sequence_is ∙ does.sequence_same);
-          }));
+          (some-is does.race race (sym does.race_is ∙ r))
+          (race-heard s m input was does.race key now inv goes.was_is does.adds (sym does.turn ∙ k) e same));
       counted = λ race r. omega (
         arith,
-        turn_kept.counted does.before does.before_is,
-        does.sequence_same,
+        turn_kept.counted does.adds.before does.adds.before_is,
+        does.adds.sequence_same,
         goes.last,
         ap (λ (x : Race). x.sequence) (some-is does.race race (sym does.race_is ∙ r)),
       );
       won = λ key now w k e same. turn_kept.won key now (does.won w) (sym does.turn ∙ k) e same;
     })
+
+-- the race that is judged
+race-judged : (s : State) (m : ℕ) (input : AgentInput) (was : Agent) (race : Race) (key now : SyncKey)
+    → IsSound s → (s.members m).agent ≡ Some was → Judges s m input was race → was.turn ≡ Some key
+    → s.sync ≡ Some now → now.revision ≡ key.revision
+    → IsRaceKept s.member_count s.acknowledged_log s.flight s.members m was.incarnation race key
+race-judged s m input was race key now inv was_is (AsItStood is) turn e same =
+    (inv.kept m was was_is).turn_kept.race race key now is turn e same
+race-judged s m input was race key now inv was_is (WithAnswer adds) turn e same =
+    race-heard s m input was race key now inv was_is adds turn e same
 
 -- of the winner and of who answered one isn't spared
 winner-complete : (s : State) (m : ℕ) (race : Race) (key : SyncKey) (incarnation : ℕ)
@@ -151,7 +169,7 @@ wins-kept s m input was inv goes does =
           let key_is : does.key ≡ key = some-is does.key key (sym does.key_is ∙ sym does.turn ∙ k) in
           let there : s.sync ≡ Some does.key = e ∙ ap (λ (x : SyncKey). Some x)
           ((kept.turn does.key does.key_is).same now e (same ∙ ap (λ (x : SyncKey). x.revision) (sym key_is))) in
-          let old = kept.turn_kept.race does.race does.key now does.race_is does.key_is e
+          let old = race-judged s m input was does.race does.key now inv goes.was_is does.judges does.key_is e
           (same ∙ ap (λ (x : SyncKey). x.revision) (sym key_is)) in
           subst (IsWonKept s.acknowledged_log s.flight s.members m) key_is (record {
             unled = old.unled;

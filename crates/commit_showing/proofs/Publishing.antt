@@ -1,11 +1,11 @@
 -- Who asks to publish standbys has commits wait for them, and those that it adds have confirmed what it noted.
-use Rattle.std.proofs.Common.{arith, ℕ, ◌≡◌, ◌<◌, ◌≤◌, ◌+◌, ◌&&◌, not, Bool, true, false, Option, Some, None, slice_get, refl, ◌∙◌, ap, sym, subst, inl, inr}
+use Rattle.std.proofs.Common.{arith, ℕ, ◌≡◌, ◌⊎◌, ◌<◌, ◌≤◌, ◌+◌, ◌&&◌, not, Bool, true, false, Option, Some, None, slice_get, refl, ◌∙◌, ap, sym, subst, inl, inr}
 use Rattle.pat_base.specs.declared.server_state.Required.{Required}
 use Rattle.pat_base.specs.declared.server_state.Required.TheVariants as requireds
 use Rattle.lease_model.proofs.Tools.{both, none-some, some-is}
 use Rattle.commit_actions.specs.Carried.{IsSound}
 use Rattle.commit_actions.specs.Flights.{Aim, ClaimSync, CreateLeader, PublishStandbys, SyncRequest}
-use Rattle.commit_actions.specs.Inputs.{AgentInput, Does, HasConfirmed, IsLawful, Publishes, Sending, Idling, Racing, HearingAnswer, WinningRace, CreatingLeader, Arming, TakingOver, ChangingRequired, Publishing, Promoting, SettlingRequired}
+use Rattle.commit_actions.specs.Inputs.{AgentInput, AsksForLeader, Does, HasConfirmed, IsLawful, Publishes, Sending, Idling, Racing, HearingAnswer, WinningRace, CreatingLeader, Arming, TakingOver, ChangingRequired, Publishing, Promoting, SettlingRequired}
 use Rattle.commit_actions.specs.Keys.{Confirmers, MayPublish, Added, Counted, Confirmed, Meets, Overlaps, SyncKey, count, strict_quorum}
 use Rattle.commit_actions.specs.Past.{Past, Setup, VolatileState, confirmers_in, confirmers_of, position_of, state_of}
 use Rattle.commit_actions.specs.States.{Reaches, State}
@@ -101,13 +101,19 @@ module _ (setup : Setup) (past : Past) (volatile_states : ℕ → VolatileState)
       no : CreateLeader ≡ PublishStandbys standbys quorum → ⊥
       no e = cc
 
+  none-asks : AsksForLeader S leader input law.was → ⊥
+  none-asks asks = other-creates asks.request asks.sends.number asks.sends.is asks.aim
+
+  none-asked : (input.sends ≡ None) ⊎ AsksForLeader S leader input law.was → ⊥
+  none-asked (inl none) = none-sent none
+  none-asked (inr asks) = none-asks asks
+
   publishes : Does S leader input law.was → Publishes S leader input law.was
   publishes (Idling idles) = absurd (none-sent idles.sends)
   publishes (Racing races) = absurd (none-sent races.sends)
   publishes (HearingAnswer answer) = absurd (none-sent answer.sends)
-  publishes (WinningRace wins) = absurd (none-sent wins.sends)
-  publishes (CreatingLeader creates) =
-      absurd (other-creates creates.request creates.sends.number creates.sends.is creates.aim)
+  publishes (WinningRace wins) = absurd (none-asked wins.asks)
+  publishes (CreatingLeader creates) = absurd (none-asks creates.asks)
   publishes (Arming arms) = absurd (other-claims arms.request arms.sends.number arms.sends.is arms.aim)
   publishes (TakingOver takes) = absurd (none-sent takes.sends)
   publishes (ChangingRequired changes) = absurd (none-sent changes.sends)

@@ -2,13 +2,13 @@
 use Rattle.std.proofs.Common.{◌≡◌, ℕ, ◌==◌, true, false, ◌∷◌, Some, None, refl, sym, subst, arith, inl, inr, []}
 use Rattle.commit_actions.specs.Keys.{Counted, Confirmed}
 use Rattle.commit_actions.specs.States.{State, Reaches}
-use Rattle.commit_actions.specs.Inputs.{WasLeaderless, Idling, Racing, HearingAnswer, WinningRace, CreatingLeader, Arming, ChangingRequired, Publishing, Promoting}
+use Rattle.commit_actions.specs.Inputs.{WithAnswer, WasLeaderless, Idling, Racing, WinningRace, CreatingLeader, Arming, ChangingRequired, Publishing, Promoting}
 use Rattle.commit_actions.specs.Actions.{Input, IsAllowed, MayRenew, MayFollow, state_after, fresh_agent}
 use Rattle.lease_model.proofs.Tools.{both, eq-from}
 use Rattle.commit_law.proofs.Prefixes.{prefix-self}
 use Rattle.law_examples.proofs.ExampleSynchronous.{base, first, claim0, arms0, begins0, same-waits, new-waits, stays, numbered}
-use Rattle.law_examples.proofs.QuorumStates.{actions, arms1, begins1, claim1, creates0, creates1, heard, hears1, key, publish4, publish7, publishes4, publishes7, race, races1, renews3, renews5, renews6, requires5, s0, s10, s12, s13, s14, s15, s16, s17, s2, s24, s26, s27, s28, s29, s30, s32, s34, s4, s8, s9, take0, take1, two, wins1}
-use Rattle.law_examples.proofs.QuorumActing.{alone2, both-reach, heard-ends, no-won, nobody26, nobody32, unready20}
+use Rattle.law_examples.proofs.QuorumStates.{actions, arms1, begins1, claim1, creates0, heard, key, publish4, publish7, publishes4, publishes7, race, races1, renews3, renews5, renews6, requires5, s0, s10, s12, s13, s14, s15, s16, s17, s2, s24, s26, s27, s28, s30, s32, s4, s8, s9, take0, take1, two, wins1}
+use Rattle.law_examples.proofs.QuorumActing.{alone2, both-reach, heard-ends, no-won, nobody26, nobody30, unready20}
 
 law0 : IsAllowed s0 (Input 0 creates0)
 law0 = (
@@ -21,21 +21,23 @@ law0 = (
     holder_was_live = inl refl;
     does = CreatingLeader (record {
       keeps = record { server = record { live = refl; required = refl }; ready = λ e. e; leads = λ e. e; noted = refl };
-      not_live = refl;
       turn = stays (fresh_agent 1) creates0.agent refl refl (λ e. e);
-      request = take0;
-      sends = record {
-        number = 9;
-        is = refl;
-        member = refl;
-        incarnation = refl;
-        later = omega arith;
-        counted = omega arith;
-        waits = refl;
+      asks = record {
+        not_live = refl;
+        request = take0;
+        sends = record {
+          number = 9;
+          is = refl;
+          member = refl;
+          incarnation = refl;
+          later = omega arith;
+          counted = omega arith;
+          waits = refl;
+        };
+        aim = refl;
+        leader = refl;
+        sync = refl;
       };
-      aim = refl;
-      leader = refl;
-      sync = refl;
     });
   },
   tt,
@@ -320,54 +322,33 @@ law26 = (
   λ same n live. absurd (nobody26 n (inl live)),
 )
 
-law28 : IsAllowed s28 (Input 1 hears1)
+law28 : IsAllowed s28 (Input 1 wins1)
 law28 = (
   record {
     was = races1.agent;
     was_is = refl;
     incarnation = refl;
     last = omega arith;
-    waits = same-waits 1 None None refl;
-    holder_was_live = inl refl;
-    does = HearingAnswer (record {
-      keeps = record { server = record { live = refl; required = refl }; ready = λ e. e; leads = λ e. e; noted = refl };
-      sends = refl;
-      turn = refl;
-      won = λ e. e;
-      number = 21;
-      race_answer = record { member = 1; incarnation = 1; sequence = 1; by = 2; end = 8 };
-      heard = refl;
-      is = refl;
-      member = refl;
-      incarnation = refl;
-      before = race;
-      before_is = refl;
-      sequence = refl;
-      race = heard;
-      race_is = refl;
-      sequence_same = refl;
-      ends = heard-ends;
-    });
-  },
-  tt,
-)
-
-law29 : IsAllowed s29 (Input 1 wins1)
-law29 = (
-  record {
-    was = hears1.agent;
-    was_is = refl;
-    incarnation = refl;
-    last = omega arith;
-    waits = same-waits 1 None None refl;
+    waits = new-waits 1 2 None (omega arith);
     holder_was_live = inl refl;
     does = WinningRace (record {
       keeps = record { server = record { live = refl; required = refl }; ready = λ e. e; leads = λ e. e; noted = refl };
-      sends = refl;
       turn = refl;
       race_gone = refl;
       race = heard;
-      race_is = refl;
+      judges = WithAnswer (record {
+        number = 21;
+        race_answer = record { member = 1; incarnation = 1; sequence = 1; by = 2; end = 8 };
+        heard = refl;
+        is = refl;
+        member = refl;
+        incarnation = refl;
+        before = race;
+        before_is = refl;
+        sequence = refl;
+        sequence_same = refl;
+        ends = heard-ends;
+      });
       key = key;
       key_is = refl;
       counts = omega arith;
@@ -378,46 +359,31 @@ law29 = (
       standbys = λ n e. subst (λ (j : ℕ). two j ≡ true) (sym (eq-from n 2 e)) refl;
       ends = λ n e. (8, subst (λ (j : ℕ). heard.ends j ≡ Some 8) (sym (eq-from n 2 e)) refl, omega arith);
       enough = omega arith;
+      asks = inr (record {
+        not_live = refl;
+        request = take1;
+        sends = record {
+          number = 25;
+          is = refl;
+          member = refl;
+          incarnation = refl;
+          later = omega arith;
+          counted = omega arith;
+          waits = refl;
+        };
+        aim = refl;
+        leader = refl;
+        sync = refl;
+      });
     });
   },
   tt,
 )
 
-law30 : IsAllowed s30 (Input 1 creates1)
+law30 : IsAllowed s30 (Input 1 arms1)
 law30 = (
   record {
     was = wins1.agent;
-    was_is = refl;
-    incarnation = refl;
-    last = omega arith;
-    waits = new-waits 1 2 None (omega arith);
-    holder_was_live = inl refl;
-    does = CreatingLeader (record {
-      keeps = record { server = record { live = refl; required = refl }; ready = λ e. e; leads = λ e. e; noted = refl };
-      not_live = refl;
-      turn = stays wins1.agent creates1.agent refl refl (λ e. e);
-      request = take1;
-      sends = record {
-        number = 25;
-        is = refl;
-        member = refl;
-        incarnation = refl;
-        later = omega arith;
-        counted = omega arith;
-        waits = refl;
-      };
-      aim = refl;
-      leader = refl;
-      sync = refl;
-    });
-  },
-  tt,
-)
-
-law32 : IsAllowed s32 (Input 1 arms1)
-law32 = (
-  record {
-    was = creates1.agent;
     was_is = refl;
     incarnation = refl;
     last = omega arith;
@@ -428,7 +394,7 @@ law32 = (
       hears = record { number = 22; heard = refl; is = refl; member = refl; incarnation = refl; waits = refl };
       keeps = record { live = refl; required = refl };
       not_live = refl;
-      turn = stays creates1.agent arms1.agent refl refl (λ e. e);
+      turn = stays wins1.agent arms1.agent refl refl (λ e. e);
       request = claim1;
       sends = record {
         number = 23;
@@ -446,11 +412,11 @@ law32 = (
       named = inr refl;
     });
   },
-  record { present = refl; alone = λ n acts. absurd (nobody32 n acts) },
+  record { present = refl; alone = λ n acts. absurd (nobody30 n acts) },
 )
 
-law34 : IsAllowed s34 (Input 1 begins1)
-law34 = (
+law32 : IsAllowed s32 (Input 1 begins1)
+law32 = (
   record {
     was = arms1.agent;
     was_is = refl;
@@ -596,7 +562,7 @@ allowed = (
                                                         ),
                                                         (
                                                           law28,
-                                                          (law29, (law30, (tt, (law32, (tt, (law34, (refl, tt))))))),
+                                                          (tt, (law30, (tt, (law32, (refl, tt))))),
                                                         ),
                                                       ),
                                                     ),

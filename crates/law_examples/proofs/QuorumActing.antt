@@ -4,7 +4,7 @@ use Rattle.event_book.specs.Functions.{put_at}
 use Rattle.commit_actions.specs.States.{Machine, State, Acts, Reaches, is_ready}
 use Rattle.lease_model.proofs.Tools.{some-is, both, eq-from, put-all}
 use Rattle.commit_actions.proofs.Tools.{or-cases}
-use Rattle.law_examples.proofs.QuorumStates.{heard, race, s0, s1, s10, s11, s12, s13, s14, s15, s16, s17, s18, s19, s2, s20, s21, s22, s23, s24, s25, s26, s27, s28, s29, s3, s30, s31, s32, s4, s5, s6, s7, s8, s9, two}
+use Rattle.law_examples.proofs.QuorumStates.{heard, race, s0, s1, s10, s11, s12, s13, s14, s15, s16, s17, s18, s19, s2, s20, s21, s22, s23, s24, s25, s26, s27, s28, s29, s3, s30, s4, s5, s6, s7, s8, s9, two}
 
 -- only member 0 acts, and then nobody
 abbrev Only : (ℕ → Machine) → Type 0
@@ -128,22 +128,8 @@ rests29 (inr e) = both e
 only29 : Only s29.members
 only29 = only-rest s28.members 1 (s29.members 1) rests29 only28
 
-rests30 : Acts (s30.members 1) → ⊥
-rests30 (inl e) = both e
-rests30 (inr e) = both e
-
 only30 : Only s30.members
-only30 = only-rest s29.members 1 (s30.members 1) rests30 only29
-
-rests31 : Acts (s31.members 1) → ⊥
-rests31 (inl e) = both e
-rests31 (inr e) = both e
-
-only31 : Only s31.members
-only31 = only-rest s30.members 1 (s31.members 1) rests31 only30
-
-only32 : Only s32.members
-only32 = only31
+only30 = only29
 
 dead26 : Acts (s26.members 0) → ⊥
 dead26 (inl e) = both e
@@ -152,12 +138,12 @@ dead26 (inr e) = both e
 pub nobody26 : (n : ℕ) → Acts (s26.members n) → ⊥
 nobody26 n acts = dead26 (subst (λ (j : ℕ). Acts (s26.members j)) (only26 n acts) acts)
 
-dead32 : Acts (s32.members 0) → ⊥
-dead32 (inl e) = both e
-dead32 (inr e) = both e
+dead30 : Acts (s30.members 0) → ⊥
+dead30 (inl e) = both e
+dead30 (inr e) = both e
 
-pub nobody32 : (n : ℕ) → Acts (s32.members n) → ⊥
-nobody32 n acts = dead32 (subst (λ (j : ℕ). Acts (s32.members j)) (only32 n acts) acts)
+pub nobody30 : (n : ℕ) → Acts (s30.members n) → ⊥
+nobody30 n acts = dead30 (subst (λ (j : ℕ). Acts (s30.members j)) (only30 n acts) acts)
 
 pub unready20 : (n : ℕ) → is_ready (s20.members n).agent ≡ true → ⊥
 unready20 n e = both (subst (λ (j : ℕ). is_ready (s20.members j).agent ≡ true) (only20 n (inr e)) e)

@@ -1,5 +1,5 @@
 -- A run where creations compare the sync key and member 0 goes on without its leader key for
--- -- a while: member 1's snapshot is read before the commit, and its asks go out after member 0 ended.
+-- a while: member 1's snapshot is read before the commit, and its asks go out after member 0 ended.
 use Rattle.std.proofs.Common.{ℕ, ◌==◌, ◌||◌, Bool, true, false, if◌then◌else◌, List, ◌∷◌, Some, None, []}
 use Rattle.commit_actions.specs.Keys.{SyncKey, Nobody, AtLeast}
 use Rattle.commit_actions.specs.Flights.{ClaimSync, PublishStandbys, CreateLeader, SyncRequest}
@@ -47,12 +47,6 @@ heard = record { sequence = 1; ends = λ n. if n == 2 then Some 8 else None }
 abbrev pub races1 : AgentInput
 races1 = resting (record (idle 1 None) { turn = Some key; race = Some race }) false Nobody (Some 20)
 
-abbrev pub hears1 : AgentInput
-hears1 = resting (record (idle 1 None) { turn = Some key; race = Some heard }) false Nobody (Some 21)
-
-abbrev pub wins1 : AgentInput
-wins1 = resting (record (idle 1 None) { turn = Some key; won = true }) false Nobody None
-
 abbrev pub take0 : SyncRequest
 take0 = record { member = 0; incarnation = 1; sequence = 1; leader = 0; sync = None; aim = CreateLeader }
 
@@ -69,15 +63,9 @@ creates0 = record {
 abbrev pub take1 : SyncRequest
 take1 = record { member = 1; incarnation = 1; sequence = 2; leader = 0; sync = Some 8; aim = CreateLeader }
 
-abbrev pub creates1 : AgentInput
-creates1 = record {
-  heard = None;
-  agent = record (idle 2 (Some 2)) { turn = Some key; won = true };
-  live = false;
-  required = Nobody;
-  sends = Some (record { number = 25; request = take1 });
-  holder_was_live = false;
-}
+-- the answer is the last that it waits for, so it wins and asks for the leader key in one input
+abbrev pub wins1 : AgentInput
+wins1 = sending (record (idle 2 (Some 2)) { turn = Some key; won = true }) false Nobody 21 25 take1
 
 abbrev pub claim1 : SyncRequest
 claim1 = record { member = 1; incarnation = 1; sequence = 3; leader = 9; sync = Some 8; aim = ClaimSync }
@@ -176,28 +164,22 @@ abbrev pub s28 : State
 s28 = act s27 (AnswerRace 2 1 1 1 21)
 
 abbrev pub s29 : State
-s29 = act s28 (Input 1 hears1)
+s29 = act s28 (Input 1 wins1)
 
 abbrev pub s30 : State
-s30 = act s29 (Input 1 wins1)
+s30 = act s29 (Decide 25 22)
 
-abbrev pub s31 : State
-s31 = act s30 (Input 1 creates1)
+abbrev s31 : State
+s31 = act s30 (Input 1 arms1)
 
 abbrev pub s32 : State
-s32 = act s31 (Decide 25 22)
+s32 = act s31 (Decide 23 24)
 
 abbrev s33 : State
-s33 = act s32 (Input 1 arms1)
+s33 = act s32 (Input 1 begins1)
 
-abbrev pub s34 : State
-s34 = act s33 (Decide 23 24)
-
-abbrev s35 : State
-s35 = act s34 (Input 1 begins1)
-
-abbrev s36 : State
-s36 = act s35 (Accept 1)
+abbrev s34 : State
+s34 = act s33 (Accept 1)
 
 abbrev pub actions : List Action
 actions =
@@ -229,9 +211,7 @@ actions =
     ∷ End 0
     ∷ Input 1 races1
     ∷ AnswerRace 2 1 1 1 21
-    ∷ Input 1 hears1
     ∷ Input 1 wins1
-    ∷ Input 1 creates1
     ∷ Decide 25 22
     ∷ Input 1 arms1
     ∷ Decide 23 24
