@@ -1,5 +1,5 @@
 -- What bars nobody who wins by quorum.
-use Rattle.std.proofs.Common.{◌≡◌, ℕ, ◌≤◌, ◌==◌, ◌&&◌, ◌||◌, ◌⊎◌, inl, inr, Bool, true, false, List, ◌∷◌, Option, Some, None, refl, sym, ap, ◌∙◌, arith}
+use Rattle.std.proofs.Common.{◌≡◌, ℕ, ◌≤◌, ◌==◌, ◌&&◌, ◌⊎◌, inl, inr, Bool, true, false, List, Option, Some, None, refl, sym, ap, ◌∙◌, arith}
 use Rattle.std.specs.Prelude.{nat_lt, Contains}
 use Rattle.std.proofs.lemmas.Bool.Decides.{nat_tests}
 use Rattle.pat_base.specs.declared.ineligibility.Ineligibility.{Ineligibility}
@@ -10,7 +10,7 @@ use Rattle.cluster_view.specs.declared.view.AgentView.{AgentView}
 use Rattle.cluster_view.specs.Naming.{is_candidate}
 use Rattle.leader_race.specs.declared.racer.RaceKeys.{RaceKeys}
 use Rattle.leader_race.specs.declared.racer.Racer.{Racer}
-use Rattle.leader_race.specs.Outcome.{ahead, other_writes, priority, racer_of, unless}
+use Rattle.leader_race.specs.Outcome.{ahead, other_writes, racer_of, unless}
 use Rattle.leader_race.specs.Peers.{counts, first_of, is_ahead, is_below, is_compared, writes_elsewhere}
 use Rattle.leader_race.proofs.Barring.{bar_where-none, first_bar-none, first_of-none, option_map-none}
 use Rattle.quorum_commit.specs.Laws.{WinsAsStandby}

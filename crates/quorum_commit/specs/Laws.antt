@@ -9,7 +9,10 @@ use Rattle.leader_race.specs.Peers.{is_below, is_compared}
 use Rattle.sync_state.specs.Laws.{IsWithin}
 use Rattle.quorum_commit.specs.declared.quorums.Need.{Need}
 use Rattle.quorum_commit.specs.declared.quorums.Quorum.{Quorum}
-use Rattle.quorum_commit.specs.Quorums.{size}
+use Rattle.quorum_commit.specs.declared.steps.Aim.{Aim}
+use Rattle.quorum_commit.specs.declared.steps.QuorumPlan.{QuorumPlan}
+use Rattle.quorum_commit.specs.declared.steps.QuorumPlan.TheVariants as plans
+use Rattle.quorum_commit.specs.Quorums.{may_publish, overlap, size}
 use Rattle.quorum_commit.specs.Race.{compared}
 
 -- the member of this number is in the set
@@ -55,3 +58,11 @@ pub record WinsAsStandby (racer : Racer) (sync : SyncKey) (answers : List PeerAn
   pub not_behind : (answer : PeerAnswer) → Contains answers answer → is_compared racer answer ≡ true
       → is_below racer.end answer.end ≡ false
   pub enough : sync.quorum ≤ size (compared racer answers)
+
+-- what is published may be, by what the leader has; what is required overlaps what is published
+abbrev pub IsLawfulPlan : Aim → QuorumPlan → Type 0
+IsLawfulPlan aim plans.Keep = Unit {0}
+IsLawfulPlan aim plans.SwitchOff = Unit {0}
+IsLawfulPlan aim plans.Mark = Unit {0}
+IsLawfulPlan aim (plans.Publish next) = may_publish aim.key next aim.need aim.confirmed ≡ true
+IsLawfulPlan aim (plans.Require next) = overlap aim.key next ≡ true

@@ -9,8 +9,12 @@ ghost use Rattle.leader_race.specs.Outcome.{racer_of};
 ghost use Rattle.leader_race.specs.Peers.{counts};
 ghost use Rattle.quorum_commit.specs.declared.quorums.Need.{Need};
 ghost use Rattle.quorum_commit.specs.declared.quorums.Quorum.{Quorum};
-ghost use Rattle.quorum_commit.specs.Laws.{Answers, EnoughHave, FewLack, Meet, Share, WinsAsStandby};
+ghost use Rattle.quorum_commit.specs.Laws.{Answers, EnoughHave, FewLack, IsLawfulPlan, Meet, Share, WinsAsStandby};
 ghost use Rattle.quorum_commit.specs.Quorums.{may_publish, overlap};
+ghost use Rattle.cluster_view.specs.declared.view.LeaderView.{LeaderView};
+ghost use Rattle.cluster_view.specs.KeyValues.{sync_in};
+ghost use Rattle.cluster_view.specs.Snapshots.{SnapshotFacts};
+ghost use Rattle.quorum_commit.specs.Plans.{aim_of, quorum_plan_of};
 ghost use Rattle.quorum_commit.specs.Race.{quorum_outcome_by};
 
 /// Where a key's standbys and its leader's need overlap, whoever answers in a race that is won, and whoever confirms a
@@ -37,4 +41,9 @@ pub fn a_published_quorum_keeps_commits()
 pub fn who_wins_by_quorum()
     ensures no_writer { (view : AgentView) (keys : RaceKeys) (answers : List PeerAnswer) (answer : PeerAnswer) → quorum_outcome_by view keys answers ≡ None → Contains answers answer → counts view.me answer ≡ true → answer.writes ≡ false }
     ensures standby { (view : AgentView) (keys : RaceKeys) (sync : SyncKey) (answers : List PeerAnswer) → quorum_outcome_by view keys answers ≡ None → keys.sync ≡ Some sync → (sync.leader.number ≡ view.me.number) ⊎ WinsAsStandby (racer_of view keys) sync answers }
+{}
+
+/// By a sync key that is there, what a plan publishes may be published, and what it requires overlaps what is published.
+pub fn plans_are_lawful()
+    ensures { (view : LeaderView) (seen : SnapshotFacts) (sync : SyncKey) → sync_in seen ≡ Some sync → IsLawfulPlan (aim_of view seen sync) (quorum_plan_of view seen) }
 {}

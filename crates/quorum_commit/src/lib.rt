@@ -12,7 +12,8 @@ mod steps;
 
 pub use aims::{need_of, required_of};
 pub use laws::{
-    a_published_quorum_keeps_commits, few_standbys_lack_a_commit, quorums_meet, who_wins_by_quorum,
+    a_published_quorum_keeps_commits, few_standbys_lack_a_commit, plans_are_lawful, quorums_meet,
+    who_wins_by_quorum,
 };
 pub use planning::quorum_plan;
 pub use quorums::{Need, Quorum, may_publish, may_require, overlap};
