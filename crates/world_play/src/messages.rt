@@ -85,8 +85,8 @@ pub fn deliver(stage: &mut Stage, number: u64, events: &mut EventList) -> Result
 
 /// A message that can't come to its receiver now stays in flight, and that is noted.
 fn leave(stage: &mut Stage, number: u64, events: &mut EventList) -> Result<(), AllocError>
-    requires { HasRoom stage.old 1 }
-    ensures { OnOk result (Emits stage.old stage.new events.old events.new (event_of stage.old (EventKind.Note (Note.Undeliverable number))) 1) }
+    requires { HasRoom stage.old message_cost }
+    ensures { OnOk result (Emits stage.old stage.new events.old events.new (event_of stage.old (EventKind.Note (Note.Undeliverable number))) message_cost) }
 {
     stage.happen(EventKind::Note(Note::Undeliverable { number }), events)
 }
@@ -102,14 +102,14 @@ pub fn lose(stage: &mut Stage, number: u64, events: &mut EventList) -> Result<()
             stage.clock(),
             EventKind::Note(Note::NoMessage { number }),
         ),
-        Some(_) => drop_message(stage, number, events),
+        Some(_) => stage.happen(EventKind::Message(MessageEvent::Lost { number }), events),
     }
 }
 
 /// A message in flight is lost.
 fn drop_message(stage: &mut Stage, number: u64, events: &mut EventList) -> Result<(), AllocError>
-    requires { HasRoom stage.old 1 }
-    ensures { OnOk result (Emits stage.old stage.new events.old events.new (event_of stage.old (EventKind.Message (MessageEvent.Lost number))) 1) }
+    requires { HasRoom stage.old message_cost }
+    ensures { OnOk result (Emits stage.old stage.new events.old events.new (event_of stage.old (EventKind.Message (MessageEvent.Lost number))) message_cost) }
 {
     stage.happen(EventKind::Message(MessageEvent::Lost { number }), events)
 }
