@@ -25,7 +25,8 @@ pub data Happening : Type 0 where
 abbrev pub begun : Owner → Debt
 begun owner = record { owner = owner; waited = 0 }
 
--- what is owed after one more tick, to one who waited for so many: a client waits for so many at most, a line without end
+-- what is owed after one more tick, to one who waited for so many: a
+-- client waits for so many at most, a line without end
 abbrev pub waited_on : Owner → ℕ → Option Debt
 waited_on (owners.Client client) waited =
     if nat_lt (waited + 1) most_waiting then Some (record { owner = owners.Client client; waited = waited + 1 })
