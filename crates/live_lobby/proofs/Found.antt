@@ -1,6 +1,6 @@
 -- What is done to the client of a number is done at its place.
 use Rattle.std.proofs.Common.{ℕ, zero, suc, ◌≡◌, ◌≢◌, ◌<◌, ◌+◌, Bool, true, false, List, [], ◌∷◌, ◌++◌, length, arith, refl, sym, ap, subst, ◌∙◌, ◌⊎◌, inl, inr}
-use Rattle.std.specs.Prelude.{◌==◌, if◌then◌else◌, slice_index_or, slice_set, Option, Some, None}
+use Rattle.std.specs.Prelude.{◌==◌, if◌then◌else◌, slice_index_or, slice_set, Option, Some, None, Result, Ok, Err, OnOk}
 use Rattle.std.specs.List.{remove}
 use Rattle.std.proofs.lemmas.Bool.{cases_eq}
 use Rattle.std.proofs.lemmas.Bool.Decides.{nat_tests}
@@ -27,29 +27,6 @@ pub same-at : (clients : List ClientFacts) (k : ℕ) (d e : ClientFacts) → k <
 same-at [] k d e below = let no : ⊥ = omega (arith, below) in absurd no
 same-at (first ∷ more) zero d e below = refl
 same-at (first ∷ more) (suc k) d e below = same-at more k d e (omega (arith, below))
-
--- nobody has this number up to one more place
-pub nobody-more : (number : ℕ) (clients : List ClientFacts) (place : ℕ) (client : ClientFacts)
-    → place < length clients → client ≡ slice_index_or clients place client → client.number ≢ number
-    → IsNobodyBefore number clients place → IsNobodyBefore number clients (place + 1)
-nobody-more number clients place client here is other before k d below =
-    elim (split-last k place below) as (λ w. (slice_index_or clients k d).number ≢ number) [
-      | inl less ↦ before k d less
-      | inr same ↦
-          let at : slice_index_or clients k d ≡ client =
-          ap (λ n. slice_index_or clients n d) same ∙ same-at clients place d client here ∙ sym is in
-          subst (λ c. c.number ≢ number) (sym at) other
-    ]
-
--- this place is the first with this number
-pub found-here : (number : ℕ) (clients : List ClientFacts) (place : ℕ) (client : ClientFacts)
-    → place < length clients → client ≡ slice_index_or clients place client → client.number ≡ number
-    → IsNobodyBefore number clients place → IsPlaceOf number clients (Some place)
-found-here number clients place client here is same before = (
-  here,
-  λ d. ap (λ c. c.number) (same-at clients place d client here ∙ sym is) ∙ same,
-  before,
-)
 
 later-nobody : (number : ℕ) (first : ClientFacts) (more : List ClientFacts) (place : ℕ)
     → IsNobodyBefore number (first ∷ more) (suc place) → IsNobodyBefore number more place
@@ -119,3 +96,44 @@ found-nowhere number (first ∷ more) none =
     ap (λ (b : Bool). if b then Some first else client_of number more)
     (isnt-number first.number number (none 0 first (omega arith)))
     ∙ found-nowhere number more (λ k d below. none (suc k) d (omega (arith, below)))
+
+-- the same, by what a call knows of them
+
+pub changed-in : (number : ℕ) (change : ClientFacts → ClientFacts) (items clients : List ClientFacts) (place : ℕ)
+    (client after : ClientFacts) → items ≡ clients → IsPlaceOf number items (Some place)
+    → client ≡ slice_index_or items place client → after ≡ change client
+    → slice_set items place after ≡ with_client number change clients
+changed-in number change items clients place client after same at here is =
+    ap (slice_set items place) (is ∙ ap change here) ∙ sym (changed-at number change items place client at)
+    ∙ ap (with_client number change) same
+
+pub kept-in : (number : ℕ) (change : ClientFacts → ClientFacts) (items clients : List ClientFacts) → items ≡ clients
+    → IsPlaceOf number items None → clients ≡ with_client number change clients
+kept-in number change items clients same none =
+    sym (changed-nowhere number change clients (subst (λ l. IsPlaceOf number l None) same none))
+
+pub found-in : (number : ℕ) (items clients : List ClientFacts) (place : ℕ) (client : ClientFacts) → items ≡ clients
+    → IsPlaceOf number items (Some place) → client ≡ slice_index_or items place client
+    → Some client ≡ client_of number clients
+found-in number items clients place client same at here =
+    ap Some here ∙ sym (found-at number items place client at) ∙ ap (client_of number) same
+
+pub none-in : (number : ℕ) (items clients : List ClientFacts) → items ≡ clients → IsPlaceOf number items None
+    → None ≡ client_of number clients
+none-in number items clients same none =
+    sym (found-nowhere number clients (subst (λ l. IsPlaceOf number l None) same none))
+
+pub removed-in : (number : ℕ) (items clients after : List ClientFacts) (place : ℕ) → items ≡ clients
+    → IsPlaceOf number items (Some place) → after ≡ remove items place → after ≡ without_client number clients
+removed-in number items clients after place same at is =
+    is ∙ sym (removed-at number items place at) ∙ ap (without_client number) same
+
+pub stays-in : (number : ℕ) (items clients : List ClientFacts) → items ≡ clients → IsPlaceOf number items None
+    → clients ≡ without_client number clients
+stays-in number items clients same none =
+    sym (removed-nowhere number clients (subst (λ l. IsPlaceOf number l None) same none))
+
+-- a call that succeeds
+pub on-ok : {X E A B : Type 0} (result : Result X E) → (A → B) → OnOk result A → OnOk result B
+on-ok (Ok value) then holds = then holds
+on-ok (Err error) then holds = tt

@@ -1,10 +1,10 @@
 -- Who has been silent longest, one client after another.
 use Rattle.std.proofs.Common.{ℕ, ◌≡◌, ◌<◌, ◌≤◌, ◌+◌, ◌&&◌, nat_lt, Bool, true, false, List, length, arith, refl, sym, ap, subst, ◌∙◌, inl, inr}
-use Rattle.std.specs.Prelude.{slice_index_or, Option, Some, None}
+use Rattle.std.specs.Prelude.{if◌then◌else◌, slice_index_or, Option, Some, None}
 use Rattle.std.proofs.lemmas.Bool.Decides.{nat_tests}
 use Rattle.live_lobby.specs.declared.places.Silent.{Silent}
 use Rattle.live_lobby.specs.Clients.{ClientFacts, may_give_way}
-use Rattle.live_lobby.specs.Places.{IsSilent, IsSilentLongest, NobodyMayGiveWay, is_more_silent}
+use Rattle.live_lobby.specs.Places.{IsSilent, IsSilentLongest, is_more_silent, more_silent}
 use Rattle.live_lobby.proofs.Found.{same-at, split-last}
 
 -- the client at a place, whatever stands past the end
@@ -74,18 +74,18 @@ is-less a b test = grind (arith, nat_tests, test)
 isnt-less : (a b : ℕ) → nat_lt a b ≡ false → b ≤ a
 isnt-less a b test = grind (arith, nat_tests, test)
 
-pub more-silent : (clients : List ClientFacts) (place : ℕ) (client : ClientFacts) (silent : Option Silent)
+more-silent-here : (clients : List ClientFacts) (place : ℕ) (client : ClientFacts) (silent : Option Silent)
     → place < length clients → client ≡ slice_index_or clients place client
     → is_more_silent client silent ≡ true → IsSilentLongest clients place silent
     → IsSilentLongest clients (place + 1) (Some (record { place = place; heard = client.heard }))
-more-silent clients place client None here is more was =
+more-silent-here clients place client None here is more was =
     now-silent clients place client here is more (λ k d before other. absurd (clash _ other (was k d before)))
-more-silent clients place client (Some silent) here is more was =
+more-silent-here clients place client (Some silent) here is more was =
     let less : client.heard < silent.heard = is-less _ _ (is-other _ _ more) in
     now-silent clients place client here is (is-both _ _ more)
     (λ k d before other. omega (arith, less, was.longest k d before other))
 
-pub not-more-silent : (clients : List ClientFacts) (place : ℕ) (client : ClientFacts) (silent : Option Silent)
+not-more-silent : (clients : List ClientFacts) (place : ℕ) (client : ClientFacts) (silent : Option Silent)
     → place < length clients → client ≡ slice_index_or clients place client
     → is_more_silent client silent ≡ false → IsSilentLongest clients place silent
     → IsSilentLongest clients (place + 1) silent
@@ -97,6 +97,22 @@ not-more-silent clients place client None here is more was k d below =
 not-more-silent clients place client (Some silent) here is more was =
     still-silent clients place client silent.place silent.heard here is
     (λ may. isnt-less _ _ (isnt-other _ _ more may)) was
+
+by-test : (clients : List ClientFacts) (place : ℕ) (client : ClientFacts) (silent : Option Silent) (more : Bool)
+    → is_more_silent client silent ≡ more → place < length clients → client ≡ slice_index_or clients place client
+    → IsSilentLongest clients place silent
+    → IsSilentLongest clients (place + 1)
+    (if more then Some (record { place = place; heard = client.heard }) else silent)
+by-test clients place client silent true more here is was = more-silent-here clients place client silent here is more was
+by-test clients place client silent false more here is was = not-more-silent clients place client silent here is more was
+
+-- one more client is looked at
+pub silent-more : (clients : List ClientFacts) (place : ℕ) (client : ClientFacts) (silent after : Option Silent)
+    → place < length clients → client ≡ slice_index_or clients place client → after ≡ more_silent client place silent
+    → IsSilentLongest clients place silent → IsSilentLongest clients (place + 1) after
+silent-more clients place client silent after here is after_is was =
+    subst (λ o. IsSilentLongest clients (place + 1) o) (sym after_is)
+    (by-test clients place client silent (is_more_silent client silent) refl here is was)
 
 pub nobody-yet : (clients : List ClientFacts) → IsSilentLongest clients 0 None
 nobody-yet clients k d below = let no : ⊥ = omega (arith, below) in absurd no

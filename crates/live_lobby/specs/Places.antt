@@ -1,5 +1,5 @@
 -- Where clients stand in a list of them.
-use Rattle.std.specs.Prelude.{ℕ, ◌<◌, ◌≤◌, ◌≡◌, ◌≢◌, ◌&&◌, nat_lt, Bool, true, false, List, length, slice_index_or, Option, Some, None}
+use Rattle.std.specs.Prelude.{ℕ, ◌<◌, ◌≤◌, ◌≡◌, ◌≢◌, ◌&&◌, nat_lt, Bool, true, false, if◌then◌else◌, List, length, slice_index_or, Option, Some, None}
 use Rattle.live_lobby.specs.declared.places.Silent.{Silent}
 use Rattle.live_lobby.specs.Clients.{ClientFacts, may_give_way}
 
@@ -39,3 +39,8 @@ IsSilentLongest clients count (Some silent) = IsSilent clients count silent.plac
 abbrev pub is_more_silent : ClientFacts → Option Silent → Bool
 is_more_silent client None = may_give_way client
 is_more_silent client (Some silent) = may_give_way client && nat_lt client.heard silent.heard
+
+-- who is more silent: the client at this place, or the other
+abbrev pub more_silent : ClientFacts → ℕ → Option Silent → Option Silent
+more_silent client place than =
+    if is_more_silent client than then Some (record { place = place; heard = client.heard }) else than

@@ -66,8 +66,10 @@ impl Lobby {
     pub fn client(&self, number: u64) -> Option<&Client>
         ensures { option_copied result ≡ client_of number self.now }
     {
-        let place = place_of(&self.clients, number)?;
-        Some(&self.clients[place])
+        match place_of(&self.clients, number) {
+            Some(place) => Some(&self.clients[place]),
+            None => None,
+        }
     }
 
     /// A client comes to a port, at this moment. When all room is taken, who has been silent longest gives way, if anybody may.

@@ -1,7 +1,7 @@
 //! Places in a list of clients.
 ghost use Rattle.std.specs.Prelude.{◌≡◌, length};
 ghost use Rattle.live_lobby.specs.Clients.{first_out};
-ghost use Rattle.live_lobby.specs.Places.{IsPlaceOf, IsSilentLongest, is_more_silent};
+ghost use Rattle.live_lobby.specs.Places.{IsPlaceOf, IsSilentLongest, is_more_silent, more_silent};
 
 use crate::client::Client;
 
@@ -34,16 +34,24 @@ pub(crate) fn silent_longest(clients: &[Client]) -> Option<Silent>
     let mut silent = None;
     let mut place = 0;
     while place < clients.len() {
-        let client = &clients[place];
-        if is_more_silent(client, silent) {
-            silent = Some(Silent {
-                place,
-                heard: client.heard(),
-            });
-        }
+        silent = more_silent(&clients[place], place, silent);
         place += 1;
     }
     silent
+}
+
+/// The client at a place, where it may give way and has been silent longer than another, if there is one, and else that other.
+fn more_silent(client: &Client, place: usize, than: Option<Silent>) -> Option<Silent>
+    ensures { result ≡ more_silent client.now place than }
+{
+    if is_more_silent(client, than) {
+        Some(Silent {
+            place,
+            heard: client.heard(),
+        })
+    } else {
+        than
+    }
 }
 
 /// Whether a client may give way, and has been silent longer than another, if there is one.
