@@ -24,7 +24,7 @@ split-last k count below =
 -- it doesn't matter what stands past the end
 pub same-at : (clients : List ClientFacts) (k : ℕ) (d e : ClientFacts) → k < length clients
     → slice_index_or clients k d ≡ slice_index_or clients k e
-same-at [] k d e below = let no : ⊥ = omega (arith, below) in absurd no
+same-at [] k d e below = let none : ⊥ = omega (arith, below) in absurd none
 same-at (first ∷ more) zero d e below = refl
 same-at (first ∷ more) (suc k) d e below = same-at more k d e (omega (arith, below))
 
@@ -43,7 +43,7 @@ isnt-first number first more place before = isnt-number first.number number (bef
 pub changed-at : (number : ℕ) (change : ClientFacts → ClientFacts) (clients : List ClientFacts) (place : ℕ)
     (d : ClientFacts) → IsPlaceOf number clients (Some place)
     → with_client number change clients ≡ slice_set clients place (change (slice_index_or clients place d))
-changed-at number change [] place d is = let no : ⊥ = omega (arith, is.0) in absurd no
+changed-at number change [] place d is = let none : ⊥ = omega (arith, is.0) in absurd none
 changed-at number change (first ∷ more) zero d is =
     ap (λ (b : Bool). if b then change first ∷ more else first ∷ with_client number change more)
     (is-number first.number number (is.1 first))
@@ -63,7 +63,7 @@ changed-nowhere number change (first ∷ more) none =
 
 pub removed-at : (number : ℕ) (clients : List ClientFacts) (place : ℕ) → IsPlaceOf number clients (Some place)
     → without_client number clients ≡ remove clients place
-removed-at number [] place is = let no : ⊥ = omega (arith, is.0) in absurd no
+removed-at number [] place is = let none : ⊥ = omega (arith, is.0) in absurd none
 removed-at number (first ∷ more) zero is =
     ap (λ (b : Bool). if b then more else first ∷ without_client number more)
     (is-number first.number number (is.1 first))
@@ -82,7 +82,7 @@ removed-nowhere number (first ∷ more) none =
 
 pub found-at : (number : ℕ) (clients : List ClientFacts) (place : ℕ) (d : ClientFacts)
     → IsPlaceOf number clients (Some place) → client_of number clients ≡ Some (slice_index_or clients place d)
-found-at number [] place d is = let no : ⊥ = omega (arith, is.0) in absurd no
+found-at number [] place d is = let none : ⊥ = omega (arith, is.0) in absurd none
 found-at number (first ∷ more) zero d is =
     ap (λ (b : Bool). if b then Some first else client_of number more) (is-number first.number number (is.1 first))
 found-at number (first ∷ more) (suc place) d is =
@@ -135,5 +135,5 @@ stays-in number items clients same none =
 
 -- a call that succeeds
 pub on-ok : {X E A B : Type 0} (result : Result X E) → (A → B) → OnOk result A → OnOk result B
-on-ok (Ok value) then holds = then holds
-on-ok (Err error) then holds = tt
+on-ok (Ok value) step holds = step holds
+on-ok (Err error) step holds = tt

@@ -15,7 +15,7 @@ at-place clients place client here is k d same =
     ap (λ n. slice_index_or clients n d) same ∙ same-at clients place d client here ∙ sym is
 
 clash : (test : Bool) → test ≡ true → test ≡ false → ⊥
-clash test yes no = cc
+clash test is isnt = cc
 
 -- this client is silent longest, where it is so beside those before it
 now-silent : (clients : List ClientFacts) (place : ℕ) (client : ClientFacts) → place < length clients
@@ -62,11 +62,11 @@ is-both false other both = both
 
 is-other : (one other : Bool) → (one && other) ≡ true → other ≡ true
 is-other true other both = both
-is-other false other both = let no : ⊥ = clash false both refl in absurd no
+is-other false other both = let none : ⊥ = clash false both refl in absurd none
 
 isnt-other : (one other : Bool) → (one && other) ≡ false → one ≡ true → other ≡ false
-isnt-other true other neither yes = neither
-isnt-other false other neither yes = let no : ⊥ = clash false yes refl in absurd no
+isnt-other true other neither is = neither
+isnt-other false other neither is = let none : ⊥ = clash false is refl in absurd none
 
 is-less : (a b : ℕ) → nat_lt a b ≡ true → a < b
 is-less a b test = grind (arith, nat_tests, test)
@@ -89,7 +89,8 @@ not-more-silent : (clients : List ClientFacts) (place : ℕ) (client : ClientFac
     → place < length clients → client ≡ slice_index_or clients place client
     → is_more_silent client silent ≡ false → IsSilentLongest clients place silent
     → IsSilentLongest clients (place + 1) silent
-not-more-silent clients place client None here is more was k d below =
+not-more-silent clients place client None here is more was =
+    λ k d below.
     elim (split-last k place below) as (λ w. may_give_way (slice_index_or clients k d) ≡ false) [
       | inl before ↦ was k d before
       | inr same ↦ ap may_give_way (at-place clients place client here is k d same) ∙ more
@@ -115,4 +116,4 @@ silent-more clients place client silent after here is after_is was =
     (by-test clients place client silent (is_more_silent client silent) refl here is was)
 
 pub nobody-yet : (clients : List ClientFacts) → IsSilentLongest clients 0 None
-nobody-yet clients k d below = let no : ⊥ = omega (arith, below) in absurd no
+nobody-yet clients k d below = let none : ⊥ = omega (arith, below) in absurd none
