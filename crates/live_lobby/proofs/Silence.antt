@@ -104,8 +104,10 @@ by-test : (clients : List ClientFacts) (place : ℕ) (client : ClientFacts) (sil
     → IsSilentLongest clients place silent
     → IsSilentLongest clients (place + 1)
     (if more then Some (record { place = place; heard = client.heard }) else silent)
-by-test clients place client silent true more here is was = more-silent-here clients place client silent here is more was
-by-test clients place client silent false more here is was = not-more-silent clients place client silent here is more was
+by-test clients place client silent true more here is was =
+    more-silent-here clients place client silent here is more was
+by-test clients place client silent false more here is was =
+    not-more-silent clients place client silent here is more was
 
 -- one more client is looked at
 pub silent-more : (clients : List ClientFacts) (place : ℕ) (client : ClientFacts) (silent after : Option Silent)

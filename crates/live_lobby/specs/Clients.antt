@@ -5,8 +5,8 @@ use Rattle.live_outside.specs.declared.arrival.Port.TheVariants as ports
 use Rattle.live_lobby.specs.declared.client.Phase.{Phase}
 use Rattle.live_lobby.specs.declared.client.Phase.TheVariants as phases
 
--- A client by its number and its port: what it does, and since when; what it brought and nobody took yet; and when it was
--- last heard of. Moments are milliseconds.
+-- A client by its number and its port: what it does, and since when; what it brought and nobody took yet; and when it
+-- was last heard of. Moments are milliseconds.
 pub record ClientFacts : Type 0 where
   pub number : ℕ
   pub port : Port

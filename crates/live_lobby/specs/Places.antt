@@ -19,8 +19,8 @@ abbrev pub NobodyMayGiveWay : List ClientFacts → ℕ → Type 0
 NobodyMayGiveWay clients count =
     (k : ℕ) (d : ClientFacts) → k < count → may_give_way (slice_index_or clients k d) ≡ false
 
--- Of the first so many the one at this place was last heard of at this moment and may give way, and no other that may was
--- heard of earlier; and none before it as early.
+-- Of the first so many the one at this place was last heard of at this moment and may give way, and no other that may
+-- was heard of earlier; and none before it as early.
 pub record IsSilent (clients : List ClientFacts) (count place moment : ℕ) : Type 0 where
   pub within : place < count
   pub gives_way : (d : ClientFacts) → may_give_way (slice_index_or clients place d) ≡ true

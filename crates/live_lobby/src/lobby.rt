@@ -2,10 +2,11 @@
 ghost use Rattle.std.specs.Prelude.{◌≡◌, ◌≤◌, ◌<◌, ◌++◌, ◌∷◌, [], length, OnErr, OnOk, IfOk, option_copied};
 ghost use Rattle.live_lobby.specs.declared.lobby.TheConstants.{MOST_CLIENTS};
 ghost use Rattle.live_lobby.specs.Clients.{client_of, entered, first_out, heard, taken, turned, with_client, without_client};
-ghost use Rattle.live_lobby.specs.Entering.{Enters};
+ghost use Rattle.live_lobby.specs.Entering.{Enters, GaveWay};
+ghost use Rattle.live_lobby.specs.Places.{IsSilent};
 
 use crate::client::{Client, Phase};
-use crate::places::{first_out, place_of, silent_longest};
+use crate::places::{Silent, first_out, place_of, silent_longest};
 use live_outside::Port;
 use std::alloc::{AllocError, Global};
 use std::marker::Model;
@@ -76,16 +77,14 @@ impl Lobby {
     pub fn enter(&mut self, number: u64, port: Port, now: u64) -> Entry
         ensures { Enters (entered number port now) self.old result self.new }
     {
-        if self.clients.len() < MOST_CLIENTS {
+        if self.len() < MOST_CLIENTS {
             self.add(number, port, now);
             return Entry::Enters;
         }
-        let Some(silent) = silent_longest(&self.clients) else {
-            return Entry::TurnedAway;
-        };
-        let gone = self.clients.remove(silent.place).number();
-        self.add(number, port, now);
-        Entry::InPlaceOf(gone)
+        match silent_longest(&self.clients) {
+            Some(silent) => Entry::InPlaceOf(self.replace(silent, number, port, now)),
+            None => Entry::TurnedAway,
+        }
     }
 
     /// A client brought these bytes, at this moment. On Err, want of memory, they are lost, and nothing else is.
@@ -132,6 +131,17 @@ impl Lobby {
         ensures { result ≡ first_out now self.now }
     {
         first_out(&self.clients, now)
+    }
+
+    /// A client comes in place of the one that has been silent longest, whose number it answers.
+    fn replace(&mut self, silent: Silent, number: u64, port: Port, now: u64) -> u64
+        requires within { silent.place < length self.old }
+        requires silent { IsSilent self.old (length self.old) silent.place silent.heard }
+        ensures { GaveWay (entered number port now) self.old self.new result }
+    {
+        let client = self.clients.remove(silent.place);
+        self.add(number, port, now);
+        client.number()
     }
 
     /// One more client, behind the others.

@@ -8,4 +8,5 @@ returns-in-Some c =
 
 pub returns-in-None : goal.returns-in-None
 returns-in-None c =
-    none-in c.args.number c.self.inside.clients.items c.args.self.now c.self.view_is (rw c.deref.ensures.value at c.in-None.ensures)
+    none-in c.args.number c.self.inside.clients.items c.args.self.now c.self.view_is
+    (rw c.deref.ensures.value at c.in-None.ensures)

@@ -8,4 +8,5 @@ returns-in-Some c =
 
 pub returns-in_default : goal.returns-in_default
 returns-in_default c =
-    stays-in c.args.number c.self.inside.clients.items c.args.self.now c.self.view_is (rw c.deref.ensures.value at c.in_default.ensures)
+    stays-in c.args.number c.self.inside.clients.items c.args.self.now c.self.view_is
+    (rw c.deref.ensures.value at c.in_default.ensures)

@@ -5,7 +5,8 @@ use Rattle.live_lobby.proofs.lobby.Lobby.take.Goals as goal
 pub returns-in-Some : goal.returns-in-Some
 returns-in-Some c =
     changed-in c.args.number (taken c.args.count) c.self.inside.clients.items c.args.self.now c.in-Some.place
-    c.index_mut.result.now c.take.new.self c.self.view_is (rw c.deref.ensures.value at c.in-Some.ensures) c.index_mut.ensures.value c.take.ensures
+    c.index_mut.result.now c.take.new.self c.self.view_is
+    (rw c.deref.ensures.value at c.in-Some.ensures) c.index_mut.ensures.value c.take.ensures
 
 pub returns-in_default : goal.returns-in_default
 returns-in_default c =
