@@ -1,3 +1,0 @@
-pub mod Entering
-pub mod Found
-pub mod Silence
