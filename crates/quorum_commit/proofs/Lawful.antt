@@ -79,7 +79,8 @@ lawful-led aim true = lawful-change aim
 lawful-led aim false = tt
 
 lawful-there : (view : LeaderView) (seen : SnapshotFacts) (sync : SyncKey) (on : Bool)
-    → IsLawfulPlan (aim_of view seen sync) (cond on (quorum_plan_on view seen (Some sync)) (quorum_plan_off (Some sync)))
+    → IsLawfulPlan (aim_of view seen sync)
+    (cond on (quorum_plan_on view seen (Some sync)) (quorum_plan_off (Some sync)))
 lawful-there view seen sync true = lawful-led (aim_of view seen sync) (sync.leader.number == view.view.me.number)
 lawful-there view seen sync false = tt
 
