@@ -34,10 +34,11 @@ use Rattle.event_book.specs.Kinds.{AllAre}
 use Rattle.cluster_model.specs.Cluster.{cluster_after, cluster_over}
 use Rattle.cluster_model.specs.Messages.{answer_events, answer_message, arrival_events_at, decision_body, decision_kind}
 use Rattle.cluster_model.specs.State.{Cluster}
-use Rattle.lease_parts.specs.Bridged.{Bridged}
+use Rattle.lease_owners.specs.Kept.{IsOwned}
 use Rattle.leading_parts.specs.Alone.{IsOwnRequest}
 use Rattle.leading_parts.specs.Holding.{GrantsNoOperator, LeavesSettings}
-use Rattle.leading_parts.proofs.Arrivals.{Answering, Behind, Decided, Later, Question, sent-keys, to-store}
+use Rattle.leading_parts.proofs.Arrivals.{sent-keys}
+use Rattle.lease_owners.proofs.ToStore.{Answering, Behind, Decided, Later, Question, to-store}
 
 carried-failover : (revision now : ℕ) (status : Option Lsn) (row : Option HistoryRow) (failsafe : Option MemberSet)
     → found_after_all revision now keys.Failover None
@@ -105,19 +106,19 @@ module _ (cluster : Cluster) (number : ℕ) where
       (sent-keys (Decided cluster number by txn (Refusal key there))
       (answer_message message (decision_body number txn (Refusal key there))))
 
-pub settings-left : (head : HeadText) (book : List Event) (cluster : Cluster) (number : ℕ) (carried : InFlightFacts)
-    → Bridged head book cluster → in_flight cluster.facts.flight number ≡ Some carried → carried.message.to ≡ ends.Store
+pub settings-left : (head : HeadText) (cluster : Cluster) (number : ℕ) (carried : InFlightFacts)
+    → IsOwned head cluster → in_flight cluster.facts.flight number ≡ Some carried → carried.message.to ≡ ends.Store
     → AllAre GrantsNoOperator (arrival_events_at cluster number carried ends.Store)
     → LeavesSettings cluster (cluster_over cluster (arrival_events_at cluster number carried ends.Store))
-settings-left head book cluster number carried good found to none =
+settings-left head cluster number carried good found to none =
     to-store (λ m. AllAre GrantsNoOperator (answer_events (Later cluster number) number m) →
     LeavesSettings cluster (Behind cluster number m))
     (λ by incarnation sequence all. same-keys cluster _
     (sent-keys (Later cluster number) (answer_message (Question by incarnation sequence bodies.Read) bodies.Snapshot)))
-    (λ by incarnation sequence txn all.
+    (λ by incarnation sequence txn addressed all.
     answering-leaves cluster number by (Question by incarnation sequence (bodies.Request txn)) txn
     (decision_on cluster.facts.keys cluster.facts.clock txn) all.0)
-    carried.message to (good.matched.waiting.carried number carried found).addressed none.1
+    carried.message to (good.facts.sent number carried found).0.addressed none.1
 
 lasting-present : (now : ℕ) (found : Option KeyEntry) → IsLasting found → present now found ≡ found
 lasting-present now None lasts = absurd lasts
@@ -131,11 +132,11 @@ lasting-present now (Some stored) lasts = ap (λ (x : Option Ticks). present now
   expiry = x;
 } in Some one) (sym lasts)
 
-pub settings-ticked : (head : HeadText) (book : List Event) (cluster : Cluster) → Bridged head book cluster
+pub settings-ticked : (head : HeadText) (cluster : Cluster) → IsOwned head cluster
     → LeavesSettings cluster (cluster_after cluster kinds.Tick)
-settings-ticked head book cluster good =
+settings-ticked head cluster good =
     let now : ℕ = cluster.facts.clock + 1 in
-    let kept = good.matched.store.kept in
+    let kept = good.facts.store.kept in
     record {
       config = find_present now keys.Config cluster.facts.keys.pairs kept.order
           ∙ lasting-present now (find key_cmp keys.Config cluster.facts.keys.pairs) kept.config;
@@ -143,18 +144,18 @@ settings-ticked head book cluster good =
     }
 
 -- what the key store shows of them now
-pub settings-shown : (head : HeadText) (book : List Event) (cluster : Cluster) → Bridged head book cluster
+pub settings-shown : (head : HeadText) (cluster : Cluster) → IsOwned head cluster
     → find key_cmp keys.Config (present_pairs cluster.facts.clock cluster.facts.keys.pairs)
     ≡ find key_cmp keys.Config cluster.facts.keys.pairs
-settings-shown head book cluster good =
+settings-shown head cluster good =
     let now : ℕ = cluster.facts.clock in
-    let kept = good.matched.store.kept in
+    let kept = good.facts.store.kept in
     find_present now keys.Config cluster.facts.keys.pairs kept.order
     ∙ lasting-present now (find key_cmp keys.Config cluster.facts.keys.pairs) kept.config
 
-pub failover-shown : (head : HeadText) (book : List Event) (cluster : Cluster) → Bridged head book cluster
+pub failover-shown : (head : HeadText) (cluster : Cluster) → IsOwned head cluster
     → find key_cmp keys.Failover cluster.facts.keys.pairs ≡ None
     → find key_cmp keys.Failover (present_pairs cluster.facts.clock cluster.facts.keys.pairs) ≡ None
-failover-shown head book cluster good none =
-    find_present cluster.facts.clock keys.Failover cluster.facts.keys.pairs good.matched.store.kept.order
+failover-shown head cluster good none =
+    find_present cluster.facts.clock keys.Failover cluster.facts.keys.pairs good.facts.store.kept.order
     ∙ ap (present cluster.facts.clock) none

@@ -1,5 +1,5 @@
 -- What an input asks of the leader key it asks by a revision that its agent has.
-use Rattle.std.proofs.Common.{ℕ, ◌≡◌, ◌⊎◌, ◌&&◌, List, [], Option, Some, None, All, refl, sym, ap, subst, ◌∙◌, inl, inr}
+use Rattle.std.proofs.Common.{ℕ, ◌≡◌, ◌⊎◌, ◌&&◌, Bool, true, List, [], Option, Some, None, All, refl, sym, ap, subst, ◌∙◌, inl, inr}
 use Rattle.std.proofs.lemmas.List.Elements.{All-nil, All-weaker}
 use Rattle.pat_base.specs.declared.member_id.MemberId.{MemberId}
 use Rattle.pat_base.specs.declared.ticks.Ticks.{Ticks}
@@ -189,3 +189,10 @@ input-keeps now points (FailsafeAsked from incarnation sequence ttl) o revision 
 input-keeps now points (FailsafeAnswered from sequence accepted sent) o revision e =
     inl ((failsafe-answered-brings now from sequence accepted sent o).lease revision e)
 input-keeps now points (HearsOperator action) o revision e = inl ((operated-brings now action o).lease revision e)
+
+pub input-keeps-as : (now : Ticks) (points : List HistoryPoint) (heard : Heard) (role : RoleFacts) (knows : Knowledge)
+    (machine : Machine) (revision : ℕ)
+    → lease_of (step now points heard (outcome_from role knows machine [])).role ≡ Some revision
+    → (lease_of role ≡ Some revision) ⊎ Gives heard (outcome_from role knows machine []) revision
+input-keeps-as now points heard role knows machine revision e =
+    input-keeps now points heard (outcome_from role knows machine []) revision e

@@ -5,3 +5,9 @@ pub mod Flights
 pub mod Agents
 pub mod Stills
 pub mod Parts
+pub mod ToStore
+pub mod Arrivals
+pub mod Inputs
+pub mod Hearing
+pub mod First
+pub mod EveryRun

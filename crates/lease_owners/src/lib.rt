@@ -3,4 +3,4 @@
 
 mod laws;
 
-pub use laws::agents_ask_for_their_own_leases;
+pub use laws::{agents_ask_for_their_own_leases, runs_ask_for_their_own_leases};
