@@ -21,7 +21,7 @@ use Rattle.agent_model.specs.Agents.{AgentFacts, Leader}
 use Rattle.cluster_model.specs.Inputs.{agent_at, may_act}
 use Rattle.cluster_model.specs.State.{Cluster}
 use Rattle.lease_model.specs.Leases.{LeaderKey}
-use Rattle.leading_parts.specs.Holding.{HasKey, NoneRenews}
+use Rattle.leading_parts.specs.Holding.{HasKey, NoneAsks}
 use Rattle.leading_parts.specs.Ticked.{FiresPast, IsPrimary}
 
 -- the agent of a member runs, leads, and waits for nothing; no operator
@@ -88,7 +88,7 @@ pub record IsSteady (member : Member) (cluster : Cluster) : Type 0 where
   pub leads : IsLeading member cluster
   pub primary : IsPrimary member.id.number cluster
   pub key : HasKeyPast leads.agent.knows.next_turn.0 member cluster
-  pub alone : NoneRenews key.key.revision cluster.facts.flight
+  pub alone : NoneAsks key.key.revision cluster.facts.flight
   pub counted : AreCounted member.id.number leads.process.incarnation leads.agent.knows.sequence cluster.facts.flight
   pub guard : FiresPast leads.agent.knows.next_turn.0 (slice_get cluster.facts.deadlines member.id.number)
   pub settings : IsUndisturbed leads.agent.knows.settings cluster

@@ -22,7 +22,7 @@ use Rattle.event_book.specs.declared.message.Body.TheVariants as bodies
 use Rattle.agent_roles.specs.Seen.{leader_entry_seen}
 use Rattle.lease_model.specs.Leases.{LeaderKey, LeaderSeen}
 use Rattle.lease_model.specs.Stores.{IsLeased, leader_key_of, leader_value}
-use Rattle.lease_model.proofs.Tools.{eq-from, none-some, some-is}
+use Rattle.lease_model.proofs.Tools.{both, eq-from, none-some, some-is}
 use Rattle.lease_owners.specs.Asking.{AsksFor}
 
 -- the entry is that of this leader key
@@ -66,7 +66,7 @@ before-is : (m n : ℕ) → m < n → nat_lt m n ≡ true
 before-is m n less = grind (arith, nat_tests, less)
 
 -- it is present until it expires
-entry-present : (now : ℕ) (key : LeaderKey) (found : Option KeyEntry) → IsEntryOf key found → now < key.expiry
+pub entry-present : (now : ℕ) (key : LeaderKey) (found : Option KeyEntry) → IsEntryOf key found → now < key.expiry
     → present now found ≡ found
 entry-present now key found entry before =
     let stored : KeyEntry =
@@ -75,7 +75,7 @@ entry-present now key found entry before =
     (ap (λ (b : Bool). cond b (Some stored) None)
     (before-is now entry.expiry.0 (subst (λ (n : ℕ). now < n) (sym entry.until) before)))
 
-entry-found : (key : LeaderKey) (found : Option KeyEntry) → IsEntryOf key found → found_in found ≡ Revision key.revision
+pub entry-found : (key : LeaderKey) (found : Option KeyEntry) → IsEntryOf key found → found_in found ≡ Revision key.revision
 entry-found key found entry = ap found_in entry.is
 
 -- ---- the decision on a request: the leader key is compared first
@@ -134,7 +134,7 @@ value-shown (values.Leader member) revision (Some expiry) seen leased is =
       holder = ap (λ (s : LeaderSeen). s.holder) same;
       revision = ap (λ (s : LeaderSeen). s.revision) same;
     }
-value-shown (values.Leader member) revision None seen leased is = absurd leased
+value-shown (values.Leader member) revision None seen leased is = absurd (both leased)
 value-shown (values.Config config) revision expiry seen leased is = absurd (none-some seen is)
 value-shown (values.Member info) revision expiry seen leased is = absurd (none-some seen is)
 value-shown (values.Failover failover) revision expiry seen leased is = absurd (none-some seen is)

@@ -1,5 +1,5 @@
 -- Each part of a step keeps it, and so does each run.
-use Rattle.std.proofs.Common.{ℕ, ◌≡◌, ◌+◌, ◌++◌, Bool, true, false, List, [], ◌∷◌, length, map, slice_get, Option, Some, None, option_map, refl, sym, ap, subst, ◌∙◌}
+use Rattle.std.proofs.Common.{ℕ, ◌≡◌, ◌≤◌, ◌+◌, ◌++◌, Bool, true, false, List, [], ◌∷◌, length, map, slice_get, Option, Some, None, option_map, refl, sym, ap, subst, ◌∙◌}
 use Rattle.std.specs.Prelude.{replicate}
 use Rattle.std.proofs.lemmas.List.{length-replicate}
 use Rattle.pat_base.specs.declared.member_id.MemberId.{MemberId}
@@ -45,7 +45,7 @@ use Rattle.cluster_model.proofs.Lists.{all-kinds, all-more, one-kind}
 use Rattle.run_promise.specs.Members.{IsDeclared, declared_members}
 use Rattle.run_promise.specs.Parts.{InputsUphold, PartsUphold}
 use Rattle.run_promise.specs.Promise.{IsComposable, Upholds}
-use Rattle.run_promise.proofs.Members.{declared-in, few-names}
+use Rattle.run_promise.proofs.Members.{declared-in, few-names, numbered}
 use Rattle.run_promise.proofs.Walking.{upholds-run}
 use Rattle.lease_model.proofs.Tools.{some-is}
 use Rattle.lease_parts.specs.Asides.{IsAsideIn}
@@ -166,6 +166,11 @@ module _ (head : HeadText) (few : length (names_of head) ≤ MOST_MEMBERS) where
   stands-declared : (cluster : Cluster) (member : Member) → IsOwned head cluster → IsDeclared head member
       → slice_get cluster.facts.members member.id.number ≡ Some member
   stands-declared cluster member good is = ap (λ (l : List Member). slice_get l member.id.number) good.members ∙ is
+
+  pub stand-numbered : (cluster : Cluster) → IsOwned head cluster → (n : ℕ) (member : Member)
+      → slice_get cluster.facts.members n ≡ Some member → member.id.number ≡ n
+  stand-numbered cluster good n member is =
+      numbered head few n member (ap (λ (l : List Member). slice_get l n) (sym good.members) ∙ is)
 
   -- a message comes to an agent
   module _ (cluster : Cluster) (number : ℕ) (carried : InFlightFacts) (member : Member) (good : IsOwned head cluster)

@@ -1,5 +1,5 @@
 -- Events that send only what is well, and grant only spanned leases, keep the key store and the messages in flight.
-use Rattle.std.proofs.Common.{ℕ, ◌≡◌, ◌≤◌, ◌<◌, List, [], ◌∷◌, Option, Some, None, refl, sym, ap, subst, ◌∙◌, arith}
+use Rattle.std.proofs.Common.{ℕ, ◌≡◌, ◌≤◌, ◌<◌, true, List, [], ◌∷◌, Option, Some, None, refl, sym, ap, subst, ◌∙◌, arith}
 use Rattle.std.specs.FinMap.{find}
 use Rattle.store_keys.specs.declared.key.Key.{Key}
 use Rattle.store_keys.specs.declared.key.Key.TheVariants as keys

@@ -21,7 +21,8 @@ use Rattle.lease_owners.specs.Owning.{CarriesOwn, IsOf}
 use Rattle.lease_owners.proofs.Inputs.{HearsOwn}
 
 both-true : (a b : Bool) → a && b ≡ true → (a ≡ true) × (b ≡ true)
-both-true true b e = (e, e)
+both-true true true e = (refl, refl)
+both-true true false e = absurd (clash e)
 both-true false b e = absurd (clash e)
   where
     clash : false ≡ true → ⊥
