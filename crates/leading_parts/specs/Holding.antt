@@ -91,11 +91,15 @@ abbrev pub GrantsNoOperator : EventKind → Type 0
 GrantsNoOperator (kinds.Store (stores.Granted number by txn standbys)) = IsOwnRequest txn
 GrantsNoOperator _ = Unit {0}
 
--- the configuration is as it was, and there is no failover key if there was none
+-- nothing that operators ask for is in the key store: neither a failover nor a scheduled switchover
+pub record IsUnasked (pairs : List (Key × KeyEntry)) : Type 0 where
+  pub failover : find key_cmp keys.Failover pairs ≡ None
+  pub scheduled : find key_cmp keys.Scheduled pairs ≡ None
+
+-- the configuration is as it was, and operators ask for nothing if they asked for nothing
 pub record LeavesSettings (before after : Cluster) : Type 0 where
   pub config : find key_cmp keys.Config after.facts.keys.pairs ≡ find key_cmp keys.Config before.facts.keys.pairs
-  pub failover : find key_cmp keys.Failover before.facts.keys.pairs ≡ None
-      → find key_cmp keys.Failover after.facts.keys.pairs ≡ None
+  pub unasked : IsUnasked before.facts.keys.pairs → IsUnasked after.facts.keys.pairs
 
 -- the message of this number came to the key store: it is in flight no more, and all that is new is an answer to it
 pub record LeavesAnswer (question : Message) (number : ℕ) (before after : Cluster) : Type 0 where

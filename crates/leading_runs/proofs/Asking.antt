@@ -41,7 +41,8 @@ use Rattle.lease_owners.specs.Kept.{IsOwned}
 use Rattle.run_promise.proofs.Members.{members-over}
 use Rattle.leading_law.specs.Leading.{WritesSync}
 use Rattle.leading_parts.specs.Alone.{LeaveAlone, LeavesAlone}
-use Rattle.leading_parts.specs.Holding.{AsksFor, GrantsNoOperator, HasKey, HasRoom, IsAnswered, IsDecidedOn, IsRenewal, LeavesAnswer, LeavesSettings, renewed_key}
+use Rattle.lease_owners.specs.Asking.{AsksFor}
+use Rattle.leading_parts.specs.Holding.{GrantsNoOperator, HasKey, HasRoom, IsAnswered, IsDecidedOn, IsRenewal, LeavesAnswer, LeavesSettings, renewed_key}
 use Rattle.leading_parts.proofs.Answering.{arrival-left, decided-answered, read-room, request-room}
 use Rattle.leading_parts.proofs.Arrivals.{Behind, Later, reads-answered, renews-granted, stays-left}
 use Rattle.leading_parts.proofs.Frames.{same-over}
@@ -64,12 +65,6 @@ nobody-operates n cluster events alone = all events cluster alone
     all [] c alone = tt
     all (event ∷ events) c alone =
         (none-operates n c event.kind alone.0, all events (cluster_after c event.kind) alone.1)
-
--- ---- its server is live
-primary-live : (found : Option ServerFacts)
-    → option_map (λ (s : ServerFacts). s.state) found ≡ Some states.Primary → live_now found ≡ true
-primary-live None e = absurd (none-some states.Primary e)
-primary-live (Some s) e = ap live (some-is s.state states.Primary e)
 
 -- ---- a message that comes to the key store
 module _ (head : HeadText) (member : Member) (cluster : Cluster) (seen : Seen)
@@ -179,7 +174,7 @@ module _ (head : HeadText) (member : Member) (cluster : Cluster) (seen : Seen)
           (sym (ap (find key_cmp keys.Config) answered.taken ∙ settings-shown head Came then))
           now-stands.settings.sets)
           (ap (find key_cmp keys.Failover) answered.taken
-          ∙ failover-shown head Came then now-stands.settings.failover)
+          ∙ failover-shown head Came then now-stands.settings.unasked.failover)
 
       pub turn-shows : Phase member 5 (cluster.facts.sent + 1) Came
       turn-shows = record {

@@ -46,7 +46,8 @@ use Rattle.leading_law.proofs.Inputs.{drops-it, drops-peers, numbered-ask, numbe
 use Rattle.leading_law.proofs.Dropping.{drops, drops-peer}
 use Rattle.leading_law.proofs.Turns.{answers-asked, refuses}
 use Rattle.leading_parts.specs.Aside.{ServesOn}
-use Rattle.leading_parts.specs.Holding.{AsksFor, IsMemberOf}
+use Rattle.lease_owners.specs.Asking.{AsksFor}
+use Rattle.leading_parts.specs.Holding.{IsMemberOf}
 use Rattle.leading_parts.proofs.Answering.{without-there}
 use Rattle.leading_runs.specs.Joining.{StandsLeading}
 use Rattle.leading_runs.specs.Steady.{IsOfRun}

@@ -30,7 +30,8 @@ use Rattle.run_promise.proofs.Members.{members-over}
 use Rattle.leading_parts.specs.Alone.{IsWithStore, LeaveAlone}
 use Rattle.leading_parts.specs.Aside.{IsBeside, IsOther, LeavesMail}
 use Rattle.leading_parts.specs.Elsewhere.{AreElsewhere}
-use Rattle.leading_parts.specs.Holding.{AsksFor, HasKey, IsMemberOf, LeavesKey, LeavesSettings}
+use Rattle.lease_owners.specs.Asking.{AsksFor}
+use Rattle.leading_parts.specs.Holding.{HasKey, IsMemberOf, IsUnasked, LeavesKey, LeavesSettings}
 use Rattle.leading_parts.proofs.Askers.{asks-own}
 use Rattle.leading_parts.proofs.Aside.{leaves-over}
 use Rattle.leading_parts.proofs.Frames.{same-over}
@@ -55,7 +56,7 @@ pub undisturbed-left : (member : Member) (seen : Seen) (before after : Cluster) 
 undisturbed-left member seen before after leaves was = record {
   sets = subst (SetsConfig (settings_seen seen)) (sym leaves.config) was.sets;
   unpaused = was.unpaused;
-  failover = leaves.failover was.failover;
+  unasked = leaves.unasked was.unasked;
 }
 
 pub stands-left : (member : Member) (seen : Seen) (before after : Cluster) → Leaves member before after
@@ -85,7 +86,7 @@ options-over cluster (event ∷ events) = options-over (cluster_after cluster ev
 pub settings-same : (before after : Cluster) → after.facts.keys ≡ before.facts.keys → LeavesSettings before after
 settings-same before after same = record {
   config = ap (λ (k : Keys). find key_cmp keys.Config k.pairs) same;
-  failover = λ none. ap (λ (k : Keys). find key_cmp keys.Failover k.pairs) same ∙ none;
+  unasked = subst (λ (k : Keys). IsUnasked k.pairs) (sym same);
 }
 
 pub leader-same : (before after : Cluster) → after.facts.keys ≡ before.facts.keys → LeavesKey before after

@@ -20,7 +20,7 @@ use Rattle.leading_parts.proofs.Aside.{serves-elsewhere}
 use Rattle.leading_parts.proofs.Others.{arrival-elsewhere}
 use Rattle.leading_parts.specs.Alone.{IsWithStore, LeaveAlone}
 use Rattle.leading_parts.specs.Aside.{ServesOn}
-use Rattle.leading_parts.specs.Holding.{AsksFor}
+use Rattle.lease_owners.specs.Asking.{AsksFor}
 use Rattle.leading_runs.proofs.Asking.{turn-decides, turn-grants, turn-shows}
 use Rattle.leading_runs.proofs.Feeding.{feeds-serving, turn-feeds, turn-settles}
 use Rattle.leading_runs.proofs.Joins.{hears-key}

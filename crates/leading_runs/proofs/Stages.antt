@@ -32,7 +32,8 @@ use Rattle.cluster_model.specs.Messages.{agent_message, answer_message, decision
 use Rattle.cluster_model.specs.State.{Cluster}
 use Rattle.lease_model.specs.Leases.{LeaderKey}
 use Rattle.leading_law.specs.Leading.{WritesSync}
-use Rattle.leading_parts.specs.Holding.{AsksFor, HasKey, ShowsKey}
+use Rattle.lease_owners.specs.Asking.{AsksFor}
+use Rattle.leading_parts.specs.Holding.{HasKey, ShowsKey}
 use Rattle.leading_parts.specs.Ticked.{FiresPast, IsPrimary}
 use Rattle.leading_runs.specs.Steady.{IsOfRun, IsUndisturbed, SetsConfig, TurnsInTime}
 

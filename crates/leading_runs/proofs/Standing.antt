@@ -28,7 +28,8 @@ use Rattle.lease_model.specs.Stores.{leader_key_of}
 use Rattle.lease_book.specs.Flights.{Rises}
 use Rattle.lease_owners.specs.Kept.{IsOwned, KnowsItsRun}
 use Rattle.leading_law.specs.OwnInputs.{IsUntouched, SendsOne, StandsSo}
-use Rattle.leading_parts.specs.Holding.{AsksFor, NoneAsks}
+use Rattle.lease_owners.specs.Asking.{AsksFor}
+use Rattle.leading_parts.specs.Holding.{NoneAsks}
 use Rattle.leading_parts.proofs.Answering.{without-there}
 use Rattle.leading_runs.specs.Joining.{StandsLeading}
 use Rattle.leading_runs.specs.Steady.{IsUndisturbed, SetsConfig, TurnsInTime}

@@ -18,7 +18,8 @@ use Rattle.leading_parts.proofs.Settings.{settings-ticked}
 use Rattle.leading_parts.proofs.Ticked.{Rest, Ticked, rest-elsewhere, tick-leaves}
 use Rattle.leading_parts.specs.Aside.{IsBeside, IsOther, LeavesMail}
 use Rattle.leading_parts.specs.Elsewhere.{AreElsewhere, StandsSame}
-use Rattle.leading_parts.specs.Holding.{AsksFor, IsMemberOf, LeavesKey, LeavesSettings}
+use Rattle.lease_owners.specs.Asking.{AsksFor}
+use Rattle.leading_parts.specs.Holding.{IsMemberOf, LeavesKey, LeavesSettings}
 use Rattle.leading_parts.specs.Ticked.{FiresPast}
 use Rattle.leading_runs.proofs.Keeping.{options-over, other-harmless, settings-same, undisturbed-left}
 use Rattle.leading_runs.proofs.Rounds.{round}
@@ -121,7 +122,7 @@ module _ (head : HeadText) (few : length (names_of head) ≤ MOST_MEMBERS) (memb
         let rest = settings-same Tick_first After left.keys in
         record {
           config = rest.config ∙ ticked.config;
-          failover = λ absent. rest.failover (ticked.failover absent);
+          unasked = λ absent. rest.unasked (ticked.unasked absent);
         }
 
     stands-later : Stands member (later seen) After

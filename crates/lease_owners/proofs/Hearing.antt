@@ -20,13 +20,13 @@ use Rattle.lease_model.proofs.Tools.{eq-from, none-some, some-is}
 use Rattle.lease_owners.specs.Owning.{CarriesOwn, IsOf}
 use Rattle.lease_owners.proofs.Inputs.{HearsOwn}
 
+clash : false ≡ true → ⊥
+clash e = cc
+
 both-true : (a b : Bool) → a && b ≡ true → (a ≡ true) × (b ≡ true)
 both-true true true e = (refl, refl)
 both-true true false e = absurd (clash e)
 both-true false b e = absurd (clash e)
-  where
-    clash : false ≡ true → ⊥
-    clash e = cc
 
 found-by : {A : Type 0} (P : Heard → Type 0) (f : A → Heard) (found : Option A) (heard : Heard)
     → option_map f found ≡ Some heard → ((x : A) → found ≡ Some x → P (f x)) → P heard
