@@ -127,7 +127,8 @@ module _ (head : HeadText) (cluster : Cluster) (key : LeaderKey) (number : ℕ)
     (carried : InFlightFacts) (good : IsOwned head cluster) (has : HasKey key cluster)
     (found : in_flight cluster.facts.flight number ≡ Some carried) where
   decided-leaves : (by : Member) (message : Message) (txn : Txn) (decision : Decision)
-      → decision_on cluster.facts.keys cluster.facts.clock txn ≡ decision → (AsksFor key.revision (bodies.Request txn) → ⊥)
+      → decision_on cluster.facts.keys cluster.facts.clock txn ≡ decision
+      → (AsksFor key.revision (bodies.Request txn) → ⊥)
       → LeavesKey cluster (Answering cluster number message by txn decision)
   decided-leaves by message txn Grant decides other =
       ap (λ (k : Keys). find key_cmp keys.Leader k.pairs)

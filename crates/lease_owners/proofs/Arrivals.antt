@@ -131,8 +131,11 @@ lost-tidy members facts cluster false number = tt
 pub sends-tidy : (members : List Member) (cluster : Cluster) (message : Message)
     → SendsWell members cluster.facts.keys cluster.facts.sent (cluster.facts.sent + 1) message
     → AreTidy members cluster.facts (send_events cluster message)
-sends-tidy members cluster message well = (well, lost-tidy members _ (Next cluster message)
-    (nat_le most_in_flight (length cluster.facts.flight)) (cluster.facts.sent + 1))
+sends-tidy members cluster message well = (
+  well,
+  lost-tidy members _ (Next cluster message)
+      (nat_le most_in_flight (length cluster.facts.flight)) (cluster.facts.sent + 1),
+)
 
 -- an answer without a grant
 answer-well : (members : List Member) (cluster : Cluster) (by : Member) (incarnation sequence : ℕ) (asked body : Body)
@@ -202,19 +205,18 @@ arrival-tidy : (members : List Member) (cluster : Cluster) (number : ℕ) (carri
     → carried.message.to ≡ ends.Store
     → AreTidy members cluster.facts (arrival_events_at cluster number carried ends.Store)
 arrival-tidy members cluster number carried kept found to =
-    let sent = kept.sent number carried found in
-    (
+    let sent = kept.sent number carried found in (
       tt,
       to-store (λ m. IsKnownEnd members m.from
-      → ((by : Member) (revision : ℕ) → m.from ≡ ends.Member by → AsksFor revision m.body
-      → IsOf cluster.facts.keys by.id.number revision)
-      → AreTidy members (Later cluster number).facts (answer_events (Later cluster number) number m))
-      (λ by incarnation sequence known asks. read-tidy members cluster number by incarnation sequence known kept)
-      (λ by incarnation sequence txn addressed known asks.
-      decided-tidy members cluster number by incarnation sequence known kept txn
-      (decision_on cluster.facts.keys cluster.facts.clock txn) addressed refl
-      (λ revision asked. asks by revision refl asked))
-      carried.message to sent.0.addressed sent.0.from sent.1.asks,
+          → ((by : Member) (revision : ℕ) → m.from ≡ ends.Member by → AsksFor revision m.body
+          → IsOf cluster.facts.keys by.id.number revision)
+          → AreTidy members (Later cluster number).facts (answer_events (Later cluster number) number m))
+          (λ by incarnation sequence known asks. read-tidy members cluster number by incarnation sequence known kept)
+          (λ by incarnation sequence txn addressed known asks.
+          decided-tidy members cluster number by incarnation sequence known kept txn
+          (decision_on cluster.facts.keys cluster.facts.clock txn) addressed refl
+          (λ revision asked. asks by revision refl asked))
+          carried.message to sent.0.addressed sent.0.from sent.1.asks,
     )
 
 -- ---- no agent acts
@@ -248,13 +250,17 @@ mail-over cluster (event ∷ events) all =
       members = more.members ∙ one.members;
     }
 
-lost-mail : (cluster : Cluster) (test : Bool) (number : ℕ) → AllAre IsMail (events_of cluster (lost_at_once test number))
+lost-mail : (cluster : Cluster) (test : Bool) (number : ℕ)
+    → AllAre IsMail (events_of cluster (lost_at_once test number))
 lost-mail cluster true number = (tt, tt)
 lost-mail cluster false number = tt
 
 sends-mail : (cluster : Cluster) (message : Message) → AllAre IsMail (send_events cluster message)
-sends-mail cluster message = (tt, lost-mail (Next cluster message)
-    (nat_le most_in_flight (length cluster.facts.flight)) (cluster.facts.sent + 1))
+sends-mail cluster message = (
+  tt,
+  lost-mail (Next cluster message)
+      (nat_le most_in_flight (length cluster.facts.flight)) (cluster.facts.sent + 1),
+)
 
 decided-mail : (cluster : Cluster) (number : ℕ) (message : Message) (by : Member) (txn : Txn) (decision : Decision)
     → AllAre IsMail (decision_events (Later cluster number) number message txn decision (ends.Member by))

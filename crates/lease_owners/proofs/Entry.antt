@@ -75,7 +75,8 @@ entry-present now key found entry before =
     (ap (λ (b : Bool). cond b (Some stored) None)
     (before-is now entry.expiry.0 (subst (λ (n : ℕ). now < n) (sym entry.until) before)))
 
-pub entry-found : (key : LeaderKey) (found : Option KeyEntry) → IsEntryOf key found → found_in found ≡ Revision key.revision
+pub entry-found : (key : LeaderKey) (found : Option KeyEntry) → IsEntryOf key found
+    → found_in found ≡ Revision key.revision
 entry-found key found entry = ap found_in entry.is
 
 -- ---- the decision on a request: the leader key is compared first

@@ -174,7 +174,8 @@ module _ (head : HeadText) (few : length (names_of head) ≤ MOST_MEMBERS) where
 
   -- a message comes to an agent
   module _ (cluster : Cluster) (number : ℕ) (carried : InFlightFacts) (member : Member) (good : IsOwned head cluster)
-      (found : in_flight cluster.facts.flight number ≡ Some carried) (to : carried.message.to ≡ ends.Member member) where
+      (found : in_flight cluster.facts.flight number ≡ Some carried)
+      (to : carried.message.to ≡ ends.Member member) where
     abbrev Arrived : EventKind
     Arrived = kinds.Message (messages.Delivered number)
 
@@ -199,7 +200,8 @@ module _ (head : HeadText) (few : length (names_of head) ≤ MOST_MEMBERS) where
         input-owned head few cluster good member stands heard
         (message-own cluster.facts.keys member.id.number cluster carried (good.facts.sent number carried found).1
         heard h) (Some number) (heard_message number carried) Arrived refl
-        (acted ∙ ap (λ (h : Option Heard). agent_facts_with cluster.agents member (outcome_of_heard cluster member h)) h)
+        (acted
+        ∙ ap (λ (h : Option Heard). agent_facts_with cluster.agents member (outcome_of_heard cluster member h)) h)
 
     pub hears-owned : IsOwned head (cluster_over cluster (hear_events cluster number carried member))
     hears-owned = heard-by (heard_from cluster carried) refl
@@ -234,7 +236,8 @@ module _ (head : HeadText) (few : length (names_of head) ≤ MOST_MEMBERS) where
     inputs = inputs;
     arrivals = λ book cluster number carried good found to. upheld head book cluster
         (arrival_events_at cluster number carried ends.Store) (arrival-owned head cluster number carried good found to);
-    losses = λ number book cluster good. upheld head book cluster (event_of cluster (kinds.Message (messages.Lost number)))
+    losses =
+        λ number book cluster good. upheld head book cluster (event_of cluster (kinds.Message (messages.Lost number)))
         (lost-owned head cluster number good);
     notes = λ note book cluster good. upheld head book cluster (event_of cluster (kinds.Note note))
         (noted-owned head cluster note good);
@@ -244,7 +247,8 @@ module _ (head : HeadText) (few : length (names_of head) ≤ MOST_MEMBERS) where
     acknowledgements = λ member book cluster good. upheld head book cluster (acknowledge_events cluster member)
         (acknowledged-owned head cluster member good);
     restarts = λ id book cluster good. upheld head book cluster
-        (for_some (declared cluster id) (agent_start_events cluster)) (started-owned head cluster (declared cluster id) good);
+        (for_some (declared cluster id) (agent_start_events cluster))
+        (started-owned head cluster (declared cluster id) good);
     promotions = λ member is book cluster good. upheld head book cluster (promote_events cluster member)
         (promoted-owned head cluster member good);
     commands = λ command book cluster good. upheld head book cluster

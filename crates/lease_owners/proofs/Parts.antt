@@ -183,4 +183,3 @@ module _ (P : EventKind → Type 0) (member : Member) (runs : P (kinds.Note (Alr
 
   pub starts-hold : (cluster : Cluster) → AllAre P (agent_start_events cluster member)
   starts-hold cluster = found-starts cluster (slice_get cluster.facts.processes member.id.number)
-

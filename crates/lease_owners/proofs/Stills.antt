@@ -33,9 +33,11 @@ module _ (head : HeadText) where
         sized = sized-by (member_count head) cluster.facts kind good.sized;
         facts = kept-by cluster.facts.members cluster.facts good.facts kind tidy;
         agents = λ m agent there.
-            let was = still-agents cluster.facts.keys cluster good.agents kind is m agent there in
-            (was.0, holds-on cluster.facts.keys _ m agent
-            (of-kept cluster.facts.members cluster.facts good.facts kind tidy) was.1);
+            let was = still-agents cluster.facts.keys cluster good.agents kind is m agent there in (
+              was.0,
+              holds-on cluster.facts.keys _ m agent
+                  (of-kept cluster.facts.members cluster.facts good.facts kind tidy) was.1,
+            );
       }
 
   pub still-over : (cluster : Cluster) (events : List Event) → AllAre IsStill events → IsOwned head cluster
