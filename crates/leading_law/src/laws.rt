@@ -29,7 +29,7 @@ ghost use Rattle.leading_law.specs.OwnInputs.{AnswersOnly, GoesOn, HasRoom, HasS
 ghost use Rattle.lease_store.specs.declared.granted.Granted.{Granted};
 ghost use Rattle.pat_base.specs.declared.member_id.MemberId.{MemberId};
 ghost use Rattle.pat_base.specs.declared.ticks.Ticks.{Ticks};
-ghost use Rattle.std.specs.Prelude.{List, None, Option, Some, false, nat_le, nat_lt, slice_get, true, ℕ, ◌&&◌, ◌==◌, ◌≡◌};
+ghost use Rattle.std.specs.Prelude.{List, None, Some, false, nat_le, slice_get, true, ℕ, ◌==◌, ◌≡◌};
 ghost use Rattle.store_keys.specs.declared.key.Key.{Key};
 ghost use Rattle.store_keys.specs.declared.txn.Expected.{Expected};
 ghost use Rattle.wal_model.specs.declared.entry.HistoryPoint.{HistoryPoint};

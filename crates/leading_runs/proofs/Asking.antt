@@ -1,11 +1,9 @@
 -- A leader's question comes to the key store in its turn: the answer is on its way.
-use Rattle.std.proofs.Common.{ℕ, ◌≡◌, ◌≢◌, ◌+◌, ◌≤◌, ◌<◌, max, true, List, [], ◌∷◌, Option, Some, None, option_and_then, option_map, slice_get, refl, sym, ap, subst, ◌∙◌, inl, inr, arith}
+use Rattle.std.proofs.Common.{ℕ, ◌≡◌, ◌≢◌, ◌+◌, ◌≤◌, ◌<◌, max, true, List, [], ◌∷◌, Option, Some, None, option_and_then, slice_get, refl, sym, ap, subst, ◌∙◌, inl, inr, arith}
 use Rattle.std.specs.FinMap.{find}
 use Rattle.std.specs.Prelude.{◌⊎◌}
 use Rattle.pat_base.specs.declared.lsn.Lsn.{Lsn}
 use Rattle.pat_base.specs.declared.member_set.MemberSet.{MemberSet}
-use Rattle.pat_base.specs.declared.server_state.State.TheVariants as states
-use Rattle.pat_base.specs.ServerState.{live}
 use Rattle.store_keys.specs.declared.key.Key.TheVariants as keys
 use Rattle.store_keys.specs.declared.txn.Txn.{Txn}
 use Rattle.store_keys.specs.declared.txn.Txn.TheVariants as txns
@@ -15,7 +13,6 @@ use Rattle.store_keys.specs.declared.value.MemberInfo.{MemberInfo}
 use Rattle.lease_store.specs.Answers.{present_pairs}
 use Rattle.lease_store.specs.Decision.{Decision, Grant, decision_on}
 use Rattle.lease_store.specs.KeyOrder.{key_cmp}
-use Rattle.pg_model.specs.Facts.{ServerFacts}
 use Rattle.script_model.specs.Script.{HeadText}
 use Rattle.event_book.specs.declared.event.Event.{Event}
 use Rattle.event_book.specs.declared.event.EventKind.{EventKind}
@@ -35,7 +32,6 @@ use Rattle.agent_model.specs.Agents.{AgentFacts}
 use Rattle.cluster_model.specs.Cluster.{cluster_after, cluster_over}
 use Rattle.cluster_model.specs.Messages.{answer_events, answer_message, arrival_events_at, decision_body}
 use Rattle.cluster_model.specs.State.{Cluster}
-use Rattle.lease_model.proofs.Tools.{none-some, some-is}
 use Rattle.lease_model.specs.Leases.{LeaderKey}
 use Rattle.lease_owners.specs.Kept.{IsOwned}
 use Rattle.run_promise.proofs.Members.{members-over}

@@ -1,5 +1,5 @@
 -- A steady leader stays so over each step of a run that leaves it alone, and so over the run.
-use Rattle.std.proofs.Common.{Bool, List, None, Option, Some, [], ap, arith, cond, false, inl, length, nat_le, not, refl, slice_get, subst, suc, sym, true, ℕ, ◌++◌, ◌==◌, ◌∙◌, ◌∷◌, ◌≡◌, ◌≤◌}
+use Rattle.std.proofs.Common.{Bool, List, None, Option, Some, [], ap, arith, cond, false, inl, length, nat_le, not, refl, slice_get, subst, suc, sym, true, ℕ, ◌==◌, ◌∙◌, ◌∷◌, ◌≡◌, ◌≤◌}
 use Rattle.agent_model.specs.Agents.{AgentFacts, Outcome, RoleFacts}
 use Rattle.agent_model.specs.declared.heard.Heard.TheVariants.{Wake}
 use Rattle.agent_model.specs.declared.knowledge.Knowledge.{Knowledge}

@@ -18,7 +18,6 @@ use Rattle.leader_key.specs.Watchdog.{is_armable, timeout_of}
 use Rattle.member_options.specs.Options.{margin_span}
 use Rattle.cluster_view.specs.Snapshots.{SnapshotFacts, settings_in}
 use Rattle.script_model.specs.Script.{HeadText}
-use Rattle.event_book.specs.declared.event.Event.{Event}
 use Rattle.event_book.specs.declared.event.EventKind.TheVariants as kinds
 use Rattle.event_book.specs.declared.event.MessageEvent.TheVariants.{Delivered}
 use Rattle.event_book.specs.declared.link.LinkEnd.TheVariants as ends

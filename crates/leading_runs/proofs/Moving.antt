@@ -1,5 +1,5 @@
 -- What a steady leader waits for comes: its turn goes on.
-use Rattle.std.proofs.Common.{Bool, List, Some, ap, arith, cond, false, length, not, refl, subst, suc, sym, true, ℕ, ◌&&◌, ◌++◌, ◌+◌, ◌<◌, ◌==◌, ◌||◌, ◌∙◌, ◌≡◌, ◌≤◌}
+use Rattle.std.proofs.Common.{Bool, List, Some, ap, arith, cond, false, length, not, refl, subst, suc, sym, true, ℕ, ◌&&◌, ◌+◌, ◌<◌, ◌==◌, ◌||◌, ◌∙◌, ◌≡◌, ◌≤◌}
 use Rattle.cluster_model.proofs.Places.{eq-self}
 use Rattle.cluster_model.specs.Cluster.{cluster_over}
 use Rattle.cluster_model.specs.Deliveries.{delivery_of, delivery_to, delivery_to_agent, is_answer, is_stale, link_of_message}

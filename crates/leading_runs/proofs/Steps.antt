@@ -1,5 +1,5 @@
 -- What happens elsewhere and beside a steady leader, and its own wake.
-use Rattle.std.proofs.Common.{Bool, List, None, Option, Some, [], ap, arith, cond, false, length, nat_le, refl, slice_get, subst, sym, true, ℕ, ◌&&◌, ◌++◌, ◌<◌, ◌||◌, ◌∙◌, ◌≡◌, ◌≢◌, ◌≤◌}
+use Rattle.std.proofs.Common.{Bool, List, None, Option, Some, [], ap, arith, cond, false, length, nat_le, refl, slice_get, subst, sym, true, ℕ, ◌&&◌, ◌<◌, ◌||◌, ◌∙◌, ◌≡◌, ◌≢◌, ◌≤◌}
 use Rattle.agent_model.specs.Agents.{AgentFacts, Leader, Outcome, RoleFacts}
 use Rattle.agent_model.specs.Wake.{finds_ended, has_turn, is_overdue}
 use Rattle.agent_model.specs.declared.heard.Heard.TheVariants.{Wake}

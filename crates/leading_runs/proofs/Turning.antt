@@ -12,7 +12,6 @@ use Rattle.lease_store.specs.KeyOrder.{key_cmp}
 use Rattle.cluster_view.specs.KeyValues.{failover_by}
 use Rattle.cluster_view.specs.Snapshots.{SnapshotFacts, value_by}
 use Rattle.script_model.specs.Script.{HeadText}
-use Rattle.event_book.specs.declared.event.Event.{Event}
 use Rattle.event_book.specs.declared.event.EventKind.TheVariants as kinds
 use Rattle.event_book.specs.declared.event.AgentEvent.TheVariants as agents
 use Rattle.event_book.specs.declared.event.MessageEvent.TheVariants.{Delivered}

@@ -8,7 +8,6 @@ use Rattle.cluster_model.specs.Parts.{each, for_some}
 use Rattle.cluster_model.specs.State.{Cluster}
 use Rattle.event_book.specs.Flight.{InFlightFacts}
 use Rattle.event_book.specs.declared.agent_process.AgentProcess.{AgentProcess}
-use Rattle.event_book.specs.declared.event.Event.{Event}
 use Rattle.event_book.specs.declared.member.Member.{Member}
 use Rattle.leading_runs.proofs.Stages.{Decides, Grants, IsDue, IsFlying, Mail, OlderMail, OnlyMail, Phase, Reads, Renews, Seen, Shows, Sleeps, Stage, Stands, Syncs, Turns, mail_rank, rank_of}
 use Rattle.leading_runs.proofs.Standing.{IsAlone}

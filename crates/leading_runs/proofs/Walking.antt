@@ -1,5 +1,5 @@
 -- A steady leader stays so over each part of a step, each round, each step and each run.
-use Rattle.std.proofs.Common.{ℕ, zero, suc, ◌≡◌, ◌≤◌, ◌++◌, Bool, true, false, cond, List, [], ◌∷◌, refl, sym, ap, subst, arith}
+use Rattle.std.proofs.Common.{ℕ, zero, suc, ◌≡◌, ◌≤◌, ◌++◌, Bool, true, false, cond, List, [], ◌∷◌, refl, sym, subst, arith}
 use Rattle.script_model.specs.Script.{HeadText}
 use Rattle.event_book.specs.declared.event.Event.{Event}
 use Rattle.event_book.specs.declared.member.Member.{Member}
@@ -9,7 +9,6 @@ use Rattle.cluster_model.specs.Next.{round_events, rounds_events}
 use Rattle.cluster_model.specs.Parts.{each, events_then, is_empty}
 use Rattle.cluster_model.specs.State.{Cluster}
 use Rattle.cluster_model.proofs.Lists.{all-both}
-use Rattle.lease_law.proofs.Runs.{assoc}
 use Rattle.lease_owners.specs.Kept.{IsOwned}
 use Rattle.run_promise.proofs.Upholding.{over-append}
 use Rattle.leading_parts.specs.Alone.{LeaveAlone}
