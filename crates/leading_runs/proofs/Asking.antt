@@ -40,7 +40,8 @@ use Rattle.leading_parts.specs.Alone.{LeaveAlone, LeavesAlone}
 use Rattle.lease_owners.specs.Asking.{AsksFor}
 use Rattle.leading_parts.specs.Holding.{GrantsNoOperator, HasKey, HasRoom, IsAnswered, IsDecidedOn, IsRenewal, LeavesAnswer, LeavesSettings, renewed_key}
 use Rattle.leading_parts.proofs.Answering.{arrival-left, decided-answered, read-room, request-room}
-use Rattle.leading_parts.proofs.Arrivals.{Behind, Later, reads-answered, renews-granted, stays-left}
+use Rattle.lease_owners.proofs.ToStore.{Behind, Later}
+use Rattle.leading_parts.proofs.Arrivals.{reads-answered, renews-granted, stays-left}
 use Rattle.leading_parts.proofs.Frames.{same-over}
 use Rattle.leading_parts.proofs.Others.{arrival-elsewhere}
 use Rattle.leading_parts.proofs.Settings.{failover-shown, settings-left, settings-shown}

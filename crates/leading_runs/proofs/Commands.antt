@@ -263,14 +263,11 @@ module _ (head : HeadText) (few : length (names_of head) ≤ MOST_MEMBERS) (memb
   tells (Asks id asked) = asks id asked
 
   -- ---- agents that start, promotions by hand, and the other commands
-  starts : (m : Member) → (cluster : Cluster) (id : MemberId) → declared cluster id ≡ Some m
-      → IsOwned head cluster → In 0 cluster → Leave head member cluster (agent_start_events cluster m)
-      → Goes head member (In 0) cluster (agent_start_events cluster m)
-  starts m cluster id found good within leave =
+  starts : (m : Member) → Kept (λ cluster. agent_start_events cluster m)
+  starts m cluster good within leave =
       let phase = within.1 in
       goes-beside head few member 0 cluster (agent_start_events cluster m) good within leave
-      (subst (λ (o : Option Member). IsKept head cluster (for_some o (agent_start_events cluster))) found
-      (started-owned head cluster (declared cluster id) good))
+      (started-owned head cluster (Some m) good)
       (starts-elsewhere N cluster m phase.seen.process phase.stands.process_is
       (and-first phase.seen.process.running (not phase.seen.process.suspended) phase.stands.acts))
       (λ last low. starts-beside N last cluster m)
@@ -285,7 +282,7 @@ module _ (head : HeadText) (few : length (names_of head) ≤ MOST_MEMBERS) (memb
       loses number (in_flight cluster.facts.flight number) cluster good within leave
   command (commands.StartAgent id) cluster good within leave =
       goes-for_some (declared cluster id) (agent_start_events cluster) cluster good within
-      (λ m is. starts m cluster id is good within) leave
+      (λ m is. starts m cluster good within) leave
   command (commands.Promote id) cluster good within leave =
       goes-for_some (declared cluster id) (promote_events cluster) cluster good within
       (λ m is left. goes-beside head few member 0 cluster (promote_events cluster m) good within left

@@ -5,7 +5,7 @@ use Rattle.agent_model.specs.Wake.{finds_ended, has_turn, is_overdue}
 use Rattle.agent_model.specs.declared.heard.Heard.TheVariants.{Wake}
 use Rattle.agent_model.specs.declared.knowledge.PendingQuestion.{PendingQuestion}
 use Rattle.agent_model.specs.declared.machine.Machine.{Machine}
-use Rattle.cluster_model.specs.Cluster.{cluster_after}
+use Rattle.cluster_model.specs.Cluster.{cluster_after, cluster_over}
 use Rattle.cluster_model.specs.Inputs.{has_work, is_to_wake, may_act, moment_of, outcome_of, standing_of, standing}
 use Rattle.cluster_model.specs.Machines.{machine_of}
 use Rattle.cluster_model.specs.Messages.{no_message, wake_events_if, wake_events_of}
