@@ -1,5 +1,5 @@
 -- What comes to the key store: it leaves the leader key, or renews it, and is answered.
-use Rattle.std.proofs.Common.{ℕ, ◌≡◌, ◌+◌, ◌<◌, nat_le, max, Bool, true, false, length, Option, Some, refl, ◌∙◌, ap, sym, subst, arith}
+use Rattle.std.proofs.Common.{ℕ, ◌≡◌, ◌+◌, ◌<◌, ◌++◌, nat_le, max, Bool, true, false, List, length, Option, Some, refl, ◌∙◌, ap, sym, subst, arith}
 use Rattle.std.proofs.lemmas.Bool.Decides.{nat_tests}
 use Rattle.std.specs.FinMap.{find}
 use Rattle.std.specs.Ordering.{nat_cmp}
@@ -22,16 +22,20 @@ use Rattle.lease_store.specs.Writes.{keys_after_grant}
 use Rattle.lease_store.proofs.Keeping.{find_present, kept_after}
 use Rattle.lease_store.proofs.OneKey.{find_leader_after, renewed as entry_renewed}
 use Rattle.script_model.specs.Script.{HeadText}
+use Rattle.event_book.specs.declared.event.Event.{Event}
+use Rattle.event_book.specs.declared.event.EventKind.TheVariants as kinds
+use Rattle.event_book.specs.declared.event.MessageEvent.TheVariants.{Delivered, Sent}
+use Rattle.event_book.specs.declared.link.LinkEnd.{LinkEnd}
 use Rattle.event_book.specs.declared.link.LinkEnd.TheVariants as ends
 use Rattle.event_book.specs.declared.member.Member.{Member}
 use Rattle.event_book.specs.declared.message.Body.{Body}
 use Rattle.event_book.specs.declared.message.Body.TheVariants as bodies
 use Rattle.event_book.specs.declared.message.Message.{Message}
 use Rattle.event_book.specs.Flight.{Flight, InFlightFacts, in_flight, launched, snapshot_for, without_message}
-use Rattle.cluster_model.specs.Cluster.{cluster_over}
+use Rattle.cluster_model.specs.Cluster.{cluster_after, cluster_over}
 use Rattle.cluster_model.specs.Limits.{most_in_flight}
-use Rattle.cluster_model.specs.Messages.{answer_message, arrival_events_at, decision_body, lost_at_once, send_events}
-use Rattle.cluster_model.specs.Parts.{events_of}
+use Rattle.cluster_model.specs.Messages.{answer_events, answer_message, arrival_events_at, decision_body, decision_events, decision_kind, lost_at_once, send_events}
+use Rattle.cluster_model.specs.Parts.{event_of, events_of}
 use Rattle.cluster_model.specs.State.{Cluster}
 use Rattle.lease_model.specs.Leases.{LeaderKey}
 use Rattle.lease_model.specs.Stores.{leader_key_of}

@@ -1,5 +1,5 @@
 -- Who asks for the renewal or the release of the leader key as it is now is its holder.
-use Rattle.std.proofs.Common.{ℕ, ◌≡◌, Some, refl, sym, subst}
+use Rattle.std.proofs.Common.{ℕ, ◌≡◌, List, Some, refl, ap, sym, subst}
 use Rattle.script_model.specs.Script.{HeadText}
 use Rattle.event_book.specs.declared.link.LinkEnd.{LinkEnd}
 use Rattle.event_book.specs.declared.link.LinkEnd.TheVariants as ends

@@ -1,25 +1,35 @@
 -- The leader key as an entry of the key store: it is present until its
 -- expiry, and only a release, a renewal or a create writes it.
-use Rattle.std.proofs.Common.{ℕ, ◌≡◌, ◌+◌, ◌<◌, ◌==◌, Bool, true, List, [], ◌∷◌, Option, Some, refl, ◌∙◌, ap, sym, subst, arith}
+use Rattle.std.proofs.Common.{ℕ, ◌≡◌, ◌+◌, ◌<◌, ◌==◌, nat_lt, Bool, true, false, cond, List, [], ◌∷◌, Option, Some, None, refl, ◌∙◌, ap, sym, subst, arith}
 use Rattle.std.proofs.lemmas.Bool.Decides.{nat_tests}
 use Rattle.std.specs.FinMap.{find}
+use Rattle.pat_base.specs.declared.member_id.MemberId.{MemberId}
+use Rattle.pat_base.specs.declared.ticks.Ticks.{Ticks}
 use Rattle.store_keys.specs.declared.key.Key.{Key}
 use Rattle.store_keys.specs.declared.key.Key.TheVariants as keys
 use Rattle.store_keys.specs.declared.txn.Txn.{Txn}
-use Rattle.store_keys.specs.declared.txn.Expected.TheVariants.{Revision}
+use Rattle.store_keys.specs.declared.txn.Txn.TheVariants as txns
+use Rattle.store_keys.specs.declared.txn.LeaseTxn.TheVariants as lease_txns
+use Rattle.store_keys.specs.declared.txn.Expected.{Expected}
+use Rattle.store_keys.specs.declared.txn.Expected.TheVariants.{Absent, Revision}
 use Rattle.store_keys.specs.declared.value.KeyEntry.{KeyEntry}
+use Rattle.store_keys.specs.declared.value.Value.{Value}
+use Rattle.store_keys.specs.declared.value.Value.TheVariants as values
 use Rattle.lease_store.specs.Answers.{present_pairs}
-use Rattle.lease_store.specs.Decision.{Grant, decision_by, decision_if, decision_on, compares_of, found_in, is_as_expected}
+use Rattle.lease_store.specs.Decision.{Decision, Grant, Refusal, decision_by, decision_if, decision_on, compares_of, found_in, is_as_expected}
 use Rattle.lease_store.specs.KeyOrder.{key_cmp}
 use Rattle.lease_store.specs.Keys.{Keys, key_in, present}
 use Rattle.lease_store.proofs.Keeping.{find_present}
+use Rattle.lease_store.proofs.OneKey.{leader_after}
 use Rattle.cluster_view.specs.Snapshots.{found_by, leader_by}
 use Rattle.script_model.specs.Script.{HeadText}
+use Rattle.event_book.specs.declared.event.Event.{Event}
 use Rattle.event_book.specs.declared.event.EventKind.TheVariants as kinds
 use Rattle.cluster_model.specs.Cluster.{cluster_after}
 use Rattle.cluster_model.specs.State.{Cluster}
 use Rattle.lease_model.specs.Leases.{LeaderKey}
-use Rattle.lease_model.specs.Stores.{leader_key_of}
+use Rattle.lease_model.specs.Stores.{leader_key_of, leader_value}
+use Rattle.lease_model.proofs.Tools.{eq-from, none-some, some-is}
 use Rattle.lease_owners.specs.Kept.{IsOwned}
 use Rattle.lease_owners.proofs.Entry.{IsEntryOf, entry-found, entry-of, entry-present}
 use Rattle.leading_parts.specs.Holding.{HasKey, LeavesKey, ShowsKey}

@@ -1,29 +1,45 @@
 -- Parts of a step at other members, and beside agents: they happen elsewhere, and leave the key store.
-use Rattle.std.proofs.Common.{ℕ, ◌≡◌, ◌≢◌, ◌+◌, ◌==◌, Bool, true, false, cond, [], ◌∷◌, Option, Some, None, option_map, slice_get, refl, sym, ap, subst, ◌∙◌}
+use Rattle.std.proofs.Common.{ℕ, ◌≡◌, ◌≢◌, ◌+◌, ◌==◌, Bool, true, false, cond, List, [], ◌∷◌, Option, Some, None, option_map, slice_get, refl, sym, ap, subst, ◌∙◌}
+use Rattle.pat_base.specs.declared.lsn.Lsn.{Lsn}
 use Rattle.pat_base.specs.declared.server_state.State.{State}
 use Rattle.pat_base.specs.declared.server_state.State.TheVariants as states
+use Rattle.pat_base.specs.declared.ticks.Ticks.{Ticks}
+use Rattle.pat_base.specs.ServerState.{live}
 use Rattle.wal_model.specs.declared.entry.Entry.{Entry}
-use Rattle.pg_cluster.specs.Servers.{entry_for}
-use Rattle.pg_model.specs.Facts.{ServerFacts, is_replica}
+use Rattle.wal_model.specs.Lacking.{lacks_in}
+use Rattle.pg_cluster.specs.Servers.{entry_for, news_at}
+use Rattle.pg_model.specs.declared.answers.Streamed.{Streamed}
+use Rattle.pg_model.specs.declared.answers.Streamed.TheVariants as streams
+use Rattle.pg_model.specs.Facts.{ServerFacts, entries_of, is_replica}
 use Rattle.script_model.specs.declared.line.Command.{Command}
 use Rattle.event_book.specs.declared.agent_process.AgentProcess.{AgentProcess}
 use Rattle.event_book.specs.declared.event.AgentEvent.TheVariants as agents
 use Rattle.event_book.specs.declared.event.EventKind.{EventKind}
 use Rattle.event_book.specs.declared.event.EventKind.TheVariants as kinds
+use Rattle.event_book.specs.declared.event.LogEvent.TheVariants as logs
 use Rattle.event_book.specs.declared.event.Note.TheVariants.{AlreadyRunning}
+use Rattle.event_book.specs.declared.event.ReplicationEvent.{ReplicationEvent}
+use Rattle.event_book.specs.declared.event.ReplicationEvent.TheVariants as replications
 use Rattle.event_book.specs.declared.event.ServerEvent.TheVariants as servers
+use Rattle.event_book.specs.declared.event.WatchdogEvent.TheVariants.{Disarmed}
 use Rattle.event_book.specs.declared.member.Member.{Member}
+use Rattle.event_book.specs.declared.member.ServerOf.{ServerOf}
 use Rattle.event_book.specs.Kinds.{AllAre}
 use Rattle.event_book.specs.Members.{server_of}
-use Rattle.cluster_model.specs.Commands.{disarm_of, kinds_of}
-use Rattle.cluster_model.specs.Losing.{beginning_kinds}
+use Rattle.agent_model.specs.declared.machine.Machine.{Machine}
+use Rattle.cluster_model.specs.Acknowledging.{acknowledge_kinds, acknowledgements, ready_commits}
+use Rattle.cluster_model.specs.Cluster.{cluster_after}
+use Rattle.cluster_model.specs.Commands.{agent_started, disarm_at_start, disarm_if, disarm_of, kinds_of}
+use Rattle.cluster_model.specs.Losing.{beginning_kinds, is_lacking, loss_if, loss_of, losses_of}
 use Rattle.cluster_model.specs.Machines.{machine_of}
-use Rattle.cluster_model.specs.Next.{acknowledge_events, agent_start_events, agent_start_events_of, command_kind, promote_events, receive_events_at_most}
+use Rattle.cluster_model.specs.Next.{acknowledge_events, agent_start_events, agent_start_events_of, command_kind, confirm_events, promote_events, receive_events, receive_events_at_most}
 use Rattle.cluster_model.specs.Parts.{events_of, for_some}
 use Rattle.cluster_model.specs.ServerCommands.{commit_of, promote_kinds}
 use Rattle.cluster_model.specs.State.{Cluster}
+use Rattle.cluster_model.specs.Streaming.{confirm_of, source_of, unconfirmed_end}
 use Rattle.cluster_model.proofs.Commanding.{HoldsOfCommands, command-holds, each-command-holds}
-use Rattle.cluster_model.proofs.Lists.{HoldsIf, all-kinds, one-kind}
+use Rattle.cluster_model.proofs.Founds.{holds-unless}
+use Rattle.cluster_model.proofs.Lists.{AllKinds, HoldsIf, all-kinds, kinds-both, one-kind}
 use Rattle.lease_model.proofs.Tools.{eq-from, ne-from, some-is}
 use Rattle.lease_owners.proofs.Parts.{HoldsOfStreams, acknowledges-hold, promotes-hold, receives-hold, starts-hold}
 use Rattle.leading_parts.specs.Alone.{LeaveAlone, LeavesAlone}

@@ -21,7 +21,7 @@ ghost use Rattle.pat_base.specs.declared.lsn.Lsn.{Lsn};
 ghost use Rattle.pat_base.specs.declared.member_set.MemberSet.{MemberSet};
 ghost use Rattle.pat_base.specs.declared.ticks.Ticks.{Ticks};
 ghost use Rattle.script_model.specs.Script.{HeadText};
-ghost use Rattle.std.specs.Prelude.{List, Option, Some, slice_get, ℕ, ◌+◌, ◌<◌, ◌≡◌, ◌≢◌};
+ghost use Rattle.std.specs.Prelude.{List, Option, Some, slice_get, true, ℕ, ◌+◌, ◌<◌, ◌≡◌, ◌≢◌};
 ghost use Rattle.store_keys.specs.declared.txn.LeaseTxn.TheVariants.{Renew};
 ghost use Rattle.store_keys.specs.declared.txn.Txn.TheVariants.{Lease};
 ghost use Rattle.store_keys.specs.declared.value.HistoryRow.{HistoryRow};

@@ -1,22 +1,26 @@
 -- What agents know of their runs, and hold of the leader key, over events at which none acts.
-use Rattle.std.proofs.Common.{ℕ, ◌≡◌, ◌==◌, Bool, true, false, cond, List, Option, Some, None, option_map, slice_get, refl, sym, ap, subst, ◌∙◌}
+use Rattle.std.proofs.Common.{ℕ, ◌≡◌, ◌==◌, Bool, true, false, cond, List, [], ◌∷◌, Option, Some, None, option_map, slice_get, refl, sym, ap, subst, ◌∙◌}
 use Rattle.pat_base.specs.Changes.{with_changed}
 use Rattle.lease_store.specs.Keys.{Keys}
 use Rattle.event_book.specs.declared.agent_process.AgentProcess.{AgentProcess}
 use Rattle.event_book.specs.declared.event.AgentEvent.TheVariants as agents
+use Rattle.event_book.specs.declared.event.Event.{Event}
 use Rattle.event_book.specs.declared.event.EventKind.{EventKind}
 use Rattle.event_book.specs.declared.event.EventKind.TheVariants as kinds
 use Rattle.event_book.specs.declared.event.MessageEvent.TheVariants as messages
 use Rattle.event_book.specs.declared.event.StoreEvent.TheVariants as stores
 use Rattle.event_book.specs.declared.event.WatchdogEvent.TheVariants as watchdogs
+use Rattle.event_book.specs.declared.member.Member.{Member}
+use Rattle.event_book.specs.Facts.{Facts, facts_after}
+use Rattle.event_book.specs.Kinds.{AllAre}
 use Rattle.event_book.specs.Processes.{ended_process, processes_after, running_in}
 use Rattle.agent_model.specs.declared.who.Who.{Who}
 use Rattle.agent_model.specs.Agents.{AgentFacts, EndsAlone}
-use Rattle.cluster_model.specs.Cluster.{agent_facts_after}
+use Rattle.cluster_model.specs.Cluster.{agent_facts_after, cluster_after, cluster_over}
 use Rattle.cluster_model.specs.Inputs.{starting_agent}
 use Rattle.cluster_model.specs.Machines.{who_of}
 use Rattle.cluster_model.specs.State.{Cluster}
-use Rattle.cluster_model.proofs.Places.{get-changed}
+use Rattle.cluster_model.proofs.Places.{eq-self, get-changed}
 use Rattle.lease_model.proofs.Tools.{eq-from, none-some, some-is}
 use Rattle.lease_owners.specs.Kept.{AgentsAreKept, KnowsItsRun}
 use Rattle.lease_owners.specs.Owning.{HoldsOwn, IsOf}

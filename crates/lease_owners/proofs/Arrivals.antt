@@ -1,5 +1,5 @@
 -- What comes to the key store is answered well: a lease that it grants is its asker's.
-use Rattle.std.proofs.Common.{ℕ, ◌≡◌, ◌≤◌, ◌<◌, ◌+◌, nat_le, Bool, true, false, List, [], ◌∷◌, length, slice_get, Option, Some, None, refl, sym, ap, subst, ◌∙◌, arith}
+use Rattle.std.proofs.Common.{ℕ, ◌≡◌, ◌≤◌, ◌<◌, ◌+◌, ◌++◌, nat_le, Bool, true, false, List, [], ◌∷◌, length, slice_get, Option, Some, None, refl, sym, ap, subst, ◌∙◌, arith}
 use Rattle.std.specs.FinMap.{find}
 use Rattle.pat_base.specs.declared.name.Name.{Name}
 use Rattle.store_keys.specs.declared.key.Key.TheVariants as keys
@@ -21,6 +21,7 @@ use Rattle.event_book.specs.declared.event.EventKind.{EventKind}
 use Rattle.event_book.specs.declared.event.EventKind.TheVariants as kinds
 use Rattle.event_book.specs.declared.event.MessageEvent.TheVariants.{Delivered, Lost, Sent}
 use Rattle.event_book.specs.declared.event.StoreEvent.TheVariants as stores
+use Rattle.event_book.specs.declared.link.LinkEnd.{LinkEnd}
 use Rattle.event_book.specs.declared.link.LinkEnd.TheVariants as ends
 use Rattle.event_book.specs.declared.member.Member.{Member}
 use Rattle.event_book.specs.declared.message.Body.{Body}
@@ -32,14 +33,15 @@ use Rattle.event_book.specs.Kinds.{AllAre}
 use Rattle.agent_model.specs.Agents.{AgentFacts}
 use Rattle.cluster_model.specs.Cluster.{agent_facts_reached, agent_facts_reached_at, cluster_after, cluster_over}
 use Rattle.cluster_model.specs.Limits.{most_in_flight}
-use Rattle.cluster_model.specs.Messages.{answer_events, answer_message, arrival_events_at, decision_events, lost_at_once, published_names, send_events}
-use Rattle.cluster_model.specs.Parts.{events_of}
+use Rattle.cluster_model.specs.Messages.{answer_events, answer_message, arrival_events_at, decision_body, decision_events, lost_at_once, published_names, send_events}
+use Rattle.cluster_model.specs.Parts.{event_of, events_of}
 use Rattle.cluster_model.specs.State.{Cluster}
 use Rattle.run_promise.specs.Members.{member_count}
+use Rattle.lease_model.specs.Carried.{IsVouched}
 use Rattle.lease_model.specs.Leases.{LeaderKey}
 use Rattle.lease_model.specs.Outcomes.{renewed}
 use Rattle.lease_model.specs.Past.{extended_by, past_after}
-use Rattle.lease_model.specs.Stores.{IsSpannedTxn}
+use Rattle.lease_model.specs.Stores.{IsSpannedTxn, leader_key_of}
 use Rattle.lease_model.proofs.Tools.{none-some, some-is}
 use Rattle.lease_law.proofs.SameStore.{same-by}
 use Rattle.lease_parts.specs.Machines.{IsSized}
@@ -50,7 +52,7 @@ use Rattle.lease_owners.specs.Kept.{AgentsAreKept, FactsAreKept, IsOwned, KnowsI
 use Rattle.lease_owners.specs.Owning.{IsOf}
 use Rattle.lease_owners.proofs.Agents.{holds-on}
 use Rattle.lease_owners.proofs.Entry.{entry-found, entry-of, entry-present, first-granted, same-revision}
-use Rattle.lease_owners.proofs.Flights.{AreTidy, SendsWell, kept-by, kept-over, of-over}
+use Rattle.lease_owners.proofs.Flights.{AreTidy, IsTidy, SendsWell, kept-by, kept-over, of-over}
 use Rattle.lease_owners.proofs.Revisions.{of-past, past-of}
 use Rattle.lease_owners.proofs.ToStore.{Decided, Later, Next, Question, to-store}
 

@@ -1,6 +1,7 @@
 -- What an input asks of the leader key it asks by a revision that its agent has.
-use Rattle.std.proofs.Common.{ℕ, ◌≡◌, ◌⊎◌, true, List, [], Some, None, All, refl, sym, ap, subst, ◌∙◌, inl, inr}
+use Rattle.std.proofs.Common.{ℕ, ◌≡◌, ◌⊎◌, ◌&&◌, Bool, true, List, [], Option, Some, None, All, refl, sym, ap, subst, ◌∙◌, inl, inr}
 use Rattle.std.proofs.lemmas.List.Elements.{All-nil, All-weaker}
+use Rattle.pat_base.specs.declared.member_id.MemberId.{MemberId}
 use Rattle.pat_base.specs.declared.ticks.Ticks.{Ticks}
 use Rattle.store_keys.specs.declared.txn.Txn.{Txn}
 use Rattle.store_keys.specs.declared.txn.Txn.TheVariants as txns
@@ -8,25 +9,28 @@ use Rattle.store_keys.specs.declared.txn.LeaseTxn.TheVariants as lease_txns
 use Rattle.lease_store.specs.declared.granted.Granted.{Granted}
 use Rattle.cluster_view.specs.Snapshots.{SnapshotFacts}
 use Rattle.wal_model.specs.declared.entry.HistoryPoint.{HistoryPoint}
+use Rattle.lease_model.specs.Leases.{LeaderSeen}
 use Rattle.lease_model.proofs.Tools.{some-is}
 use Rattle.event_book.specs.declared.message.Body.{Body}
 use Rattle.event_book.specs.declared.message.Body.TheVariants as bodies
 use Rattle.agent_model.specs.declared.heard.Heard.{Heard}
 use Rattle.agent_model.specs.declared.heard.Heard.TheVariants.{Wake, ReadAnswered, Granted as HeardGranted, Mismatch, Asked, Answered, FailsafeAsked, FailsafeAnswered, Operated as HearsOperator}
 use Rattle.agent_model.specs.declared.knowledge.Knowledge.{Knowledge}
+use Rattle.agent_model.specs.declared.knowledge.PendingQuestion.{PendingQuestion}
 use Rattle.agent_model.specs.declared.machine.Machine.{Machine}
 use Rattle.agent_model.specs.declared.output.Output.{Output}
 use Rattle.agent_model.specs.declared.output.Output.TheVariants as outputs
 use Rattle.agent_model.specs.declared.output.Outgoing.TheVariants as outgoing
 use Rattle.agent_model.specs.declared.output.Target.TheVariants as targets
 use Rattle.agent_model.specs.declared.who.Who.{Who}
-use Rattle.agent_model.specs.Agents.{EndsAlone, Outcome, RoleFacts, outcome_from}
+use Rattle.agent_model.specs.Agents.{EndsAlone, Outcome, Ready, RoleFacts, outcome_from}
 use Rattle.agent_model.specs.Decisions.{is_lease_of}
 use Rattle.agent_model.specs.Reconciling.{reconciled}
 use Rattle.agent_model.specs.Table.{granted_any, step}
 use Rattle.agent_model.specs.Wake.{woken}
-use Rattle.agent_roles.specs.Powers.{GrantMay, IsAwaitedLease, lease_of}
+use Rattle.agent_roles.specs.Powers.{BringsNothing, GrantMay, IsAwaitedLease, lease_of}
 use Rattle.agent_roles.specs.Powers.GrantMay.{Nothing, Leads, Keeps, Rests, Begins}
+use Rattle.agent_roles.specs.Seen.{leader_seen_if}
 use Rattle.agent_roles.proofs.Bringing.{answered-brings, asked-brings, before-brings, failsafe-answered-brings, failsafe-asked-brings, operated-brings, read-brings, refusal-brings, wake-brings}
 use Rattle.agent_roles.proofs.Fitting.{before-fits}
 use Rattle.agent_roles.proofs.GoingOn.{IsAlone, alone-of}

@@ -1,17 +1,24 @@
 -- Each part of a step keeps it, and so does each run.
-use Rattle.std.proofs.Common.{ℕ, ◌≡◌, ◌≤◌, ◌+◌, List, [], length, slice_get, Option, Some, None, refl, sym, ap, subst, ◌∙◌}
+use Rattle.std.proofs.Common.{ℕ, ◌≡◌, ◌≤◌, ◌+◌, ◌++◌, Bool, true, false, List, [], ◌∷◌, length, map, slice_get, Option, Some, None, option_map, refl, sym, ap, subst, ◌∙◌}
+use Rattle.std.specs.Prelude.{replicate}
+use Rattle.std.proofs.lemmas.List.{length-replicate}
+use Rattle.pat_base.specs.declared.member_id.MemberId.{MemberId}
 use Rattle.pat_base.specs.declared.member_id.TheConstants.{MOST_MEMBERS}
+use Rattle.pat_base.specs.declared.ticks.Ticks.{Ticks}
 use Rattle.store_keys.specs.declared.action.OperatorAction.{OperatorAction}
 use Rattle.wal_model.specs.declared.entry.Entry.{Entry}
 use Rattle.pg_cluster.specs.Servers.{entry_for}
 use Rattle.script_model.specs.declared.line.Command.{Command}
 use Rattle.script_model.specs.Script.{HeadText, IsHead, names_of}
+use Rattle.event_book.specs.declared.agent_process.AgentProcess.{AgentProcess}
 use Rattle.event_book.specs.declared.event.AgentEvent.TheVariants as agents
 use Rattle.event_book.specs.declared.event.Event.{Event}
 use Rattle.event_book.specs.declared.event.EventKind.{EventKind}
 use Rattle.event_book.specs.declared.event.EventKind.TheVariants as kinds
 use Rattle.event_book.specs.declared.event.MessageEvent.TheVariants as messages
+use Rattle.event_book.specs.declared.event.ServerEvent.TheVariants as servers
 use Rattle.event_book.specs.declared.event.StoreEvent.TheVariants as stores
+use Rattle.event_book.specs.declared.event.WatchdogEvent.TheVariants as watchdogs
 use Rattle.event_book.specs.declared.event.Note.{Note}
 use Rattle.event_book.specs.declared.link.LinkEnd.TheVariants as ends
 use Rattle.event_book.specs.declared.member.Member.{Member}
@@ -19,11 +26,12 @@ use Rattle.event_book.specs.Flight.{InFlightFacts, in_flight}
 use Rattle.event_book.specs.Kinds.{AllAre}
 use Rattle.agent_model.specs.declared.heard.Heard.{Heard}
 use Rattle.agent_model.specs.declared.heard.Heard.TheVariants as heards
+use Rattle.agent_model.specs.Agents.{AgentFacts, Outcome}
 use Rattle.cluster_model.specs.declared.step.Step.{Step}
 use Rattle.cluster_model.specs.Cluster.{agent_facts_reached, agent_facts_reached_at, agent_facts_with, cluster_after, cluster_over}
 use Rattle.cluster_model.specs.Commands.{kinds_of}
 use Rattle.cluster_model.specs.Hearing.{heard_from}
-use Rattle.cluster_model.specs.Inputs.{outcome_of_heard}
+use Rattle.cluster_model.specs.Inputs.{outcome_of, outcome_of_heard}
 use Rattle.cluster_model.specs.Messages.{arrival_events_at, hear_events, heard_message, input_events, no_message, operate_events, wake_events_of}
 use Rattle.cluster_model.specs.Next.{acknowledge_events, agent_start_events, command_kind, declared, promote_events, receive_events_at_most, run_events}
 use Rattle.cluster_model.specs.Parts.{event_of, events_of, for_some}
@@ -34,11 +42,13 @@ use Rattle.cluster_model.specs.State.{Cluster}
 use Rattle.cluster_model.specs.Ticking.{tick_events}
 use Rattle.cluster_model.proofs.Commanding.{command-holds, each-command-holds}
 use Rattle.cluster_model.proofs.Lists.{all-kinds, all-more, one-kind}
-use Rattle.run_promise.specs.Members.{IsDeclared}
+use Rattle.run_promise.specs.Members.{IsDeclared, declared_members}
 use Rattle.run_promise.specs.Parts.{InputsUphold, PartsUphold}
 use Rattle.run_promise.specs.Promise.{IsComposable, Upholds}
 use Rattle.run_promise.proofs.Members.{declared-in, few-names, numbered}
 use Rattle.run_promise.proofs.Walking.{upholds-run}
+use Rattle.lease_model.proofs.Tools.{some-is}
+use Rattle.lease_parts.specs.Asides.{IsAsideIn}
 use Rattle.lease_parts.specs.Waiting.{IsKnownEnd}
 use Rattle.lease_parts.proofs.Ticks.{IsBeside, Rest, rest-beside}
 use Rattle.lease_inputs.proofs.EveryInput.{unchanged}

@@ -21,7 +21,7 @@ use Rattle.lease_model.specs.Past.{first_past}
 use Rattle.lease_model.proofs.Tools.{none-some, some-is}
 use Rattle.run_promise.specs.Members.{declared_members, member_count}
 use Rattle.run_promise.proofs.Members.{numbered}
-use Rattle.lease_owners.specs.Kept.{IsOwned, KnowsItsRun}
+use Rattle.lease_owners.specs.Kept.{AgentsAreKept, IsOwned, KnowsItsRun}
 use Rattle.lease_owners.specs.Owning.{HoldsOwn}
 use Rattle.lease_owners.proofs.Agents.{fresh-holds}
 

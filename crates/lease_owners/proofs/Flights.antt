@@ -1,12 +1,13 @@
 -- Events that send only what is well, and grant only spanned leases, keep the key store and the messages in flight.
-use Rattle.std.proofs.Common.{ℕ, ◌≡◌, ◌≤◌, ◌<◌, true, List, [], ◌∷◌, Option, Some, refl, sym, ap, subst, ◌∙◌, arith}
+use Rattle.std.proofs.Common.{ℕ, ◌≡◌, ◌≤◌, ◌<◌, true, List, [], ◌∷◌, Option, Some, None, refl, sym, ap, subst, ◌∙◌, arith}
 use Rattle.std.specs.FinMap.{find}
+use Rattle.store_keys.specs.declared.key.Key.{Key}
 use Rattle.store_keys.specs.declared.key.Key.TheVariants as keys
 use Rattle.store_keys.specs.declared.value.KeyEntry.{KeyEntry}
 use Rattle.lease_store.specs.declared.granted.Granted.{Granted}
 use Rattle.lease_store.specs.Answers.{present_pairs}
 use Rattle.lease_store.specs.KeyOrder.{key_cmp}
-use Rattle.lease_store.specs.Keys.{Keys}
+use Rattle.lease_store.specs.Keys.{Keys, present}
 use Rattle.lease_store.proofs.Keeping.{find_present}
 use Rattle.cluster_view.specs.Snapshots.{found_by, leader_by}
 use Rattle.event_book.specs.declared.event.Event.{Event}
@@ -20,13 +21,14 @@ use Rattle.event_book.specs.declared.message.Body.{Body}
 use Rattle.event_book.specs.declared.message.Body.TheVariants as bodies
 use Rattle.event_book.specs.declared.message.Message.{Message}
 use Rattle.event_book.specs.Facts.{Facts, facts_after}
-use Rattle.event_book.specs.Flight.{InFlightFacts, grant_for, in_flight, launched, snapshot_for}
+use Rattle.event_book.specs.Flight.{Flight, InFlightFacts, grant_for, in_flight, launched, sent_after, snapshot_for}
 use Rattle.agent_roles.specs.Seen.{leader_entry_seen}
 use Rattle.cluster_model.specs.Cluster.{cluster_after, cluster_over}
 use Rattle.cluster_model.specs.State.{Cluster}
 use Rattle.lease_book.specs.Flights.{Rises}
 use Rattle.lease_book.proofs.Entries.{in-with, in-without, rises-with, rises-without}
 use Rattle.lease_law.proofs.SameStore.{same-by}
+use Rattle.lease_model.specs.Carried.{IsVouched}
 use Rattle.lease_model.specs.Leases.{LeaderKey, LeaderSeen}
 use Rattle.lease_model.specs.Past.{past_after}
 use Rattle.lease_model.specs.Stores.{IsSpanned, IsSpannedTxn, leader_key_of}

@@ -11,7 +11,7 @@ use Rattle.event_book.specs.declared.event.AgentEvent.TheVariants as agents
 use Rattle.event_book.specs.declared.event.Event.{Event}
 use Rattle.event_book.specs.declared.event.EventKind.{EventKind}
 use Rattle.event_book.specs.declared.event.EventKind.TheVariants as kinds
-use Rattle.event_book.specs.declared.event.MessageEvent.TheVariants.{Delivered, Sent}
+use Rattle.event_book.specs.declared.event.MessageEvent.TheVariants.{Delivered, Lost, Sent}
 use Rattle.event_book.specs.declared.link.LinkEnd.{LinkEnd}
 use Rattle.event_book.specs.declared.link.LinkEnd.TheVariants as ends
 use Rattle.event_book.specs.declared.member.Member.{Member}
@@ -42,7 +42,7 @@ use Rattle.cluster_model.specs.declared.heard_message.HeardMessage.{HeardMessage
 use Rattle.cluster_model.specs.Cluster.{agent_after, agent_facts_with, cluster_after, cluster_over}
 use Rattle.cluster_model.specs.Inputs.{agent_at, moment_of, outcome_at, outcome_of}
 use Rattle.cluster_model.specs.Machines.{machine_of, points_of}
-use Rattle.cluster_model.specs.Messages.{input_events, output_events}
+use Rattle.cluster_model.specs.Messages.{agent_message, input_events, output_events}
 use Rattle.cluster_model.specs.Parts.{each, event_of}
 use Rattle.cluster_model.specs.State.{Cluster}
 use Rattle.cluster_model.proofs.Places.{get-changed}
@@ -60,7 +60,7 @@ use Rattle.lease_inputs.proofs.InputOutputs.{GoesBetween, each-between, each-num
 use Rattle.lease_inputs.proofs.InputStays.{Stays, each-mine, stays-over}
 use Rattle.lease_owners.specs.Asking.{AsksFor, AsksOwn, Gives, HasRevision}
 use Rattle.lease_owners.specs.Asking.HasRevision.{Given, Held, Read}
-use Rattle.lease_owners.specs.Kept.{IsOwned, KnowsItsRun}
+use Rattle.lease_owners.specs.Kept.{AgentsAreKept, IsOwned, KnowsItsRun}
 use Rattle.lease_owners.specs.Owning.{HoldsOwn, IsOf}
 use Rattle.lease_owners.proofs.Agents.{holds-on}
 use Rattle.lease_owners.proofs.Arrivals.{owned-over}

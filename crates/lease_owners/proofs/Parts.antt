@@ -1,13 +1,17 @@
 -- What holds of all events of a part of a step: of streams, acknowledgements, promotions and starts of agents.
-use Rattle.std.proofs.Common.{ℕ, ◌+◌, Bool, true, false, cond, List, [], ◌∷◌, Option, Some, None, slice_get}
+use Rattle.std.proofs.Common.{ℕ, ◌≡◌, ◌≢◌, ◌+◌, ◌==◌, Bool, true, false, cond, List, [], ◌∷◌, Option, Some, None, option_map, slice_get, refl, sym, ap, subst, ◌∙◌}
 use Rattle.pat_base.specs.declared.lsn.Lsn.{Lsn}
+use Rattle.pat_base.specs.declared.server_state.State.{State}
+use Rattle.pat_base.specs.declared.server_state.State.TheVariants as states
 use Rattle.pat_base.specs.declared.ticks.Ticks.{Ticks}
 use Rattle.pat_base.specs.ServerState.{live}
+use Rattle.wal_model.specs.declared.entry.Entry.{Entry}
 use Rattle.wal_model.specs.Lacking.{lacks_in}
-use Rattle.pg_cluster.specs.Servers.{news_at}
+use Rattle.pg_cluster.specs.Servers.{entry_for, news_at}
 use Rattle.pg_model.specs.declared.answers.Streamed.{Streamed}
 use Rattle.pg_model.specs.declared.answers.Streamed.TheVariants as streams
 use Rattle.pg_model.specs.Facts.{ServerFacts, entries_of, is_replica}
+use Rattle.script_model.specs.declared.line.Command.{Command}
 use Rattle.event_book.specs.declared.agent_process.AgentProcess.{AgentProcess}
 use Rattle.event_book.specs.declared.event.AgentEvent.TheVariants as agents
 use Rattle.event_book.specs.declared.event.EventKind.{EventKind}
@@ -28,13 +32,15 @@ use Rattle.cluster_model.specs.Cluster.{cluster_after}
 use Rattle.cluster_model.specs.Commands.{agent_started, disarm_at_start, disarm_if, disarm_of, kinds_of}
 use Rattle.cluster_model.specs.Losing.{beginning_kinds, is_lacking, loss_if, loss_of, losses_of}
 use Rattle.cluster_model.specs.Machines.{machine_of}
-use Rattle.cluster_model.specs.Next.{acknowledge_events, agent_start_events, agent_start_events_of, confirm_events, promote_events, receive_events, receive_events_at_most}
+use Rattle.cluster_model.specs.Next.{acknowledge_events, agent_start_events, agent_start_events_of, command_kind, confirm_events, promote_events, receive_events, receive_events_at_most}
 use Rattle.cluster_model.specs.Parts.{events_of, for_some}
-use Rattle.cluster_model.specs.ServerCommands.{promote_kinds}
+use Rattle.cluster_model.specs.ServerCommands.{commit_of, promote_kinds}
 use Rattle.cluster_model.specs.State.{Cluster}
 use Rattle.cluster_model.specs.Streaming.{confirm_of, source_of, unconfirmed_end}
+use Rattle.cluster_model.proofs.Commanding.{HoldsOfCommands, command-holds, each-command-holds}
 use Rattle.cluster_model.proofs.Founds.{holds-unless}
 use Rattle.cluster_model.proofs.Lists.{AllKinds, HoldsIf, all-kinds, kinds-both, one-kind}
+use Rattle.lease_model.proofs.Tools.{eq-from, ne-from, some-is}
 
 -- ---- what holds of the events of streams
 pub record HoldsOfStreams (P : EventKind → Type 0) : Type 0 where

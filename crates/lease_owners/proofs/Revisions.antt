@@ -1,9 +1,11 @@
 -- The revisions of the leader key over each event: those that were given stay whose they are.
-use Rattle.std.proofs.Common.{ℕ, ◌≡◌, ◌⊎◌, ◌≤◌, ◌<◌, ◌+◌, nat_le, Bool, true, false, Option, Some, None, sym, ap, subst, inl, inr, arith}
+use Rattle.std.proofs.Common.{ℕ, ◌≡◌, ◌⊎◌, ◌≤◌, ◌<◌, ◌+◌, nat_le, Bool, true, false, Option, Some, None, refl, sym, ap, subst, ◌∙◌, inl, inr, arith}
+use Rattle.std.specs.FinMap.{find}
 use Rattle.store_keys.specs.declared.key.Key.TheVariants as keys
 use Rattle.store_keys.specs.declared.txn.Txn.{Txn}
 use Rattle.store_keys.specs.declared.txn.Txn.TheVariants as txns
 use Rattle.store_keys.specs.declared.txn.LeaseTxn.TheVariants as lease_txns
+use Rattle.lease_store.specs.KeyOrder.{key_cmp}
 use Rattle.event_book.specs.declared.event.EventKind.{EventKind}
 use Rattle.event_book.specs.declared.event.EventKind.TheVariants as kinds
 use Rattle.event_book.specs.declared.event.StoreEvent.TheVariants as stores
@@ -13,7 +15,7 @@ use Rattle.lease_model.specs.Leases.{LeaderKey}
 use Rattle.lease_model.specs.Past.{Past, extended_by, leader_granted, past_after, query_of}
 use Rattle.lease_model.specs.States.{kept_if, leader_kept}
 use Rattle.lease_model.specs.Outcomes.{renewed}
-use Rattle.lease_model.specs.Stores.{IsSameStore, IsSpanned}
+use Rattle.lease_model.specs.Stores.{IsSameStore, IsSpanned, leader_key_of}
 use Rattle.lease_model.proofs.Tools.{none-some, some-is}
 use Rattle.lease_law.proofs.SameStore.{same-by}
 use Rattle.lease_owners.specs.Owning.{IsOf}

@@ -1,6 +1,7 @@
 -- Events at which nobody acts keep what a run keeps.
-use Rattle.std.proofs.Common.{List, [], ◌∷◌}
+use Rattle.std.proofs.Common.{ℕ, ◌≡◌, List, [], ◌∷◌, Some}
 use Rattle.script_model.specs.Script.{HeadText}
+use Rattle.event_book.specs.declared.event.AgentEvent.TheVariants as agents
 use Rattle.event_book.specs.declared.event.Event.{Event}
 use Rattle.event_book.specs.declared.event.EventKind.{EventKind}
 use Rattle.event_book.specs.declared.event.EventKind.TheVariants as kinds
@@ -13,7 +14,7 @@ use Rattle.cluster_model.specs.Cluster.{cluster_after, cluster_over}
 use Rattle.cluster_model.specs.State.{Cluster}
 use Rattle.run_promise.specs.Members.{member_count}
 use Rattle.lease_parts.proofs.Machines.{sized-by}
-use Rattle.lease_owners.specs.Kept.{IsOwned}
+use Rattle.lease_owners.specs.Kept.{AgentsAreKept, IsOwned}
 use Rattle.lease_owners.proofs.Agents.{IsStill, holds-on, still-agents}
 use Rattle.lease_owners.proofs.Flights.{IsTidy, kept-by, of-kept}
 
