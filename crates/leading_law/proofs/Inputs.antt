@@ -10,7 +10,6 @@ use Rattle.cluster_view.specs.declared.snapshot.LeaderEntry.{LeaderEntry}
 use Rattle.cluster_view.specs.Snapshots.{SnapshotFacts, leader_in, settings_in}
 use Rattle.event_book.specs.declared.agent_process.AgentProcess.{AgentProcess}
 use Rattle.event_book.specs.declared.event.AgentEvent.TheVariants as agents
-use Rattle.event_book.specs.declared.event.Event.{Event}
 use Rattle.event_book.specs.declared.event.EventKind.TheVariants as kinds
 use Rattle.event_book.specs.declared.event.MessageEvent.TheVariants.{Delivered}
 use Rattle.event_book.specs.declared.link.LinkEnd.{LinkEnd}
@@ -30,8 +29,6 @@ use Rattle.agent_model.specs.Decisions.{is_write_of}
 use Rattle.agent_model.specs.Operators.{awaits_number}
 use Rattle.store_keys.specs.declared.key.Key.{Key}
 use Rattle.store_keys.specs.declared.txn.Expected.{Expected}
-use Rattle.script_model.specs.Script.{HeadText}
-use Rattle.lease_parts.specs.Bridged.{Bridged}
 use Rattle.agent_model.specs.declared.machine.Machine.{Machine}
 use Rattle.agent_model.specs.declared.output.Output.{Output}
 use Rattle.agent_model.specs.declared.output.Output.TheVariants as outputs
@@ -61,7 +58,7 @@ use Rattle.leading_law.specs.Leading.{AnswersAlone, AnswersNumber, AwaitsNoPeer,
 use Rattle.leading_law.proofs.Turns.{answers-asked, begins, refuses, renewed, renews, sleeps, waits}
 use Rattle.leading_law.proofs.Dropping.{drops, drops-peer, synced, unsynced}
 use Rattle.leading_law.proofs.Outputs.{Required_at, required-same, FedAt, IsFed, fed-at, over-fed, untouched-then, sent-untouched, one-behind, answering}
-use Rattle.leading_law.specs.OwnInputs.{AnswersOnly, GoesOn, HasRoom, HasSettled, LeadsOnAt, Rests, SendsOne, SleepsOn, StandsSo, Syncs, TakesTurn}
+use Rattle.leading_law.specs.OwnInputs.{AnswersOnly, GoesOn, HasRoom, HasSettled, LeadsOnAt, NumbersRise, Rests, SendsOne, SleepsOn, StandsSo, Syncs, TakesTurn}
 use Rattle.leading_law.proofs.Sending.{Next, Over, asks-store, over-one, over-with, sends-one, told-then}
 
 -- ---- an agent that stands has done nothing yet
@@ -520,9 +517,9 @@ module _ (member : Member) (cluster : Cluster) (process : AgentProcess) (o : Out
       answers-heard (heards.FailsafeAsked from incarnation sequence ttl) says
       (refuses (moment_of cluster) (points_of cluster member) from incarnation sequence ttl o leads)
 
--- ---- in a cluster that is bridged
-module _ (head : HeadText) (book : List Event) (member : Member) (cluster : Cluster) (process : AgentProcess)
-    (o : Outcome) (number : ℕ) (carried : InFlightFacts) (good : Bridged head book cluster)
+-- ---- in a cluster whose messages are numbered
+module _ (member : Member) (cluster : Cluster) (process : AgentProcess)
+    (o : Outcome) (number : ℕ) (carried : InFlightFacts) (numbers : NumbersRise cluster)
     (found : slice_get cluster.facts.processes member.id.number ≡ Some process)
     (stands : standing_of cluster member ≡ Some o) (leads : IsLeading o)
     (flies : in_flight cluster.facts.flight number ≡ Some carried) (to : carried.message.to ≡ ends.Member member) where
@@ -530,25 +527,25 @@ module _ (head : HeadText) (book : List Event) (member : Member) (cluster : Clus
   Came = cluster_after cluster (kinds.Message (Delivered number))
 
   came-rises : Rises 0 Came.facts.flight
-  came-rises = rises-without 0 cluster.facts.flight number good.matched.flight.order
+  came-rises = rises-without 0 cluster.facts.flight number numbers.order
 
   too-many : (n : ℕ) → n + 1 ≤ n → ⊥
   too-many n e = omega (arith, e)
 
   came-fresh : (one : InFlightFacts) → in_flight Came.facts.flight (cluster.facts.sent + 1) ≡ Some one → ⊥
   came-fresh one is =
-      too-many cluster.facts.sent (good.matched.flight.flown (cluster.facts.sent + 1) one
+      too-many cluster.facts.sent (numbers.flown (cluster.facts.sent + 1) one
       (dropped (in_flight cluster.facts.flight) number (cluster.facts.sent + 1) one
-      (sym (in-without 0 cluster.facts.flight number (cluster.facts.sent + 1) good.matched.flight.order) ∙ is)))
+      (sym (in-without 0 cluster.facts.flight number (cluster.facts.sent + 1) numbers.order) ∙ is)))
 
-  pub bridged-ask : (from : MemberId) (incarnation sequence : ℕ)
+  pub numbered-ask : (from : MemberId) (incarnation sequence : ℕ)
       → heard_from cluster carried ≡ Some (heards.Asked from incarnation sequence)
       → AnswersOnly member o Came (cluster_over cluster (hear_events cluster number carried member))
-  bridged-ask from incarnation sequence says = answers-ask member cluster process o number carried found
+  numbered-ask from incarnation sequence says = answers-ask member cluster process o number carried found
       stands leads flies to from incarnation sequence says came-rises came-fresh
 
-  pub bridged-failsafe : (from : MemberId) (incarnation sequence : ℕ) (ttl : Ticks)
+  pub numbered-failsafe : (from : MemberId) (incarnation sequence : ℕ) (ttl : Ticks)
       → heard_from cluster carried ≡ Some (heards.FailsafeAsked from incarnation sequence ttl)
       → AnswersOnly member o Came (cluster_over cluster (hear_events cluster number carried member))
-  bridged-failsafe from incarnation sequence ttl says = refuses-failsafe member cluster process o number
+  numbered-failsafe from incarnation sequence ttl says = refuses-failsafe member cluster process o number
       carried found stands leads flies to from incarnation sequence ttl says came-rises came-fresh

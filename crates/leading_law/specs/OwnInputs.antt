@@ -1,6 +1,6 @@
 -- What an input of a leader leaves in the cluster: its agent, its
 -- question in flight, its watchdog, and all else as it was.
-use Rattle.std.specs.Prelude.{ℕ, ◌≡◌, ◌≢◌, ◌+◌, ◌<◌, Option, Some, None, length, option_map, slice_get}
+use Rattle.std.specs.Prelude.{ℕ, ◌≡◌, ◌≢◌, ◌+◌, ◌≤◌, ◌<◌, Option, Some, None, length, option_map, slice_get}
 use Rattle.pat_base.specs.declared.ticks.Ticks.{Ticks}
 use Rattle.store_keys.specs.declared.config.Config.{Config}
 use Rattle.store_keys.specs.declared.txn.Txn.{Txn}
@@ -24,11 +24,18 @@ use Rattle.cluster_model.specs.Inputs.{agent_at, moment_of}
 use Rattle.cluster_model.specs.Limits.{most_in_flight}
 use Rattle.cluster_model.specs.Messages.{agent_message}
 use Rattle.cluster_model.specs.State.{Cluster}
+use Rattle.lease_book.specs.Flights.{Rises}
 use Rattle.leading_law.specs.Leading.{AsksRenewal, BeginsTurn, HasSynced, IsRenewed, WritesSync}
 
 -- fewer messages are in flight than may be
 abbrev pub HasRoom : Cluster → Type 0
 HasRoom cluster = length cluster.facts.flight < most_in_flight
+
+-- the numbers of messages in flight rise, up to that of the last
+pub record NumbersRise (cluster : Cluster) : Type 0 where
+  pub order : Rises 0 cluster.facts.flight
+  pub flown : (i : ℕ) (carried : InFlightFacts) → in_flight cluster.facts.flight i ≡ Some carried
+      → i ≤ cluster.facts.sent
 
 -- the key store, the members, the member's process and its hold are as
 -- before, and its server is in the same state, at the same moment

@@ -21,18 +21,15 @@ ghost use Rattle.cluster_view.specs.Snapshots.{SnapshotFacts, leader_in, setting
 ghost use Rattle.cluster_view.specs.declared.snapshot.LeaderEntry.{LeaderEntry};
 ghost use Rattle.event_book.specs.Flight.{InFlightFacts, in_flight};
 ghost use Rattle.event_book.specs.declared.agent_process.AgentProcess.{AgentProcess};
-ghost use Rattle.event_book.specs.declared.event.Event.{Event};
 ghost use Rattle.event_book.specs.declared.event.EventKind.TheVariants.{Message};
 ghost use Rattle.event_book.specs.declared.event.MessageEvent.TheVariants.{Delivered};
 ghost use Rattle.event_book.specs.declared.member.Member.{Member};
 ghost use Rattle.leading_law.specs.Leading.{AnswersAlone, AnswersNumber, AwaitsNoPeer, IsPeerAnswer, AsksRenewal, BeginsTurn, HasSynced, IsLeading, IsRenewed};
-ghost use Rattle.leading_law.specs.OwnInputs.{AnswersOnly, GoesOn, HasRoom, HasSettled, LeadsOnAt, SleepsOn, TakesTurn};
-ghost use Rattle.lease_parts.specs.Bridged.{Bridged};
+ghost use Rattle.leading_law.specs.OwnInputs.{AnswersOnly, GoesOn, HasRoom, HasSettled, LeadsOnAt, NumbersRise, SleepsOn, TakesTurn};
 ghost use Rattle.lease_store.specs.declared.granted.Granted.{Granted};
 ghost use Rattle.pat_base.specs.declared.member_id.MemberId.{MemberId};
 ghost use Rattle.pat_base.specs.declared.ticks.Ticks.{Ticks};
-ghost use Rattle.script_model.specs.Script.{HeadText};
-ghost use Rattle.std.specs.Prelude.{List, None, Option, Some, false, nat_le, nat_lt, slice_get, true, ℕ, ◌&&◌, ◌==◌, ◌≡◌};
+ghost use Rattle.std.specs.Prelude.{List, None, Some, false, nat_le, slice_get, true, ℕ, ◌==◌, ◌≡◌};
 ghost use Rattle.store_keys.specs.declared.key.Key.{Key};
 ghost use Rattle.store_keys.specs.declared.txn.Expected.{Expected};
 ghost use Rattle.wal_model.specs.declared.entry.HistoryPoint.{HistoryPoint};
@@ -101,11 +98,11 @@ pub fn a_leaders_inputs_in_the_cluster()
         → (waited : PendingQuestion) (settling : Settling) (key : Key) (there : Expected) → heard_from cluster carried ≡ Some (heard.Mismatch waited.sequence key there) → o.knows.operating ≡ None → o.knows.waited ≡ Some waited
         → waited.question ≡ Syncing settling → HasSettled member o.knows.settings o (cluster_after cluster (Message (Delivered number))) (cluster_over cluster (hear_events cluster number carried member)) }
     // Whatever other members ask, it answers alone.
-    ensures answers { (head : HeadText) (book : List Event) (member : Member) (cluster : Cluster) (process : AgentProcess) (o : Outcome) (number : ℕ) (carried : InFlightFacts) → Bridged head book cluster → slice_get cluster.facts.processes member.id.number ≡ Some process → standing_of cluster member ≡ Some o → IsLeading o
+    ensures answers { (member : Member) (cluster : Cluster) (process : AgentProcess) (o : Outcome) (number : ℕ) (carried : InFlightFacts) → NumbersRise cluster → slice_get cluster.facts.processes member.id.number ≡ Some process → standing_of cluster member ≡ Some o → IsLeading o
         → in_flight cluster.facts.flight number ≡ Some carried → carried.message.to ≡ ends.Member member
         → (from : MemberId) (incarnation sequence : ℕ) → heard_from cluster carried ≡ Some (heard.Asked from incarnation sequence)
         → AnswersOnly member o (cluster_after cluster (Message (Delivered number))) (cluster_over cluster (hear_events cluster number carried member)) }
-    ensures refuses { (head : HeadText) (book : List Event) (member : Member) (cluster : Cluster) (process : AgentProcess) (o : Outcome) (number : ℕ) (carried : InFlightFacts) → Bridged head book cluster → slice_get cluster.facts.processes member.id.number ≡ Some process → standing_of cluster member ≡ Some o → IsLeading o
+    ensures refuses { (member : Member) (cluster : Cluster) (process : AgentProcess) (o : Outcome) (number : ℕ) (carried : InFlightFacts) → NumbersRise cluster → slice_get cluster.facts.processes member.id.number ≡ Some process → standing_of cluster member ≡ Some o → IsLeading o
         → in_flight cluster.facts.flight number ≡ Some carried → carried.message.to ≡ ends.Member member
         → (from : MemberId) (incarnation sequence : ℕ) (ttl : Ticks) → heard_from cluster carried ≡ Some (heard.FailsafeAsked from incarnation sequence ttl)
         → AnswersOnly member o (cluster_after cluster (Message (Delivered number))) (cluster_over cluster (hear_events cluster number carried member)) }

@@ -19,10 +19,11 @@ use Rattle.cluster_model.specs.State.{Cluster}
 use Rattle.lease_model.proofs.Tools.{gt-from, none-some, put-all, put-here, put-there, some-is}
 use Rattle.lease_book.specs.Flights.{Rises}
 use Rattle.lease_book.proofs.Entries.{in-with, in-without, rises-with, rises-without}
-use Rattle.lease_parts.specs.Bridged.{Bridged}
+use Rattle.lease_owners.specs.Kept.{IsOwned}
 use Rattle.leading_parts.specs.Alone.{IsWithStore, LeaveAlone}
 use Rattle.leading_parts.specs.Holding.{HasRoom, IsDecidedOn, LeavesAnswer}
-use Rattle.leading_parts.proofs.Arrivals.{Answering, Behind, Decided, Later, Next, Question, sent-whole, to-store}
+use Rattle.leading_parts.proofs.Arrivals.{sent-whole}
+use Rattle.lease_owners.proofs.ToStore.{Answering, Behind, Decided, Later, Next, Question, to-store}
 
 -- ---- events that leave a member alone, one after another
 pub alone-front : (n : ℕ) (cluster : Cluster) (xs ys : List Event) → LeaveAlone n cluster (xs ++ ys)
@@ -177,20 +178,20 @@ module _ (cluster : Cluster) (number : ℕ) (order : Rises 0 cluster.facts.fligh
       answer-left cluster (Decided cluster number by txn (Refusal key there)) number question
       (decision_body number txn (Refusal key there)) order refl refl refl
 
-pub arrival-left : (head : HeadText) (book : List Event) (cluster : Cluster) (number : ℕ) (carried : InFlightFacts)
-    → Bridged head book cluster → in_flight cluster.facts.flight number ≡ Some carried → carried.message.to ≡ ends.Store
+pub arrival-left : (head : HeadText) (cluster : Cluster) (number : ℕ) (carried : InFlightFacts)
+    → IsOwned head cluster → in_flight cluster.facts.flight number ≡ Some carried → carried.message.to ≡ ends.Store
     → LeavesAnswer carried.message number cluster
     (cluster_over cluster (arrival_events_at cluster number carried ends.Store))
-arrival-left head book cluster number carried good found to =
-    let order = good.matched.flight.order in
+arrival-left head cluster number carried good found to =
+    let order = good.facts.order in
     to-store (λ m. LeavesAnswer m number cluster (Behind cluster number m))
     (λ by incarnation sequence.
     answer-left cluster (Later cluster number) number (Question by incarnation sequence bodies.Read) bodies.Snapshot
     order refl refl refl)
-    (λ by incarnation sequence txn.
+    (λ by incarnation sequence txn addressed.
     decided-left cluster number order by (Question by incarnation sequence (bodies.Request txn)) txn
     (decision_on cluster.facts.keys cluster.facts.clock txn))
-    carried.message to (good.matched.waiting.carried number carried found).addressed
+    carried.message to (good.facts.sent number carried found).0.addressed
 
 -- ---- the member's own question
 module _ (by : Member) (incarnation sequence number : ℕ) (cluster : Cluster) where

@@ -42,12 +42,13 @@ use Rattle.lease_model.specs.Stores.{leader_key_of}
 use Rattle.lease_model.proofs.Tools.{dropped, put-all, put-here, some-is}
 use Rattle.lease_book.specs.Flights.{Rises}
 use Rattle.lease_book.proofs.Entries.{in-with, in-without, rises-with, rises-without}
-use Rattle.lease_parts.specs.Bridged.{Bridged}
-use Rattle.lease_parts.specs.Machines.{live_in}
-use Rattle.lease_parts.specs.Waiting.{IsAddressed}
-use Rattle.leading_parts.specs.Holding.{AsksReleaseOf, AsksRenewalOf, HasKey, HasRoom, IsAnswered, IsMemberOf, IsRenewal, LeavesKey, NoneRenews, ShowsKey, renewed_key}
-use Rattle.leading_parts.proofs.Askers.{asks-release, asks-renewal, request-of, vouched-by}
-use Rattle.leading_parts.proofs.Entry.{AsksOf, IsEntryOf, entry-there, granted-leaves, is-found, is-shown, not-expired, renewal-granted, shown-in}
+use Rattle.lease_owners.specs.Kept.{IsOwned}
+use Rattle.lease_owners.specs.Asking.{AsksFor}
+use Rattle.lease_owners.proofs.Entry.{IsEntryOf, granted-leaves}
+use Rattle.lease_owners.proofs.ToStore.{Answering, Behind, Decided, Later, Next, Question, to-store}
+use Rattle.leading_parts.specs.Holding.{HasKey, HasRoom, IsAnswered, IsMemberOf, IsRenewal, LeavesKey, NoneAsks, ShowsKey, renewed_key}
+use Rattle.leading_parts.proofs.Askers.{asker-of, asks-own}
+use Rattle.leading_parts.proofs.Entry.{entry-there, is-found, is-shown, not-expired, renewal-granted, shown-in}
 
 -- ---- a message that is sent
 abbrev Lost : Cluster → Bool → ℕ → Cluster
@@ -56,9 +57,6 @@ Lost cluster test number = cluster_over cluster (events_of cluster (lost_at_once
 lost-keys : (cluster : Cluster) (test : Bool) (number : ℕ) → (Lost cluster test number).facts.keys ≡ cluster.facts.keys
 lost-keys cluster true number = refl
 lost-keys cluster false number = refl
-
-abbrev pub Next : Cluster → Message → Cluster
-Next cluster message = cluster_after cluster (kinds.Message (Sent (cluster.facts.sent + 1) message))
 
 abbrev Full : Cluster → Bool
 Full cluster = nat_le most_in_flight (length cluster.facts.flight)
@@ -91,30 +89,30 @@ sent-answer cluster question body key room shows =
       grant = refl;
     })
 
--- ---- no renewal is added
+-- ---- nothing is asked more
 none-with : (revision : ℕ) (flight : Flight) (number : ℕ) (carried : InFlightFacts)
-    → (AsksRenewalOf revision carried.message.body → ⊥) → NoneRenews revision flight
-    → NoneRenews revision (insert_entry nat_cmp flight number carried)
+    → (AsksFor revision carried.message.body → ⊥) → NoneAsks revision flight
+    → NoneAsks revision (insert_entry nat_cmp flight number carried)
 none-with revision flight number carried other none i one is =
     put-all (in_flight flight) number (Some carried)
-    (λ n o. (c : InFlightFacts) → o ≡ Some c → AsksRenewalOf revision c.message.body → ⊥)
+    (λ n o. (c : InFlightFacts) → o ≡ Some c → AsksFor revision c.message.body → ⊥)
     (λ c same asks.
-    other (subst (λ (x : InFlightFacts). AsksRenewalOf revision x.message.body) (sym (some-is carried c same)) asks))
+    other (subst (λ (x : InFlightFacts). AsksFor revision x.message.body) (sym (some-is carried c same)) asks))
     (λ n apart c found. none n c found) i one (sym (in-with flight number carried i) ∙ is)
 
-none-without : (revision : ℕ) (flight : Flight) (number : ℕ) → Rises 0 flight → NoneRenews revision flight
-    → NoneRenews revision (without_message flight number)
+none-without : (revision : ℕ) (flight : Flight) (number : ℕ) → Rises 0 flight → NoneAsks revision flight
+    → NoneAsks revision (without_message flight number)
 none-without revision flight number rises none i one is =
     none i one (dropped (in_flight flight) number i one (sym (in-without 0 flight number i rises) ∙ is))
 
 none-lost : (revision : ℕ) (cluster : Cluster) (test : Bool) (number : ℕ) → Rises 0 cluster.facts.flight
-    → NoneRenews revision cluster.facts.flight → NoneRenews revision (Lost cluster test number).facts.flight
+    → NoneAsks revision cluster.facts.flight → NoneAsks revision (Lost cluster test number).facts.flight
 none-lost revision cluster true number rises none = none-without revision cluster.facts.flight number rises none
 none-lost revision cluster false number rises none = none
 
-none-sent : (revision : ℕ) (cluster : Cluster) (message : Message) → (AsksRenewalOf revision message.body → ⊥)
-    → Rises 0 cluster.facts.flight → NoneRenews revision cluster.facts.flight
-    → NoneRenews revision (cluster_over cluster (send_events cluster message)).facts.flight
+none-sent : (revision : ℕ) (cluster : Cluster) (message : Message) → (AsksFor revision message.body → ⊥)
+    → Rises 0 cluster.facts.flight → NoneAsks revision cluster.facts.flight
+    → NoneAsks revision (cluster_over cluster (send_events cluster message)).facts.flight
 none-sent revision cluster message other rises none =
     let number : ℕ = cluster.facts.sent + 1 in
     let carried : InFlightFacts = launched cluster.facts.clock cluster.facts.keys message in
@@ -122,119 +120,48 @@ none-sent revision cluster message other rises none =
     (rises-with 0 cluster.facts.flight number carried (omega arith) rises)
     (none-with revision cluster.facts.flight number carried other none)
 
--- ---- a message that comes to the key store
-abbrev pub Later : Cluster → ℕ → Cluster
-Later cluster number = cluster_after cluster (kinds.Message (Delivered number))
-
-abbrev pub Behind : Cluster → ℕ → Message → Cluster
-Behind cluster number message = cluster_over cluster
-    (event_of cluster (kinds.Message (Delivered number)) ++ answer_events (Later cluster number) number message)
-
-abbrev pub Question : Member → ℕ → ℕ → Body → Message
-Question by incarnation sequence body =
-    record { from = ends.Member by; to = ends.Store; incarnation = incarnation; sequence = sequence; body = body }
-
--- behind its decision
-abbrev pub Decided : Cluster → ℕ → Member → Txn → Decision → Cluster
-Decided cluster number by txn decision =
-    cluster_after (Later cluster number) (decision_kind cluster.facts.members number by txn decision)
-
-abbrev pub Answering : Cluster → ℕ → Message → Member → Txn → Decision → Cluster
-Answering cluster number message by txn decision = cluster_over (Later cluster number)
-    (decision_events (Later cluster number) number message txn decision (ends.Member by))
-
--- it is a read or a request of a member
-module _ (P : Message → Type 0)
-    (reads : (by : Member) (incarnation sequence : ℕ) → P (Question by incarnation sequence bodies.Read))
-    (requests : (by : Member) (incarnation sequence : ℕ) (txn : Txn) →
-    P (Question by incarnation sequence (bodies.Request txn))) where
-  store-by : (from : LinkEnd) (incarnation sequence : ℕ) (body : Body) → IsAddressed from ends.Store body
-      → P (record { from = from; to = ends.Store; incarnation = incarnation; sequence = sequence; body = body })
-  store-by ends.Store incarnation sequence body addressed = absurd addressed
-  store-by (ends.Member by) incarnation sequence bodies.Read addressed = reads by incarnation sequence
-  store-by (ends.Member by) incarnation sequence (bodies.Request txn) addressed = requests by incarnation sequence txn
-  store-by (ends.Member by) incarnation sequence _ addressed = absurd addressed
-
-  pub to-store : (m : Message) → m.to ≡ ends.Store → IsAddressed m.from m.to m.body → P m
-  to-store m to addressed =
-      subst P (sym (ap (λ (end : LinkEnd). let one : Message = record {
-        from = m.from;
-        to = end;
-        incarnation = m.incarnation;
-        sequence = m.sequence;
-        body = m.body;
-      } in one) to))
-      (store-by m.from m.incarnation m.sequence m.body
-      (subst (λ (end : LinkEnd). IsAddressed m.from end m.body) to addressed))
-
 abbrev Leader : Cluster → Option KeyEntry
 Leader cluster = find key_cmp keys.Leader cluster.facts.keys.pairs
 
-module _ (head : HeadText) (book : List Event) (cluster : Cluster) (key : LeaderKey) (number : ℕ)
-    (carried : InFlightFacts) (good : Bridged head book cluster) (has : HasKey key cluster)
+module _ (head : HeadText) (cluster : Cluster) (key : LeaderKey) (number : ℕ)
+    (carried : InFlightFacts) (good : IsOwned head cluster) (has : HasKey key cluster)
     (found : in_flight cluster.facts.flight number ≡ Some carried) where
   decided-leaves : (by : Member) (message : Message) (txn : Txn) (decision : Decision)
-      → decision_on cluster.facts.keys cluster.facts.clock txn ≡ decision → (AsksOf key.revision txn → ⊥)
+      → decision_on cluster.facts.keys cluster.facts.clock txn ≡ decision
+      → (AsksFor key.revision (bodies.Request txn) → ⊥)
       → LeavesKey cluster (Answering cluster number message by txn decision)
   decided-leaves by message txn Grant decides other =
       ap (λ (k : Keys). find key_cmp keys.Leader k.pairs)
       (sent-keys (Decided cluster number by txn Grant) (answer_message message (decision_body number txn Grant)))
       ∙ find_leader_after cluster.facts.keys cluster.facts.clock by.id txn
       ∙ granted-leaves cluster.facts.keys cluster.facts.clock key
-      (is-found head book cluster key good has) by.id txn (Leader cluster) decides other
+      (is-found head cluster key good has) by.id txn (Leader cluster) decides other
   decided-leaves by message txn (Refusal first there) decides other =
       ap (λ (k : Keys). find key_cmp keys.Leader k.pairs)
       (sent-keys (Decided cluster number by txn (Refusal first there))
       (answer_message message (decision_body number txn (Refusal first there))))
 
   -- who asks neither for the renewal of the key nor for its release leaves it
-  quiet-leaves : carried.message.to ≡ ends.Store
-      → ((txn : Txn) → carried.message.body ≡ bodies.Request txn → AsksOf key.revision txn → ⊥)
+  pub stays-left : carried.message.to ≡ ends.Store → (AsksFor key.revision carried.message.body → ⊥)
       → LeavesKey cluster (Behind cluster number carried.message)
-  quiet-leaves to other =
-      to-store (λ m. ((txn : Txn) → m.body ≡ bodies.Request txn → AsksOf key.revision txn → ⊥) →
-      LeavesKey cluster (Behind cluster number m))
+  stays-left to other =
+      to-store (λ m. (AsksFor key.revision m.body → ⊥) → LeavesKey cluster (Behind cluster number m))
       (λ by incarnation sequence none. ap (λ (k : Keys). find key_cmp keys.Leader k.pairs)
       (sent-keys (Later cluster number)
       (answer_message (Question by incarnation sequence bodies.Read) bodies.Snapshot)))
-      (λ by incarnation sequence txn none. decided-leaves by (Question by incarnation sequence (bodies.Request txn)) txn
-      (decision_on cluster.facts.keys cluster.facts.clock txn) refl (none txn refl))
-      carried.message to (good.matched.waiting.carried number carried found).addressed other
-
-  -- its renewal is out of the question, and while its holder's server is live nobody releases it
-  asks-neither : (txn : Txn) → carried.message.body ≡ bodies.Request txn
-      → live_in cluster.facts.servers key.holder ≡ true
-      → (AsksRenewalOf key.revision carried.message.body → ⊥) → AsksOf key.revision txn → ⊥
-  asks-neither (txns.Lease (lease_txns.Renew compared info ttl status row failsafe)) says live other asks =
-      other (subst (AsksRenewalOf key.revision) (sym says) asks)
-  asks-neither (txns.Lease (lease_txns.Release compared)) says live other asks =
-      (asks-release head book cluster key number carried good has found
-      (subst (λ (b : Body). AsksReleaseOf key.revision b) (sym says) asks)).1
-      live
-  asks-neither _ says live other asks = absurd asks
-
-  pub stays-left : carried.message.to ≡ ends.Store → live_in cluster.facts.servers key.holder ≡ true
-      → (AsksRenewalOf key.revision carried.message.body → ⊥)
-      → LeavesKey cluster (Behind cluster number carried.message)
-  stays-left to live other = quiet-leaves to (λ txn says. asks-neither txn says live other)
-
-  others-neither : (txn : Txn) → carried.message.body ≡ bodies.Request txn
-      → (IsMemberOf key.holder carried.message.from → ⊥) → AsksOf key.revision txn → ⊥
-  others-neither (txns.Lease (lease_txns.Renew compared info ttl status row failsafe)) says other asks =
-      other (asks-renewal head book cluster key number carried good has found
-      (subst (AsksRenewalOf key.revision) (sym says) asks))
-  others-neither (txns.Lease (lease_txns.Release compared)) says other asks =
-      other (asks-release head book cluster key number carried good has found
-      (subst (λ (b : Body). AsksReleaseOf key.revision b) (sym says) asks)).0
-  others-neither _ says other asks = absurd asks
+      (λ by incarnation sequence txn addressed none.
+      decided-leaves by (Question by incarnation sequence (bodies.Request txn)) txn
+      (decision_on cluster.facts.keys cluster.facts.clock txn) refl none)
+      carried.message to (good.facts.sent number carried found).0.addressed other
 
   pub others-leave : carried.message.to ≡ ends.Store → (IsMemberOf key.holder carried.message.from → ⊥)
       → LeavesKey cluster (Behind cluster number carried.message)
-  others-leave to other = quiet-leaves to (λ txn says. others-neither txn says other)
+  others-leave to other =
+      stays-left to (λ asks. other (asks-own head cluster good number carried found key has asks))
 
--- ---- no renewal is brought
+-- ---- nothing is asked
 answer-none : (revision number : ℕ) (txn : Txn) (decision : Decision)
-    → AsksRenewalOf revision (decision_body number txn decision) → ⊥
+    → AsksFor revision (decision_body number txn decision) → ⊥
 answer-none revision number txn Grant asks = asks
 answer-none revision number txn (Refusal key there) asks = asks
 
@@ -244,45 +171,45 @@ decided-rises cluster number by txn Grant rises = rises-without 0 cluster.facts.
 decided-rises cluster number by txn (Refusal key there) rises = rises-without 0 cluster.facts.flight number rises
 
 decided-none : (revision : ℕ) (cluster : Cluster) (number : ℕ) (by : Member) (txn : Txn) (decision : Decision)
-    → Rises 0 cluster.facts.flight → NoneRenews revision cluster.facts.flight
-    → NoneRenews revision (Decided cluster number by txn decision).facts.flight
+    → Rises 0 cluster.facts.flight → NoneAsks revision cluster.facts.flight
+    → NoneAsks revision (Decided cluster number by txn decision).facts.flight
 decided-none revision cluster number by txn Grant rises none =
     none-without revision cluster.facts.flight number rises none
 decided-none revision cluster number by txn (Refusal key there) rises none =
     none-without revision cluster.facts.flight number rises none
 
 answering-none : (revision : ℕ) (cluster : Cluster) (number : ℕ) (message : Message) (by : Member) (txn : Txn)
-    (decision : Decision) → Rises 0 cluster.facts.flight → NoneRenews revision cluster.facts.flight
-    → NoneRenews revision (Answering cluster number message by txn decision).facts.flight
+    (decision : Decision) → Rises 0 cluster.facts.flight → NoneAsks revision cluster.facts.flight
+    → NoneAsks revision (Answering cluster number message by txn decision).facts.flight
 answering-none revision cluster number message by txn decision rises none =
     none-sent revision (Decided cluster number by txn decision)
     (answer_message message (decision_body number txn decision)) (answer-none revision number txn decision)
     (decided-rises cluster number by txn decision rises)
     (decided-none revision cluster number by txn decision rises none)
 
-pub brought-none : (head : HeadText) (book : List Event) (cluster : Cluster) (revision number : ℕ)
-    (carried : InFlightFacts) → Bridged head book cluster
+pub brought-none : (head : HeadText) (cluster : Cluster) (revision number : ℕ)
+    (carried : InFlightFacts) → IsOwned head cluster
     → in_flight cluster.facts.flight number ≡ Some carried → carried.message.to ≡ ends.Store
-    → NoneRenews revision cluster.facts.flight
-    → NoneRenews revision (cluster_over cluster (arrival_events_at cluster number carried ends.Store)).facts.flight
-brought-none head book cluster revision number carried good found to none =
-    let rises = good.matched.flight.order in
-    to-store (λ m. NoneRenews revision (Behind cluster number m).facts.flight)
+    → NoneAsks revision cluster.facts.flight
+    → NoneAsks revision (cluster_over cluster (arrival_events_at cluster number carried ends.Store)).facts.flight
+brought-none head cluster revision number carried good found to none =
+    let rises = good.facts.order in
+    to-store (λ m. NoneAsks revision (Behind cluster number m).facts.flight)
     (λ by incarnation sequence. none-sent revision (Later cluster number)
     (answer_message (Question by incarnation sequence bodies.Read) bodies.Snapshot) (λ asks. asks)
     (rises-without 0 cluster.facts.flight number rises) (none-without revision cluster.facts.flight number rises none))
-    (λ by incarnation sequence txn.
+    (λ by incarnation sequence txn addressed.
     answering-none revision cluster number (Question by incarnation sequence (bodies.Request txn)) by txn
     (decision_on cluster.facts.keys cluster.facts.clock txn) rises none)
-    carried.message to (good.matched.waiting.carried number carried found).addressed
+    carried.message to (good.facts.sent number carried found).0.addressed
 
 -- ---- the holder is answered in place
 not-full : (most count : ℕ) → count < most → nat_le most count ≡ false
 not-full most count less = grind (arith, nat_tests, less)
 
-module _ (head : HeadText) (book : List Event) (cluster : Cluster) (key : LeaderKey) (number : ℕ)
+module _ (head : HeadText) (cluster : Cluster) (key : LeaderKey) (number : ℕ)
     (carried : InFlightFacts) where
-  pub reads-answered : Bridged head book cluster → HasKey key cluster
+  pub reads-answered : IsOwned head cluster → HasKey key cluster
       → in_flight cluster.facts.flight number ≡ Some carried → carried.message.to ≡ ends.Store
       → carried.message.body ≡ bodies.Read → HasRoom cluster number
       → IsAnswered carried.message bodies.Snapshot key (cluster.facts.sent + 1)
@@ -291,9 +218,9 @@ module _ (head : HeadText) (book : List Event) (cluster : Cluster) (key : Leader
       to-store (λ m. m.body ≡ bodies.Read →
       IsAnswered m bodies.Snapshot key (cluster.facts.sent + 1) (Behind cluster number m))
       (λ by incarnation sequence same. sent-answer (Later cluster number) (Question by incarnation sequence bodies.Read)
-      bodies.Snapshot key (not-full most_in_flight _ room) (is-shown head book cluster key good has))
-      (λ by incarnation sequence txn same. absurd (apart txn same))
-      carried.message to (good.matched.waiting.carried number carried found).addressed says
+      bodies.Snapshot key (not-full most_in_flight _ room) (is-shown head cluster key good has))
+      (λ by incarnation sequence txn addressed same. absurd (apart txn same))
+      carried.message to (good.facts.sent number carried found).0.addressed says
     where
       apart : (txn : Txn) → bodies.Request txn ≡ bodies.Read → ⊥
       apart txn e = cc
@@ -310,35 +237,20 @@ entry-extended now revision ttl key found entry =
     record { holder = key.holder; revision = revision; expiry = max e (now + ttl) } in Some one)
     entry.until
 
-module _ (head : HeadText) (book : List Event) (cluster : Cluster) (good : Bridged head book cluster) where
-  -- nobody asks for the renewal of a revision that isn't given yet
-  fresh-none : NoneRenews (cluster.facts.keys.revision + 1) cluster.facts.flight
-  fresh-none i one found asks = unasked one.message.body refl asks
-    where
-      above : (by : Member) (incarnation sequence : ℕ) (txn : Txn)
-          → one.message ≡ Question by incarnation sequence (bodies.Request txn)
-          → AsksOf (cluster.facts.keys.revision + 1) txn → ⊥
-      above by incarnation sequence txn is asked =
-          let bound =
-          (vouched-by head book cluster good i one by incarnation sequence txn
-          (cluster.facts.keys.revision + 1) found is asked).bound in
-          absurd (omega (arith, bound, good.matched.store.revision))
+module _ (head : HeadText) (cluster : Cluster) (good : IsOwned head cluster) where
+  -- nobody asks for a revision that isn't given yet
+  fresh-none : NoneAsks (cluster.facts.keys.revision + 1) cluster.facts.flight
+  fresh-none i one found asks =
+      let bound = (asker-of head cluster good i one found (cluster.facts.keys.revision + 1) asks).own.bound in
+      absurd (omega (arith, bound))
 
-      unasked : (body : Body) → one.message.body ≡ body → AsksRenewalOf (cluster.facts.keys.revision + 1) body → ⊥
-      unasked (bodies.Request (txns.Lease (lease_txns.Renew compared info ttl status row failsafe))) says asked =
-          let txn : Txn = txns.Lease (lease_txns.Renew compared info ttl status row failsafe) in
-          let request = request-of head book cluster good i one txn found says in
-          above request.by one.message.incarnation one.message.sequence txn request.is asked
-      unasked (bodies.Request _) says asked = absurd asked
-      unasked _ says asked = absurd asked
-
-module _ (head : HeadText) (book : List Event) (cluster : Cluster) (key : LeaderKey) (number : ℕ)
+module _ (head : HeadText) (cluster : Cluster) (key : LeaderKey) (number : ℕ)
     (carried : InFlightFacts) (info : MemberInfo) (ttl : Ticks) (status : Option Lsn)
     (row : Option HistoryRow) (failsafe : Option MemberSet) where
   abbrev Renewal : Txn
   Renewal = txns.Lease (lease_txns.Renew key.revision info ttl status row failsafe)
 
-  renewed-by : Bridged head book cluster → HasKey key cluster → (by : Member) (incarnation sequence : ℕ)
+  renewed-by : IsOwned head cluster → HasKey key cluster → (by : Member) (incarnation sequence : ℕ)
       → HasRoom cluster number
       → IsRenewal (Question by incarnation sequence (bodies.Request Renewal)) number ttl.0 key cluster
       (Answering cluster number (Question by incarnation sequence (bodies.Request Renewal)) by Renewal Grant)
@@ -349,10 +261,10 @@ module _ (head : HeadText) (book : List Event) (cluster : Cluster) (key : Leader
       let same = sent-keys decided answer in
       let next : ℕ = cluster.facts.keys.revision + 1 in
       let stored : Keys = keys_after_grant cluster.facts.keys cluster.facts.clock by.id Renewal in
-      let kept = kept_after next cluster.facts.clock by.id Renewal cluster.facts.keys.pairs good.matched.store.kept in
+      let kept = kept_after next cluster.facts.clock by.id Renewal cluster.facts.keys.pairs good.facts.store.kept in
       let there = ap leader_key_of (find_leader_after cluster.facts.keys cluster.facts.clock by.id Renewal)
       ∙ entry-extended cluster.facts.clock next ttl.0 key (Leader cluster)
-      (entry-there head book cluster key good has) in
+      (entry-there head cluster key good has) in
       record {
         has = ap (λ (k : Keys). leader_key_of (find key_cmp keys.Leader k.pairs)) same ∙ there;
         granted = ap (λ (k : Keys). k.revision) same;
@@ -360,9 +272,9 @@ module _ (head : HeadText) (book : List Event) (cluster : Cluster) (key : Leader
             (not-full most_in_flight _ room)
             (shown-in cluster.facts.clock (renewed_key cluster key ttl.0) stored
             (find_present cluster.facts.clock keys.Leader stored.pairs kept.order) there
-            (omega (arith, not-expired head book cluster key good has)));
-        alone = answering-none next cluster number question by Renewal Grant good.matched.flight.order
-            (fresh-none head book cluster good);
+            (omega (arith, not-expired head cluster key good has)));
+        alone = answering-none next cluster number question by Renewal Grant good.facts.order
+            (fresh-none head cluster good);
       }
 
   decided-renewal : (by : Member) (message : Message) (decision : Decision) → decision ≡ Grant
@@ -372,7 +284,7 @@ module _ (head : HeadText) (book : List Event) (cluster : Cluster) (key : Leader
       (λ (d : Decision). IsRenewal message number ttl.0 key cluster (Answering cluster number message by Renewal d))
       (sym is) renewal
 
-  pub renews-granted : Bridged head book cluster → HasKey key cluster
+  pub renews-granted : IsOwned head cluster → HasKey key cluster
       → in_flight cluster.facts.flight number ≡ Some carried → carried.message.to ≡ ends.Store
       → carried.message.body ≡ bodies.Request Renewal → HasRoom cluster number
       → IsRenewal carried.message number ttl.0 key cluster
@@ -380,16 +292,16 @@ module _ (head : HeadText) (book : List Event) (cluster : Cluster) (key : Leader
   renews-granted good has found to says room =
       to-store (λ m. m.body ≡ bodies.Request Renewal → IsRenewal m number ttl.0 key cluster (Behind cluster number m))
       (λ by incarnation sequence same. absurd (apart same))
-      (λ by incarnation sequence txn same.
+      (λ by incarnation sequence txn addressed same.
       subst (λ (t : Txn). IsRenewal (Question by incarnation sequence (bodies.Request t)) number ttl.0 key cluster
       (Behind cluster number (Question by incarnation sequence (bodies.Request t))))
       (sym (asked txn same))
       (decided-renewal by (Question by incarnation sequence (bodies.Request Renewal))
       (decision_on cluster.facts.keys cluster.facts.clock Renewal)
       (renewal-granted cluster.facts.keys cluster.facts.clock key.revision Renewal
-      (is-found head book cluster key good has) refl)
+      (is-found head cluster key good has) refl)
       (renewed-by good has by incarnation sequence room)))
-      carried.message to (good.matched.waiting.carried number carried found).addressed says
+      carried.message to (good.facts.sent number carried found).0.addressed says
     where
       apart : bodies.Read ≡ bodies.Request Renewal → ⊥
       apart e = cc

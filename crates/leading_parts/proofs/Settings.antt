@@ -1,10 +1,11 @@
 -- The configuration and the failover key, which only operators write.
-use Rattle.std.proofs.Common.{ℕ, ◌≡◌, ◌+◌, ◌++◌, List, Option, Some, None, refl, ◌∙◌, ap, sym}
+use Rattle.std.proofs.Common.{ℕ, ◌≡◌, ◌+◌, ◌++◌, List, Option, Some, None, refl, ◌∙◌, ap, subst, sym}
 use Rattle.std.specs.FinMap.{find}
 use Rattle.pat_base.specs.declared.lsn.Lsn.{Lsn}
 use Rattle.pat_base.specs.declared.member_id.MemberId.{MemberId}
 use Rattle.pat_base.specs.declared.member_set.MemberSet.{MemberSet}
 use Rattle.pat_base.specs.declared.ticks.Ticks.{Ticks}
+use Rattle.store_keys.specs.declared.key.Key.{Key}
 use Rattle.store_keys.specs.declared.key.Key.TheVariants as keys
 use Rattle.store_keys.specs.declared.txn.Txn.{Txn}
 use Rattle.store_keys.specs.declared.txn.Txn.TheVariants as txns
@@ -18,12 +19,11 @@ use Rattle.lease_store.specs.Kept.{IsLasting}
 use Rattle.lease_store.specs.KeyOrder.{key_cmp}
 use Rattle.lease_store.specs.Answers.{present_pairs}
 use Rattle.lease_store.specs.Keys.{Keys, present}
-use Rattle.lease_store.specs.Writes.{writes_of, status_writes, row_writes, failsafe_writes}
+use Rattle.lease_store.specs.Writes.{Write, writes_of, status_writes, row_writes, failsafe_writes}
 use Rattle.lease_store.proofs.Keeping.{find_present}
 use Rattle.lease_store.proofs.OneKey.{find_all_written, found_after_all}
 use Rattle.lease_law.proofs.Configurations.{SetsConfig, config-after}
 use Rattle.script_model.specs.Script.{HeadText}
-use Rattle.event_book.specs.declared.event.Event.{Event}
 use Rattle.event_book.specs.declared.event.EventKind.TheVariants as kinds
 use Rattle.event_book.specs.declared.link.LinkEnd.TheVariants as ends
 use Rattle.event_book.specs.declared.member.Member.{Member}
@@ -34,34 +34,40 @@ use Rattle.event_book.specs.Kinds.{AllAre}
 use Rattle.cluster_model.specs.Cluster.{cluster_after, cluster_over}
 use Rattle.cluster_model.specs.Messages.{answer_events, answer_message, arrival_events_at, decision_body, decision_kind}
 use Rattle.cluster_model.specs.State.{Cluster}
-use Rattle.lease_parts.specs.Bridged.{Bridged}
+use Rattle.lease_owners.specs.Kept.{IsOwned}
 use Rattle.leading_parts.specs.Alone.{IsOwnRequest}
-use Rattle.leading_parts.specs.Holding.{GrantsNoOperator, LeavesSettings}
-use Rattle.leading_parts.proofs.Arrivals.{Answering, Behind, Decided, Later, Question, sent-keys, to-store}
+use Rattle.leading_parts.specs.Holding.{GrantsNoOperator, IsUnasked, LeavesSettings}
+use Rattle.leading_parts.proofs.Arrivals.{sent-keys}
+use Rattle.lease_owners.proofs.ToStore.{Answering, Behind, Decided, Later, Question, to-store}
 
-carried-failover : (revision now : ℕ) (status : Option Lsn) (row : Option HistoryRow) (failsafe : Option MemberSet)
-    → found_after_all revision now keys.Failover None
-    (status_writes status ++ (row_writes row ++ failsafe_writes failsafe)) ≡ None
-carried-failover revision now None None None = refl
-carried-failover revision now None None (Some members) = refl
-carried-failover revision now None (Some row) None = refl
-carried-failover revision now None (Some row) (Some members) = refl
-carried-failover revision now (Some end) None None = refl
-carried-failover revision now (Some end) None (Some members) = refl
-carried-failover revision now (Some end) (Some row) None = refl
-carried-failover revision now (Some end) (Some row) (Some members) = refl
+abbrev StaysAbsent : Key → ℕ → ℕ → List Write → Type 0
+StaysAbsent key revision now writes = found_after_all revision now key None writes ≡ None
 
-own-failover : (revision now : ℕ) (by : MemberId) (txn : Txn) → IsOwnRequest txn
-    → found_after_all revision now keys.Failover None (writes_of by txn) ≡ None
-own-failover revision now by (txns.Lease (lease_txns.Renew compared info ttl status row failsafe)) own =
-    carried-failover revision now status row failsafe
-own-failover revision now by (txns.Sync (sync_txns.Claim compared sync)) own = refl
-own-failover revision now by (txns.Sync (sync_txns.SetSync compared sync standbys quorum)) own = refl
-own-failover revision now by (txns.Sync (sync_txns.DropSync compared sync)) own = refl
-own-failover revision now by (txns.Operators (operator_txns.SetFailover failover ttl)) own = absurd own
-own-failover revision now by (txns.Operators (operator_txns.SetConfig compared config)) own = absurd own
-own-failover revision now by (txns.Operators (operator_txns.Fire compared scheduled failover ttl)) own = absurd own
-own-failover revision now by _ own = refl
+carried-unasked : (revision now : ℕ) (status : Option Lsn) (row : Option HistoryRow) (failsafe : Option MemberSet)
+    → (let writes : List Write = status_writes status ++ (row_writes row ++ failsafe_writes failsafe) in
+    StaysAbsent keys.Failover revision now writes × StaysAbsent keys.Scheduled revision now writes)
+carried-unasked revision now None None None = (refl, refl)
+carried-unasked revision now None None (Some members) = (refl, refl)
+carried-unasked revision now None (Some row) None = (refl, refl)
+carried-unasked revision now None (Some row) (Some members) = (refl, refl)
+carried-unasked revision now (Some end) None None = (refl, refl)
+carried-unasked revision now (Some end) None (Some members) = (refl, refl)
+carried-unasked revision now (Some end) (Some row) None = (refl, refl)
+carried-unasked revision now (Some end) (Some row) (Some members) = (refl, refl)
+
+own-unasked : (revision now : ℕ) (by : MemberId) (txn : Txn) → IsOwnRequest txn
+    → StaysAbsent keys.Failover revision now (writes_of by txn)
+    × StaysAbsent keys.Scheduled revision now (writes_of by txn)
+own-unasked revision now by (txns.Lease (lease_txns.Renew compared info ttl status row failsafe)) own =
+    carried-unasked revision now status row failsafe
+own-unasked revision now by (txns.Sync (sync_txns.Claim compared sync)) own = (refl, refl)
+own-unasked revision now by (txns.Sync (sync_txns.SetSync compared sync standbys quorum)) own = (refl, refl)
+own-unasked revision now by (txns.Sync (sync_txns.DropSync compared sync)) own = (refl, refl)
+own-unasked revision now by (txns.Operators (operator_txns.SetFailover failover ttl)) own = absurd own
+own-unasked revision now by (txns.Operators (operator_txns.SetConfig compared config)) own = absurd own
+own-unasked revision now by (txns.Operators (operator_txns.Schedule planned)) own = absurd own
+own-unasked revision now by (txns.Operators (operator_txns.Fire compared scheduled failover ttl)) own = absurd own
+own-unasked revision now by _ own = (refl, refl)
 
 own-sets : (H : Option KeyEntry → Type 0) (revision now : ℕ) (by : MemberId) (found : Option KeyEntry) (txn : Txn)
     → IsOwnRequest txn → SetsConfig H revision now by found txn
@@ -76,7 +82,7 @@ own-config revision now by found txn own = config-after (λ o. o ≡ found) revi
 same-keys : (before after : Cluster) → after.facts.keys ≡ before.facts.keys → LeavesSettings before after
 same-keys before after same = record {
   config = ap (λ (k : Keys). find key_cmp keys.Config k.pairs) same;
-  failover = λ none. ap (λ (k : Keys). find key_cmp keys.Failover k.pairs) same ∙ none;
+  unasked = subst (λ (k : Keys). IsUnasked k.pairs) (sym same);
 }
 
 module _ (cluster : Cluster) (number : ℕ) where
@@ -93,31 +99,37 @@ module _ (cluster : Cluster) (number : ℕ) where
         config = ap (λ (k : Keys). find key_cmp keys.Config k.pairs) same
             ∙ find_all_written next cluster.facts.clock keys.Config pairs (writes_of by.id txn)
             ∙ own-config next cluster.facts.clock by.id (find key_cmp keys.Config pairs) txn own;
-        failover = λ absent. ap (λ (k : Keys). find key_cmp keys.Failover k.pairs) same
-            ∙ find_all_written next cluster.facts.clock keys.Failover pairs (writes_of by.id txn)
-            ∙ ap (λ (found : Option KeyEntry).
-            found_after_all next cluster.facts.clock keys.Failover found (writes_of by.id txn))
-            absent
-            ∙ own-failover next cluster.facts.clock by.id txn own;
+        unasked = λ absent. record {
+          failover = ap (λ (k : Keys). find key_cmp keys.Failover k.pairs) same
+              ∙ find_all_written next cluster.facts.clock keys.Failover pairs (writes_of by.id txn)
+              ∙ ap (λ (found : Option KeyEntry).
+              found_after_all next cluster.facts.clock keys.Failover found (writes_of by.id txn)) absent.failover
+              ∙ (own-unasked next cluster.facts.clock by.id txn own).0;
+          scheduled = ap (λ (k : Keys). find key_cmp keys.Scheduled k.pairs) same
+              ∙ find_all_written next cluster.facts.clock keys.Scheduled pairs (writes_of by.id txn)
+              ∙ ap (λ (found : Option KeyEntry).
+              found_after_all next cluster.facts.clock keys.Scheduled found (writes_of by.id txn)) absent.scheduled
+              ∙ (own-unasked next cluster.facts.clock by.id txn own).1;
+        };
       }
   answering-leaves by message txn (Refusal key there) none =
       same-keys cluster (Answering cluster number message by txn (Refusal key there))
       (sent-keys (Decided cluster number by txn (Refusal key there))
       (answer_message message (decision_body number txn (Refusal key there))))
 
-pub settings-left : (head : HeadText) (book : List Event) (cluster : Cluster) (number : ℕ) (carried : InFlightFacts)
-    → Bridged head book cluster → in_flight cluster.facts.flight number ≡ Some carried → carried.message.to ≡ ends.Store
+pub settings-left : (head : HeadText) (cluster : Cluster) (number : ℕ) (carried : InFlightFacts)
+    → IsOwned head cluster → in_flight cluster.facts.flight number ≡ Some carried → carried.message.to ≡ ends.Store
     → AllAre GrantsNoOperator (arrival_events_at cluster number carried ends.Store)
     → LeavesSettings cluster (cluster_over cluster (arrival_events_at cluster number carried ends.Store))
-settings-left head book cluster number carried good found to none =
+settings-left head cluster number carried good found to none =
     to-store (λ m. AllAre GrantsNoOperator (answer_events (Later cluster number) number m) →
     LeavesSettings cluster (Behind cluster number m))
     (λ by incarnation sequence all. same-keys cluster _
     (sent-keys (Later cluster number) (answer_message (Question by incarnation sequence bodies.Read) bodies.Snapshot)))
-    (λ by incarnation sequence txn all.
+    (λ by incarnation sequence txn addressed all.
     answering-leaves cluster number by (Question by incarnation sequence (bodies.Request txn)) txn
     (decision_on cluster.facts.keys cluster.facts.clock txn) all.0)
-    carried.message to (good.matched.waiting.carried number carried found).addressed none.1
+    carried.message to (good.facts.sent number carried found).0.addressed none.1
 
 lasting-present : (now : ℕ) (found : Option KeyEntry) → IsLasting found → present now found ≡ found
 lasting-present now None lasts = absurd lasts
@@ -131,30 +143,34 @@ lasting-present now (Some stored) lasts = ap (λ (x : Option Ticks). present now
   expiry = x;
 } in Some one) (sym lasts)
 
-pub settings-ticked : (head : HeadText) (book : List Event) (cluster : Cluster) → Bridged head book cluster
+pub settings-ticked : (head : HeadText) (cluster : Cluster) → IsOwned head cluster
     → LeavesSettings cluster (cluster_after cluster kinds.Tick)
-settings-ticked head book cluster good =
+settings-ticked head cluster good =
     let now : ℕ = cluster.facts.clock + 1 in
-    let kept = good.matched.store.kept in
+    let kept = good.facts.store.kept in
     record {
       config = find_present now keys.Config cluster.facts.keys.pairs kept.order
           ∙ lasting-present now (find key_cmp keys.Config cluster.facts.keys.pairs) kept.config;
-      failover = λ none. find_present now keys.Failover cluster.facts.keys.pairs kept.order ∙ ap (present now) none;
+      unasked = λ none. record {
+        failover = find_present now keys.Failover cluster.facts.keys.pairs kept.order ∙ ap (present now) none.failover;
+        scheduled =
+            find_present now keys.Scheduled cluster.facts.keys.pairs kept.order ∙ ap (present now) none.scheduled;
+      };
     }
 
 -- what the key store shows of them now
-pub settings-shown : (head : HeadText) (book : List Event) (cluster : Cluster) → Bridged head book cluster
+pub settings-shown : (head : HeadText) (cluster : Cluster) → IsOwned head cluster
     → find key_cmp keys.Config (present_pairs cluster.facts.clock cluster.facts.keys.pairs)
     ≡ find key_cmp keys.Config cluster.facts.keys.pairs
-settings-shown head book cluster good =
+settings-shown head cluster good =
     let now : ℕ = cluster.facts.clock in
-    let kept = good.matched.store.kept in
+    let kept = good.facts.store.kept in
     find_present now keys.Config cluster.facts.keys.pairs kept.order
     ∙ lasting-present now (find key_cmp keys.Config cluster.facts.keys.pairs) kept.config
 
-pub failover-shown : (head : HeadText) (book : List Event) (cluster : Cluster) → Bridged head book cluster
+pub failover-shown : (head : HeadText) (cluster : Cluster) → IsOwned head cluster
     → find key_cmp keys.Failover cluster.facts.keys.pairs ≡ None
     → find key_cmp keys.Failover (present_pairs cluster.facts.clock cluster.facts.keys.pairs) ≡ None
-failover-shown head book cluster good none =
-    find_present cluster.facts.clock keys.Failover cluster.facts.keys.pairs good.matched.store.kept.order
+failover-shown head cluster good none =
+    find_present cluster.facts.clock keys.Failover cluster.facts.keys.pairs good.facts.store.kept.order
     ∙ ap (present cluster.facts.clock) none

@@ -23,10 +23,11 @@ IsWithStore n (ends.Member member) ends.Store = n ≡ member.id.number
 IsWithStore n ends.Store (ends.Member member) = n ≡ member.id.number
 IsWithStore n from to = ⊥
 
--- neither a failover is asked for, as by a scheduled switchover that begins, nor a change of the configuration
+-- neither a failover is asked for, now or as a scheduled switchover, nor a change of the configuration
 abbrev pub IsOwnRequest : Txn → Type 0
 IsOwnRequest (txns.Operators (operator_txns.SetFailover failover ttl)) = ⊥
 IsOwnRequest (txns.Operators (operator_txns.SetConfig revision config)) = ⊥
+IsOwnRequest (txns.Operators (operator_txns.Schedule planned)) = ⊥
 IsOwnRequest (txns.Operators (operator_txns.Fire revision scheduled failover ttl)) = ⊥
 IsOwnRequest _ = Unit {0}
 

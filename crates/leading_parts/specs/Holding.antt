@@ -4,8 +4,6 @@ use Rattle.std.specs.FinMap.{find}
 use Rattle.store_keys.specs.declared.key.Key.{Key}
 use Rattle.store_keys.specs.declared.key.Key.TheVariants as keys
 use Rattle.store_keys.specs.declared.txn.Txn.{Txn}
-use Rattle.store_keys.specs.declared.txn.Txn.TheVariants as txns
-use Rattle.store_keys.specs.declared.txn.LeaseTxn.TheVariants as lease_txns
 use Rattle.store_keys.specs.declared.value.KeyEntry.{KeyEntry}
 use Rattle.lease_store.specs.Answers.{present_pairs}
 use Rattle.lease_store.specs.Decision.{Decision}
@@ -24,6 +22,7 @@ use Rattle.event_book.specs.Flight.{Flight, InFlightFacts, grant_for, in_flight,
 use Rattle.cluster_model.specs.Limits.{most_in_flight}
 use Rattle.cluster_model.specs.Messages.{answer_message, decision_body}
 use Rattle.cluster_model.specs.State.{Cluster}
+use Rattle.lease_owners.specs.Asking.{AsksFor}
 use Rattle.leading_parts.specs.Alone.{IsOwnRequest}
 use Rattle.lease_book.specs.Flights.{Rises}
 use Rattle.lease_model.specs.Leases.{LeaderKey}
@@ -44,21 +43,10 @@ abbrev pub IsMemberOf : ℕ → LinkEnd → Type 0
 IsMemberOf n (ends.Member member) = member.id.number ≡ n
 IsMemberOf n ends.Store = ⊥
 
--- this asks for the renewal of the leader key of this revision
-abbrev pub AsksRenewalOf : ℕ → Body → Type 0
-AsksRenewalOf revision (bodies.Request (txns.Lease (lease_txns.Renew compared info ttl status row failsafe))) =
-    compared ≡ revision
-AsksRenewalOf revision _ = ⊥
-
--- this asks for its release
-abbrev pub AsksReleaseOf : ℕ → Body → Type 0
-AsksReleaseOf revision (bodies.Request (txns.Lease (lease_txns.Release compared))) = compared ≡ revision
-AsksReleaseOf revision _ = ⊥
-
--- no renewal of this revision is on its way
-abbrev pub NoneRenews : ℕ → Flight → Type 0
-NoneRenews revision flight = (i : ℕ) (carried : InFlightFacts) → in_flight flight i ≡ Some carried
-    → AsksRenewalOf revision carried.message.body → ⊥
+-- neither a renewal nor a release of the leader key of this revision is on its way
+abbrev pub NoneAsks : ℕ → Flight → Type 0
+NoneAsks revision flight = (i : ℕ) (carried : InFlightFacts) → in_flight flight i ≡ Some carried
+    → AsksFor revision carried.message.body → ⊥
 
 -- once the message of this number came, fewer are in flight than may be
 abbrev pub HasRoom : Cluster → ℕ → Type 0
@@ -90,24 +78,28 @@ renewed_key cluster key ttl = renewed cluster.facts.clock (cluster.facts.keys.re
 
 -- the renewal of the leader key for this span is granted, by the message of this
 -- number: the key has the next revision and lasts longer, its holder's answer is in
--- flight in place of its question, and nobody asks for the renewal of that revision yet
+-- flight in place of its question, and nobody asks for that revision yet
 pub record IsRenewal (question : Message) (request ttl : ℕ) (key : LeaderKey) (before after : Cluster) : Type 0 where
   pub has : HasKey (renewed_key before key ttl) after
   pub granted : after.facts.keys.revision ≡ before.facts.keys.revision + 1
   pub answered : IsAnswered question (bodies.Granted request true) (renewed_key before key ttl)
       (before.facts.sent + 1) after
-  pub alone : NoneRenews (before.facts.keys.revision + 1) after.facts.flight
+  pub alone : NoneAsks (before.facts.keys.revision + 1) after.facts.flight
 
 -- no operator's request is granted in this event
 abbrev pub GrantsNoOperator : EventKind → Type 0
 GrantsNoOperator (kinds.Store (stores.Granted number by txn standbys)) = IsOwnRequest txn
 GrantsNoOperator _ = Unit {0}
 
--- the configuration is as it was, and there is no failover key if there was none
+-- nothing that operators ask for is in the key store: neither a failover nor a scheduled switchover
+pub record IsUnasked (pairs : List (Key × KeyEntry)) : Type 0 where
+  pub failover : find key_cmp keys.Failover pairs ≡ None
+  pub scheduled : find key_cmp keys.Scheduled pairs ≡ None
+
+-- the configuration is as it was, and operators ask for nothing if they asked for nothing
 pub record LeavesSettings (before after : Cluster) : Type 0 where
   pub config : find key_cmp keys.Config after.facts.keys.pairs ≡ find key_cmp keys.Config before.facts.keys.pairs
-  pub failover : find key_cmp keys.Failover before.facts.keys.pairs ≡ None
-      → find key_cmp keys.Failover after.facts.keys.pairs ≡ None
+  pub unasked : IsUnasked before.facts.keys.pairs → IsUnasked after.facts.keys.pairs
 
 -- the message of this number came to the key store: it is in flight no more, and all that is new is an answer to it
 pub record LeavesAnswer (question : Message) (number : ℕ) (before after : Cluster) : Type 0 where

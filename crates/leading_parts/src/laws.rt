@@ -11,12 +11,12 @@ ghost use Rattle.event_book.specs.declared.link.LinkEnd.TheVariants.{Store};
 ghost use Rattle.event_book.specs.declared.member.Member.{Member};
 ghost use Rattle.event_book.specs.declared.message.Body.TheVariants.{Read, Request, Snapshot};
 ghost use Rattle.leading_parts.specs.Elsewhere.{AreElsewhere, StandsSame};
-ghost use Rattle.leading_parts.specs.Holding.{AsksReleaseOf, AsksRenewalOf, GrantsNoOperator, HasKey, HasRoom, IsAnswered, IsMemberOf, IsRenewal, LeavesKey, LeavesSettings, NoneRenews};
+ghost use Rattle.leading_parts.specs.Holding.{GrantsNoOperator, HasKey, HasRoom, IsAnswered, IsMemberOf, IsRenewal, LeavesKey, LeavesSettings, NoneAsks};
 ghost use Rattle.leading_parts.specs.Others.{AreNumbered};
 ghost use Rattle.leading_parts.specs.Ticked.{FiresPast, IsPrimary};
 ghost use Rattle.lease_model.specs.Leases.{LeaderKey};
-ghost use Rattle.lease_parts.specs.Bridged.{Bridged};
-ghost use Rattle.lease_parts.specs.Machines.{live_in};
+ghost use Rattle.lease_owners.specs.Asking.{AsksFor};
+ghost use Rattle.lease_owners.specs.Kept.{IsOwned};
 ghost use Rattle.pat_base.specs.declared.lsn.Lsn.{Lsn};
 ghost use Rattle.pat_base.specs.declared.member_set.MemberSet.{MemberSet};
 ghost use Rattle.pat_base.specs.declared.ticks.Ticks.{Ticks};
@@ -30,38 +30,36 @@ ghost use Rattle.event_book.specs.declared.link.LinkEnd.TheVariants as ends;
 
 /// The leader key stays its holder's over each decision of the key store, and its holder is answered in place.
 pub fn the_key_stays_its_holders()
-    // Who asks for the renewal or the release of the leader key as it is now is its holder; and while its holder's server is live nobody asks for its release.
-    ensures renewals { (head : HeadText) (book : List Event) (cluster : Cluster) (key : LeaderKey) (number : ℕ) (carried : InFlightFacts) → Bridged head book cluster → HasKey key cluster
-        → in_flight cluster.facts.flight number ≡ Some carried → AsksRenewalOf key.revision carried.message.body → IsMemberOf key.holder carried.message.from }
-    ensures releases { (head : HeadText) (book : List Event) (cluster : Cluster) (key : LeaderKey) (number : ℕ) (carried : InFlightFacts) → Bridged head book cluster → HasKey key cluster
-        → in_flight cluster.facts.flight number ≡ Some carried → AsksReleaseOf key.revision carried.message.body → IsMemberOf key.holder carried.message.from × (live_in cluster.facts.servers key.holder ≡ true → ⊥) }
-    // Whatever comes to the key store but the renewal of that key leaves it as it is, while its holder's server is live; and so does whatever another member asks.
-    ensures stays { (head : HeadText) (book : List Event) (cluster : Cluster) (key : LeaderKey) (number : ℕ) (carried : InFlightFacts) → Bridged head book cluster → HasKey key cluster
-        → in_flight cluster.facts.flight number ≡ Some carried → carried.message.to ≡ Store → live_in cluster.facts.servers key.holder ≡ true → (AsksRenewalOf key.revision carried.message.body → ⊥)
+    // Who asks for the renewal or the release of the leader key as it is now is its holder.
+    ensures asks { (head : HeadText) (cluster : Cluster) (key : LeaderKey) (number : ℕ) (carried : InFlightFacts) → IsOwned head cluster → HasKey key cluster
+        → in_flight cluster.facts.flight number ≡ Some carried → AsksFor key.revision carried.message.body → IsMemberOf key.holder carried.message.from }
+    // Whatever comes to the key store but such a question leaves it as it is; and so does whatever another member asks.
+    ensures stays { (head : HeadText) (cluster : Cluster) (key : LeaderKey) (number : ℕ) (carried : InFlightFacts) → IsOwned head cluster → HasKey key cluster
+        → in_flight cluster.facts.flight number ≡ Some carried → carried.message.to ≡ Store → (AsksFor key.revision carried.message.body → ⊥)
         → LeavesKey cluster (cluster_over cluster (arrival_events_at cluster number carried Store)) }
-    ensures others { (head : HeadText) (book : List Event) (cluster : Cluster) (key : LeaderKey) (number : ℕ) (carried : InFlightFacts) → Bridged head book cluster → HasKey key cluster
+    ensures others { (head : HeadText) (cluster : Cluster) (key : LeaderKey) (number : ℕ) (carried : InFlightFacts) → IsOwned head cluster → HasKey key cluster
         → in_flight cluster.facts.flight number ≡ Some carried → carried.message.to ≡ Store → (IsMemberOf key.holder carried.message.from → ⊥)
         → LeavesKey cluster (cluster_over cluster (arrival_events_at cluster number carried Store)) }
-    // What comes to the key store brings no renewal.
-    ensures brings { (head : HeadText) (book : List Event) (cluster : Cluster) (revision number : ℕ) (carried : InFlightFacts) → Bridged head book cluster
-        → in_flight cluster.facts.flight number ≡ Some carried → carried.message.to ≡ Store → NoneRenews revision cluster.facts.flight
-        → NoneRenews revision (cluster_over cluster (arrival_events_at cluster number carried Store)).facts.flight }
+    // What comes to the key store brings no such question.
+    ensures brings { (head : HeadText) (cluster : Cluster) (revision number : ℕ) (carried : InFlightFacts) → IsOwned head cluster
+        → in_flight cluster.facts.flight number ≡ Some carried → carried.message.to ≡ Store → NoneAsks revision cluster.facts.flight
+        → NoneAsks revision (cluster_over cluster (arrival_events_at cluster number carried Store)).facts.flight }
     // A read is answered with the key as it is, and the renewal of that key is granted.
-    ensures reads { (head : HeadText) (book : List Event) (cluster : Cluster) (key : LeaderKey) (number : ℕ) (carried : InFlightFacts) → Bridged head book cluster → HasKey key cluster
+    ensures reads { (head : HeadText) (cluster : Cluster) (key : LeaderKey) (number : ℕ) (carried : InFlightFacts) → IsOwned head cluster → HasKey key cluster
         → in_flight cluster.facts.flight number ≡ Some carried → carried.message.to ≡ Store → carried.message.body ≡ Read → HasRoom cluster number
         → IsAnswered carried.message Snapshot key (cluster.facts.sent + 1) (cluster_over cluster (arrival_events_at cluster number carried Store)) }
-    ensures renews { (head : HeadText) (book : List Event) (cluster : Cluster) (key : LeaderKey) (number : ℕ) (carried : InFlightFacts) (info : MemberInfo) (ttl : Ticks) (status : Option Lsn) (row : Option HistoryRow) (failsafe : Option MemberSet)
-        → Bridged head book cluster → HasKey key cluster
+    ensures renews { (head : HeadText) (cluster : Cluster) (key : LeaderKey) (number : ℕ) (carried : InFlightFacts) (info : MemberInfo) (ttl : Ticks) (status : Option Lsn) (row : Option HistoryRow) (failsafe : Option MemberSet)
+        → IsOwned head cluster → HasKey key cluster
         → in_flight cluster.facts.flight number ≡ Some carried → carried.message.to ≡ Store → carried.message.body ≡ Request (Lease (Renew key.revision info ttl status row failsafe)) → HasRoom cluster number
         → IsRenewal carried.message number ttl.0 key cluster (cluster_over cluster (arrival_events_at cluster number carried Store)) }
     // A tick leaves the key that lasts past it.
-    ensures ticks { (head : HeadText) (book : List Event) (cluster : Cluster) (key : LeaderKey) → Bridged head book cluster → HasKey key cluster → cluster.facts.clock + 1 < key.expiry
+    ensures ticks { (head : HeadText) (cluster : Cluster) (key : LeaderKey) → IsOwned head cluster → HasKey key cluster → cluster.facts.clock + 1 < key.expiry
         → LeavesKey cluster (cluster_after cluster Tick) }
     // While no operator's request is granted, the configuration stays as it is, and no failover key comes.
-    ensures settings { (head : HeadText) (book : List Event) (cluster : Cluster) (number : ℕ) (carried : InFlightFacts) → Bridged head book cluster
+    ensures settings { (head : HeadText) (cluster : Cluster) (number : ℕ) (carried : InFlightFacts) → IsOwned head cluster
         → in_flight cluster.facts.flight number ≡ Some carried → carried.message.to ≡ Store → AllAre GrantsNoOperator (arrival_events_at cluster number carried Store)
         → LeavesSettings cluster (cluster_over cluster (arrival_events_at cluster number carried Store)) }
-    ensures times { (head : HeadText) (book : List Event) (cluster : Cluster) → Bridged head book cluster → LeavesSettings cluster (cluster_after cluster Tick) }
+    ensures times { (head : HeadText) (cluster : Cluster) → IsOwned head cluster → LeavesSettings cluster (cluster_after cluster Tick) }
 {}
 
 /// Events elsewhere leave a member's agent, process, watchdog and hold as they were, and its server in its state.

@@ -1,11 +1,9 @@
 -- A leader's question comes to the key store in its turn: the answer is on its way.
-use Rattle.std.proofs.Common.{ℕ, ◌≡◌, ◌≢◌, ◌+◌, ◌≤◌, ◌<◌, max, true, List, [], ◌∷◌, Option, Some, None, option_and_then, option_map, slice_get, refl, sym, ap, subst, ◌∙◌, inl, inr, arith}
+use Rattle.std.proofs.Common.{ℕ, ◌≡◌, ◌≢◌, ◌+◌, ◌≤◌, ◌<◌, max, true, List, [], ◌∷◌, Option, Some, None, option_and_then, slice_get, refl, sym, ap, subst, ◌∙◌, inl, inr, arith}
 use Rattle.std.specs.FinMap.{find}
 use Rattle.std.specs.Prelude.{◌⊎◌}
 use Rattle.pat_base.specs.declared.lsn.Lsn.{Lsn}
 use Rattle.pat_base.specs.declared.member_set.MemberSet.{MemberSet}
-use Rattle.pat_base.specs.declared.server_state.State.TheVariants as states
-use Rattle.pat_base.specs.ServerState.{live}
 use Rattle.store_keys.specs.declared.key.Key.TheVariants as keys
 use Rattle.store_keys.specs.declared.txn.Txn.{Txn}
 use Rattle.store_keys.specs.declared.txn.Txn.TheVariants as txns
@@ -15,7 +13,6 @@ use Rattle.store_keys.specs.declared.value.MemberInfo.{MemberInfo}
 use Rattle.lease_store.specs.Answers.{present_pairs}
 use Rattle.lease_store.specs.Decision.{Decision, Grant, decision_on}
 use Rattle.lease_store.specs.KeyOrder.{key_cmp}
-use Rattle.pg_model.specs.Facts.{ServerFacts}
 use Rattle.script_model.specs.Script.{HeadText}
 use Rattle.event_book.specs.declared.event.Event.{Event}
 use Rattle.event_book.specs.declared.event.EventKind.{EventKind}
@@ -35,16 +32,16 @@ use Rattle.agent_model.specs.Agents.{AgentFacts}
 use Rattle.cluster_model.specs.Cluster.{cluster_after, cluster_over}
 use Rattle.cluster_model.specs.Messages.{answer_events, answer_message, arrival_events_at, decision_body}
 use Rattle.cluster_model.specs.State.{Cluster}
-use Rattle.lease_model.proofs.Tools.{none-some, some-is}
 use Rattle.lease_model.specs.Leases.{LeaderKey}
-use Rattle.lease_parts.specs.Bridged.{Bridged}
-use Rattle.lease_parts.specs.Machines.{live_in, live_now}
+use Rattle.lease_owners.specs.Kept.{IsOwned}
 use Rattle.run_promise.proofs.Members.{members-over}
 use Rattle.leading_law.specs.Leading.{WritesSync}
 use Rattle.leading_parts.specs.Alone.{LeaveAlone, LeavesAlone}
-use Rattle.leading_parts.specs.Holding.{AsksRenewalOf, GrantsNoOperator, HasKey, HasRoom, IsAnswered, IsDecidedOn, IsRenewal, LeavesAnswer, LeavesSettings, renewed_key}
+use Rattle.lease_owners.specs.Asking.{AsksFor}
+use Rattle.leading_parts.specs.Holding.{GrantsNoOperator, HasKey, HasRoom, IsAnswered, IsDecidedOn, IsRenewal, LeavesAnswer, LeavesSettings, renewed_key}
 use Rattle.leading_parts.proofs.Answering.{arrival-left, decided-answered, read-room, request-room}
-use Rattle.leading_parts.proofs.Arrivals.{Behind, Later, reads-answered, renews-granted, stays-left}
+use Rattle.lease_owners.proofs.ToStore.{Behind, Later}
+use Rattle.leading_parts.proofs.Arrivals.{reads-answered, renews-granted, stays-left}
 use Rattle.leading_parts.proofs.Frames.{same-over}
 use Rattle.leading_parts.proofs.Others.{arrival-elsewhere}
 use Rattle.leading_parts.proofs.Settings.{failover-shown, settings-left, settings-shown}
@@ -66,20 +63,9 @@ nobody-operates n cluster events alone = all events cluster alone
     all (event ∷ events) c alone =
         (none-operates n c event.kind alone.0, all events (cluster_after c event.kind) alone.1)
 
--- ---- its server is live
-primary-live : (found : Option ServerFacts)
-    → option_map (λ (s : ServerFacts). s.state) found ≡ Some states.Primary → live_now found ≡ true
-primary-live None e = absurd (none-some states.Primary e)
-primary-live (Some s) e = ap live (some-is s.state states.Primary e)
-
-pub holder-live : (member : Member) (seen : Seen) (cluster : Cluster) → Stands member seen cluster
-    → live_in cluster.facts.servers seen.key.holder ≡ true
-holder-live member seen cluster stands = ap (live_in cluster.facts.servers) stands.holder
-    ∙ primary-live (slice_get cluster.facts.servers member.id.number) stands.primary
-
 -- ---- a message that comes to the key store
-module _ (head : HeadText) (book later : List Event) (member : Member) (cluster : Cluster) (seen : Seen)
-    (number : ℕ) (carried : InFlightFacts) (good : Bridged head book cluster)
+module _ (head : HeadText) (member : Member) (cluster : Cluster) (seen : Seen)
+    (number : ℕ) (carried : InFlightFacts) (good : IsOwned head cluster)
     (stands : Stands member seen cluster) (flies : in_flight cluster.facts.flight number ≡ Some carried)
     (to : carried.message.to ≡ ends.Store)
     (left : LeaveAlone member.id.number cluster (arrival_events_at cluster number carried ends.Store)) where
@@ -87,19 +73,18 @@ module _ (head : HeadText) (book later : List Event) (member : Member) (cluster 
   Came = cluster_over cluster (arrival_events_at cluster number carried ends.Store)
 
   pub answer-left : LeavesAnswer carried.message number cluster Came
-  answer-left = arrival-left head book cluster number carried good flies to
+  answer-left = arrival-left head cluster number carried good flies to
 
   pub settings-so : LeavesSettings cluster Came
-  settings-so = settings-left head book cluster number carried good flies to
+  settings-so = settings-left head cluster number carried good flies to
       (nobody-operates member.id.number cluster (arrival_events_at cluster number carried ends.Store) left)
 
-  -- one that doesn't ask for the renewal of its key leaves it
-  pub leaves-came : (AsksRenewalOf seen.key.revision carried.message.body → ⊥) → Leaves member cluster Came
+  -- one that doesn't ask for its key leaves it
+  pub leaves-came : (AsksFor seen.key.revision carried.message.body → ⊥) → Leaves member cluster Came
   leaves-came other =
       leaves-elsewhere member cluster (arrival_events_at cluster number carried ends.Store)
       (arrival-elsewhere member.id.number cluster number carried flies to) answer-left.clock
-      (stays-left head book cluster seen.key number carried good stands.key_is flies to
-      (holder-live member seen cluster stands) other)
+      (stays-left head cluster seen.key number carried good stands.key_is flies to other)
       settings-so
 
   -- the same with the key that it then has
@@ -130,10 +115,10 @@ module _ (head : HeadText) (book later : List Event) (member : Member) (cluster 
 
   -- what it waits for is now the answer
   module _ (only : (i : ℕ) (one : InFlightFacts) → in_flight cluster.facts.flight i ≡ Some one →
-      AsksRenewalOf seen.key.revision one.message.body → i ≡ number)
+      AsksFor seen.key.revision one.message.body → i ≡ number)
       (older : (i : ℕ) (one : InFlightFacts) → in_flight cluster.facts.flight i ≡ Some one → (i ≡ number → ⊥) →
       IsOwn member seen one.message → one.message.sequence < seen.agent.knows.sequence) where
-    only-by : (P : Type 0) (i : ℕ) (one : InFlightFacts) → AsksRenewalOf seen.key.revision one.message.body
+    only-by : (P : Type 0) (i : ℕ) (one : InFlightFacts) → AsksFor seen.key.revision one.message.body
         → ((i ≢ number) × (in_flight cluster.facts.flight i ≡ Some one))
         ⊎ ((i ≡ cluster.facts.sent + 1) × ((said : Body) × (one.message ≡ answer_message carried.message said)))
         → (i ≡ cluster.facts.sent + 1 → P) → P
@@ -149,7 +134,7 @@ module _ (head : HeadText) (book later : List Event) (member : Member) (cluster 
     older-by P i one (inr new) other own = absurd (other new.0)
 
     pub answer-only : (i : ℕ) (one : InFlightFacts) → in_flight Came.facts.flight i ≡ Some one
-        → AsksRenewalOf seen.key.revision one.message.body → i ≡ cluster.facts.sent + 1
+        → AsksFor seen.key.revision one.message.body → i ≡ cluster.facts.sent + 1
     answer-only i one found asks =
         only-by (i ≡ cluster.facts.sent + 1) i one asks (answer-left.fresh i one found) (λ same. same)
 
@@ -160,12 +145,12 @@ module _ (head : HeadText) (book later : List Event) (member : Member) (cluster 
         older-by (one.message.sequence < seen.agent.knows.sequence) i one (answer-left.fresh i one found) other own
 
     -- ---- its read
-    module _ (then : Bridged head later Came) (turn : InTurn seen) (asks : turn.waited.question ≡ Reading)
+    module _ (then : IsOwned head Came) (turn : InTurn seen) (asks : turn.waited.question ≡ Reading)
         (last : seen.agent.knows.last_turn ≡ Some (record { 0 = seen.clock }))
         (is : carried.message ≡ Asked member seen turn.waited.sequence bodies.Read) where
       read-leaves : Leaves member cluster Came
       read-leaves = leaves-came
-          (λ renews. subst (λ (m : Message). AsksRenewalOf seen.key.revision m.body) is renews)
+          (λ renews. subst (λ (m : Message). AsksFor seen.key.revision m.body) is renews)
 
       now-stands : Stands member seen Came
       now-stands = stands-left member seen cluster Came read-leaves stands
@@ -176,17 +161,17 @@ module _ (head : HeadText) (book later : List Event) (member : Member) (cluster 
           (answer_events (Later cluster number) number m)) is left.1)
 
       answered : IsAnswered carried.message bodies.Snapshot seen.key (cluster.facts.sent + 1) Came
-      answered = reads-answered head book cluster seen.key number carried good stands.key_is flies to
+      answered = reads-answered head cluster seen.key number carried good stands.key_is flies to
           (ap (λ (m : Message). m.body) is) had-room
 
       abbrev shows-mail : Mail member seen turn.waited answered.carried
       shows-mail = Shows asks last
           (answered.message ∙ ap (λ (m : Message). answer_message m bodies.Snapshot) is) answered.shows
           (subst (SetsConfig (settings_seen seen))
-          (sym (ap (find key_cmp keys.Config) answered.taken ∙ settings-shown head later Came then))
+          (sym (ap (find key_cmp keys.Config) answered.taken ∙ settings-shown head Came then))
           now-stands.settings.sets)
           (ap (find key_cmp keys.Failover) answered.taken
-          ∙ failover-shown head later Came then now-stands.settings.failover)
+          ∙ failover-shown head Came then now-stands.settings.unasked.failover)
 
       pub turn-shows : Phase member 5 (cluster.facts.sent + 1) Came
       turn-shows = record {
@@ -201,7 +186,7 @@ module _ (head : HeadText) (book later : List Event) (member : Member) (cluster 
       }
 
     -- ---- its renewal
-    module _ (then : Bridged head later Came) (turn : InTurn seen) (asks : turn.waited.question ≡ Renewing)
+    module _ (then : IsOwned head Came) (turn : InTurn seen) (asks : turn.waited.question ≡ Renewing)
         (sent : turn.waited.sent ≡ record { 0 = seen.clock })
         (span : turn.waited.ttl ≡ lease_span (settings_seen seen)) (none : seen.agent.knows.turn_failover ≡ None)
         (info : MemberInfo) (status : Option Lsn) (row : Option HistoryRow) (listed : Option MemberSet)
@@ -218,7 +203,7 @@ module _ (head : HeadText) (book later : List Event) (member : Member) (cluster 
           (answer_events (Later cluster number) number m)) is left.1).1
 
       renewal : IsRenewal carried.message number turn.waited.ttl.0 seen.key cluster Came
-      renewal = renews-granted head book cluster seen.key number carried info turn.waited.ttl status row listed good
+      renewal = renews-granted head cluster seen.key number carried info turn.waited.ttl status row listed good
           stands.key_is flies to (ap (λ (m : Message). m.body) is) renewal-room
 
       abbrev Key_now : LeaderKey
@@ -249,7 +234,7 @@ module _ (head : HeadText) (book later : List Event) (member : Member) (cluster 
           ∙ ap (λ (m : Message). grant_for (bodies.Granted number true) m.from Came.facts.keys.revision) is
           ∙ ap (grant_for (bodies.Granted number true) (ends.Member member)) renewal.granted)
           (subst (SetsConfig (settings_seen seen))
-          (sym (ap (find key_cmp keys.Config) renewal.answered.taken ∙ settings-shown head later Came then))
+          (sym (ap (find key_cmp keys.Config) renewal.answered.taken ∙ settings-shown head Came then))
           stands-renewed.settings.sets)
           (at-least-end seen.key.expiry cluster.facts.clock seen.clock turn.waited.ttl.0 stands.clock_is)
 
@@ -266,16 +251,17 @@ module _ (head : HeadText) (book later : List Event) (member : Member) (cluster 
       }
 
     -- ---- its write of the sync key
-    module _ (then : Bridged head later Came) (turn : InTurn seen) (settling : Settling)
+    module _ (then : IsOwned head Came) (turn : InTurn seen) (settling : Settling)
         (asks : turn.waited.question ≡ Syncing settling) (past : LastsOn seen) (txn : Txn) (writes : WritesSync txn)
         (is : carried.message ≡ Asked member seen turn.waited.sequence (bodies.Request txn)) where
-      not-renewal : (t : Txn) → WritesSync t → AsksRenewalOf seen.key.revision (bodies.Request t) → ⊥
-      not-renewal (txns.Lease (lease_txns.Renew compared info ttl status row failsafe)) writing asking = writing
-      not-renewal _ writing asking = asking
+      not-asked : (t : Txn) → WritesSync t → AsksFor seen.key.revision (bodies.Request t) → ⊥
+      not-asked (txns.Lease (lease_txns.Renew compared info ttl status row failsafe)) writing asking = writing
+      not-asked (txns.Lease (lease_txns.Release compared)) writing asking = writing
+      not-asked _ writing asking = asking
 
       sync-leaves : Leaves member cluster Came
-      sync-leaves = leaves-came (λ renews. not-renewal txn writes
-          (subst (λ (m : Message). AsksRenewalOf seen.key.revision m.body) is renews))
+      sync-leaves = leaves-came (λ renews. not-asked txn writes
+          (subst (λ (m : Message). AsksFor seen.key.revision m.body) is renews))
 
       stands-synced : Stands member seen Came
       stands-synced = stands-left member seen cluster Came sync-leaves stands
@@ -307,7 +293,7 @@ module _ (head : HeadText) (book later : List Event) (member : Member) (cluster 
           Came.facts.keys.revision decided.grant
           (λ granted. subst (SetsConfig (settings_seen seen))
           (sym (ap (find key_cmp keys.Config) (decided.taken ∙ shown-granted decided.decision granted)
-          ∙ settings-shown head later Came then))
+          ∙ settings-shown head Came then))
           stands-synced.settings.sets)
 
       pub turn-decides : Phase member 1 (cluster.facts.sent + 1) Came

@@ -1,5 +1,5 @@
 -- Another message comes than the one that a steady leader waits for: its turn stays as far as it was.
-use Rattle.std.proofs.Common.{Bool, List, None, Some, ap, arith, false, inl, inr, length, refl, subst, sym, true, ℕ, ◌++◌, ◌+◌, ◌<◌, ◌==◌, ◌∙◌, ◌≡◌, ◌≢◌, ◌≤◌}
+use Rattle.std.proofs.Common.{Bool, List, None, Some, ap, arith, false, inl, inr, length, refl, subst, sym, true, ℕ, ◌+◌, ◌<◌, ◌==◌, ◌∙◌, ◌≡◌, ◌≢◌, ◌≤◌}
 use Rattle.cluster_model.specs.Cluster.{cluster_after, cluster_over}
 use Rattle.cluster_model.specs.Deliveries.{delivery_of}
 use Rattle.cluster_model.specs.Hearing.{heard_from}
@@ -33,11 +33,10 @@ use Rattle.leading_runs.proofs.Waking.{same-as-member}
 use Rattle.leading_runs.proofs.Walking.{Goes, Leave, Within, goes-none}
 use Rattle.leading_runs.specs.Steady.{IsOfRun}
 use Rattle.lease_book.proofs.Entries.{in-without, rises-without}
-use Rattle.lease_inputs.proofs.EveryInput.{inputs-keep}
 use Rattle.lease_model.proofs.Tools.{eq-from, ne-from, put-there}
-use Rattle.lease_parts.proofs.Ending.{kept-loss}
-use Rattle.lease_parts.proofs.StoreArrivals.{kept-store-arrival}
-use Rattle.lease_parts.specs.Bridged.{Bridged}
+use Rattle.lease_owners.proofs.Arrivals.{arrival-owned}
+use Rattle.lease_owners.proofs.EveryRun.{hears-owned, lost-owned, stand-numbered}
+use Rattle.lease_owners.specs.Kept.{IsOwned}
 use Rattle.lease_parts.specs.Waiting.{IsKnownEnd}
 use Rattle.pat_base.specs.declared.member_id.TheConstants.{MOST_MEMBERS}
 use Rattle.run_promise.proofs.Members.{declared-in}
@@ -54,7 +53,7 @@ module _ (head : HeadText) (few : length (names_of head) ≤ MOST_MEMBERS) (memb
   In rank = Within head member rank
 
   -- ---- another message comes: its turn stays as far
-  module _ (rank number : ℕ) (book : List Event) (cluster : Cluster) (good : Bridged head book cluster)
+  module _ (rank number : ℕ) (cluster : Cluster) (good : IsOwned head cluster)
       (phase : Phase member rank number cluster) (j : ℕ) (carried : InFlightFacts)
       (flies : in_flight cluster.facts.flight j ≡ Some carried)
       (other : IsMail member phase.seen phase.stage j → ⊥) where
@@ -87,21 +86,21 @@ module _ (head : HeadText) (few : length (names_of head) ≤ MOST_MEMBERS) (memb
         asked-own ends.Store to_end run same mine = absurd mine
 
     comes-store : carried.message.to ≡ ends.Store
-        → Leave head member book cluster (arrival_events_at cluster j carried ends.Store)
-        → Goes head member At book cluster (arrival_events_at cluster j carried ends.Store)
+        → Leave head member cluster (arrival_events_at cluster j carried ends.Store)
+        → Goes head member At cluster (arrival_events_at cluster j carried ends.Store)
     comes-store to leave =
         let events : List Event = arrival_events_at cluster j carried ends.Store in
         let after : Cluster = cluster_over cluster events in
-        let then = (kept-store-arrival head book cluster j carried good flies to).behind leave.meets in
+        let then = arrival-owned head cluster j carried good flies to in
         let answer =
-        answer-left head book (book ++ events) member cluster phase.seen j carried good phase.stands flies to
-        leave.alone in
+        answer-left head member cluster phase.seen j carried good phase.stands flies to
+        leave in
         let leaves =
-        leaves-came head book (book ++ events) member cluster phase.seen j carried good phase.stands flies to
-        leave.alone (λ asks. other (phase.only j carried flies asks)) in
+        leaves-came head member cluster phase.seen j carried good phase.stands flies to
+        leave (λ asks. other (phase.only j carried flies asks)) in
         record {
           good = then;
-          within = phase-left head (book ++ events) member rank number cluster after phase then leaves
+          within = phase-left head member rank number cluster after phase then leaves
               (kept-flying phase.stage other phase.flying)
               (λ i one found. store-fresh i one (answer.fresh i one found) to);
           serves = serves-elsewhere N cluster events (arrival-elsewhere N cluster j carried flies to);
@@ -117,9 +116,9 @@ module _ (head : HeadText) (few : length (names_of head) ≤ MOST_MEMBERS) (memb
         kept-flying (Sleeps waits later past) apart flying = tt
         kept-flying (IsDue waits due) apart flying = tt
         kept-flying (Turns mail one turn is) apart flying =
-            (answer-left head book book member cluster phase.seen j carried good phase.stands flies to
-            leave.alone).others
-            mail (λ same. apart (sym same)) (up-to mail cluster.facts.sent (good.matched.flight.flown mail one flying))
+            (answer-left head member cluster phase.seen j carried good phase.stands flies to
+            leave).others
+            mail (λ same. apart (sym same)) (up-to mail cluster.facts.sent (good.facts.flown mail one flying))
             ∙ flying
 
     abbrev Arrived : Cluster
@@ -128,25 +127,25 @@ module _ (head : HeadText) (few : length (names_of head) ≤ MOST_MEMBERS) (memb
     -- to another member
     comes-other : (m : Member) → N ≢ m.id.number → carried.message.to ≡ ends.Member m
         → delivery_of cluster.facts.cuts cluster.facts.processes carried.message ≡ deliveries.Open
-        → Leave head member book cluster (hear_events cluster j carried m)
-        → Goes head member At book cluster (hear_events cluster j carried m)
+        → Leave head member cluster (hear_events cluster j carried m)
+        → Goes head member At cluster (hear_events cluster j carried m)
     comes-other m apart to free leave =
         let events : List Event = hear_events cluster j carried m in
         let after : Cluster = cluster_over cluster events in
-        let then = ((inputs-keep head).hears book cluster j carried m good flies to free).behind leave.meets in
-        let numbered : AreNumbered cluster = good.matched.failsafe.numbered in
+        let then = hears-owned head few cluster j carried m good flies to in
+        let numbered : AreNumbered cluster = stand-numbered head few cluster good in
         let elsewhere = hear-elsewhere N m apart cluster j carried numbered flies to in
         let last : ℕ = number_of member phase.seen phase.stage in
-        let low = mail-sent head book member phase.seen phase.stage cluster good phase.flying in
-        let order = rises-without 0 cluster.facts.flight j good.matched.flight.order in
+        let low = mail-sent head member phase.seen phase.stage cluster good phase.flying in
+        let order = rises-without 0 cluster.facts.flight j good.facts.order in
         let rest = leaves-over N last Arrived
         (input_events Arrived m (heard_message j carried) (outcome_of_heard cluster m (heard_from cluster carried)))
         (input-beside N last m apart (heard_message j carried)
         (outcome_of_heard cluster m (heard_from cluster carried)) Arrived numbered low)
-        leave.alone.1 order low in
+        leave.1 order low in
         record {
           good = then;
-          within = phase-left head (book ++ events) member rank number cluster after phase then
+          within = phase-left head member rank number cluster after phase then
               (leaves-elsewhere member cluster events elsewhere rest.clock (leader-same cluster after rest.keys)
               (settings-same cluster after rest.keys))
               (kept-flying phase.stage other phase.flying rest.mail)
@@ -159,7 +158,7 @@ module _ (head : HeadText) (few : length (names_of head) ≤ MOST_MEMBERS) (memb
             → (in_flight cluster.facts.flight i ≡ Some one)
             ⊎ IsHarmless member phase.seen (limit_of member phase.seen phase.stage) one.message
         fresh-other i one (inl was) =
-            inl (without-there cluster.facts.flight j good.matched.flight.order i one was).1
+            inl (without-there cluster.facts.flight j good.facts.order i one was).1
         fresh-other i one (inr new) =
             inr (other-harmless member phase.seen (limit_of member phase.seen phase.stage) one.message new)
 
@@ -175,59 +174,59 @@ module _ (head : HeadText) (few : length (names_of head) ≤ MOST_MEMBERS) (memb
         kept-flying (IsDue waits due) apart_mail flying mail = tt
         kept-flying (Turns its one turn is) apart_mail flying mail =
             mail one
-            (in-without 0 cluster.facts.flight j its good.matched.flight.order
+            (in-without 0 cluster.facts.flight j its good.facts.order
             ∙ put-there (in_flight cluster.facts.flight) j None its (λ same. apart_mail (sym same)) ∙ flying)
             (mail-with member phase.seen turn.waited one is)
 
     pub comes-by : (to : LinkEnd) → carried.message.to ≡ to
         → delivery_of cluster.facts.cuts cluster.facts.processes carried.message ≡ deliveries.Open
-        → Leave head member book cluster (arrival_events_at cluster j carried to)
-        → Goes head member At book cluster (arrival_events_at cluster j carried to)
+        → Leave head member cluster (arrival_events_at cluster j carried to)
+        → Goes head member At cluster (arrival_events_at cluster j carried to)
     comes-by ends.Store same free leave = comes-store same leave
     comes-by (ends.Member m) same free leave = by (N == m.id.number) refl
       where
         by : (here : Bool) → (N == m.id.number) ≡ here
-            → Goes head member At book cluster (hear_events cluster j carried m)
+            → Goes head member At cluster (hear_events cluster j carried m)
         by false apart = comes-other m (ne-from N m.id.number apart) same free leave
         by true at =
-            let known : IsDeclared head m = declared-in head few cluster good.matched.members m.id.number m
+            let known : IsDeclared head m = declared-in head few cluster good.members m.id.number m
             (subst (IsKnownEnd cluster.facts.members) same
-            (good.matched.failsafe.between j carried flies).1) in
+            (good.facts.sent j carried flies).0.to) in
             let mine : m ≡ member = same-as-member head few member declared m known (eq-from N m.id.number at) in
             let to_it : carried.message.to ≡ ends.Member member = same ∙ ap (λ (x : Member). ends.Member x) mine in
             let left =
-            subst (λ (x : Member). Leave head member book cluster (hear_events cluster j carried x)) mine leave in
+            subst (λ (x : Member). Leave head member cluster (hear_events cluster j carried x)) mine leave in
             let then =
-            ((inputs-keep head).hears book cluster j carried member good flies to_it free).behind left.meets in
-            let heard = hears-beside head book (book ++ hear_events cluster j carried member) member rank number cluster
+            hears-owned head few cluster j carried member good flies to_it in
+            let heard = hears-beside head member rank number cluster
             phase good j carried flies to_it free other then in
-            subst (λ (x : Member). Goes head member At book cluster (hear_events cluster j carried x)) (sym mine)
+            subst (λ (x : Member). Goes head member At cluster (hear_events cluster j carried x)) (sym mine)
             (record { good = then; within = heard.phase_is; serves = heard.serves })
 
-    pub stays-other : Leave head member book cluster
+    pub stays-other : Leave head member cluster
         (message_events_by cluster j carried (delivery_of cluster.facts.cuts cluster.facts.processes carried.message))
-        → Goes head member At book cluster
+        → Goes head member At cluster
         (message_events_by cluster j carried (delivery_of cluster.facts.cuts cluster.facts.processes carried.message))
     stays-other = by (delivery_of cluster.facts.cuts cluster.facts.processes carried.message) refl
       where
-        lost : Leave head member book cluster (event_of cluster (kinds.Message (Lost j)))
-            → Goes head member At book cluster (event_of cluster (kinds.Message (Lost j)))
+        lost : Leave head member cluster (event_of cluster (kinds.Message (Lost j)))
+            → Goes head member At cluster (event_of cluster (kinds.Message (Lost j)))
         lost leave =
-            let then = (kept-loss head book cluster j good).behind leave.meets in
+            let then = lost-owned head cluster j good in
             record {
               good = then;
               within =
-                  phase-beside head book (book ++ event_of cluster (kinds.Message (Lost j))) member rank number cluster
-                  (event_of cluster (kinds.Message (Lost j))) good then leave.alone phase (tt, tt)
+                  phase-beside head member rank number cluster
+                  (event_of cluster (kinds.Message (Lost j))) good then leave phase (tt, tt)
                   (λ last low. (tt, tt));
               serves = (tt, tt);
             }
 
         by : (delivery : Delivery)
             → delivery_of cluster.facts.cuts cluster.facts.processes carried.message ≡ delivery
-            → Leave head member book cluster (message_events_by cluster j carried delivery)
-            → Goes head member At book cluster (message_events_by cluster j carried delivery)
+            → Leave head member cluster (message_events_by cluster j carried delivery)
+            → Goes head member At cluster (message_events_by cluster j carried delivery)
         by deliveries.Open is leave = comes-by carried.message.to refl is leave
         by deliveries.Cut is leave = lost leave
-        by deliveries.Suspended is leave = goes-none head member At book cluster good phase
+        by deliveries.Suspended is leave = goes-none head member At cluster good phase
         by deliveries.Gone is leave = lost leave

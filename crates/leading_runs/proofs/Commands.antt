@@ -1,5 +1,5 @@
 -- A steady leader stays so over each step of a run that leaves it alone, and so over the run.
-use Rattle.std.proofs.Common.{Bool, List, None, Option, Some, [], ap, arith, cond, false, inl, length, nat_le, not, refl, slice_get, subst, suc, sym, true, ℕ, ◌++◌, ◌==◌, ◌∙◌, ◌∷◌, ◌≡◌, ◌≤◌}
+use Rattle.std.proofs.Common.{Bool, List, None, Option, Some, [], ap, arith, cond, false, inl, length, nat_le, not, refl, slice_get, subst, suc, sym, true, ℕ, ◌==◌, ◌∙◌, ◌∷◌, ◌≡◌, ◌≤◌}
 use Rattle.agent_model.specs.Agents.{AgentFacts, Outcome, RoleFacts}
 use Rattle.agent_model.specs.declared.heard.Heard.TheVariants.{Wake}
 use Rattle.agent_model.specs.declared.knowledge.Knowledge.{Knowledge}
@@ -41,11 +41,9 @@ use Rattle.leading_runs.proofs.Ticking.{keeps-scheduled, keeps-ticks}
 use Rattle.leading_runs.proofs.Waking.{same-as-member}
 use Rattle.leading_runs.proofs.Walking.{Goes, Keeps, Leave, Within, goes-none, keeps-each, keeps-then}
 use Rattle.leading_runs.specs.Schedule.{KeepSchedule, KeepsSchedule}
-use Rattle.lease_inputs.proofs.EveryInput.{kept-wake}
+use Rattle.lease_owners.proofs.EveryRun.{commanded-owned, promoted-owned, started-owned, wake-owned}
 use Rattle.lease_model.proofs.Tools.{and-first, eq-from, ne-from}
-use Rattle.lease_parts.proofs.Commands.{kept-command-kind, kept-promote, kept-restarts}
-use Rattle.lease_parts.specs.Bridged.{Bridged}
-use Rattle.lease_parts.specs.Kept.{IsKept}
+use Rattle.lease_owners.specs.Kept.{IsOwned}
 use Rattle.pat_base.specs.declared.member_id.MemberId.{MemberId}
 use Rattle.pat_base.specs.declared.member_id.TheConstants.{MOST_MEMBERS}
 use Rattle.patronictl.specs.Answers.{Asks, CtlTold, Prints}
@@ -70,21 +68,21 @@ module _ (head : HeadText) (few : length (names_of head) ≤ MOST_MEMBERS) (memb
   abbrev Kept : (Cluster → List Event) → Type 0
   Kept part = Keeps head member (In 0) (In 0) part
 
-  goes-for_some : {X : Type 0} (found : Option X) (part : X → List Event) (book : List Event) (cluster : Cluster)
-      → Bridged head book cluster → In 0 cluster
-      → ((x : X) → found ≡ Some x → Leave head member book cluster (part x) →
-      Goes head member (In 0) book cluster (part x))
-      → Leave head member book cluster (for_some found part)
-      → Goes head member (In 0) book cluster (for_some found part)
-  goes-for_some None part book cluster good within each_is leave = goes-none head member (In 0) book cluster good within
-  goes-for_some (Some x) part book cluster good within each_is leave = each_is x refl leave
+  goes-for_some : {X : Type 0} (found : Option X) (part : X → List Event) (cluster : Cluster)
+      → IsOwned head cluster → In 0 cluster
+      → ((x : X) → found ≡ Some x → Leave head member cluster (part x) →
+      Goes head member (In 0) cluster (part x))
+      → Leave head member cluster (for_some found part)
+      → Goes head member (In 0) cluster (for_some found part)
+  goes-for_some None part cluster good within each_is leave = goes-none head member (In 0) cluster good within
+  goes-for_some (Some x) part cluster good within each_is leave = each_is x refl leave
 
-  goes-if : (test : Bool) (xs ys : List Event) (book : List Event) (cluster : Cluster)
-      → (test ≡ true → Leave head member book cluster xs → Goes head member (In 0) book cluster xs)
-      → (test ≡ false → Leave head member book cluster ys → Goes head member (In 0) book cluster ys)
-      → Leave head member book cluster (cond test xs ys) → Goes head member (In 0) book cluster (cond test xs ys)
-  goes-if true xs ys book cluster first second leave = first refl leave
-  goes-if false xs ys book cluster first second leave = second refl leave
+  goes-if : (test : Bool) (xs ys : List Event) (cluster : Cluster)
+      → (test ≡ true → Leave head member cluster xs → Goes head member (In 0) cluster xs)
+      → (test ≡ false → Leave head member cluster ys → Goes head member (In 0) cluster ys)
+      → Leave head member cluster (cond test xs ys) → Goes head member (In 0) cluster (cond test xs ys)
+  goes-if true xs ys cluster first second leave = first refl leave
+  goes-if false xs ys cluster first second leave = second refl leave
 
   -- at rank 0 it waits for no message
   rests : (seen : Seen) (stage : Stage member seen) → rank_of member seen stage ≤ 0 → (i : ℕ)
@@ -105,60 +103,60 @@ module _ (head : HeadText) (few : length (names_of head) ≤ MOST_MEMBERS) (memb
       by (Decides settling asks past txn writes request decision is_it granted grant sets) e = no-rank 0 e
 
   -- ---- a message is delivered or lost by a line
-  arrives : (j : ℕ) (carried : InFlightFacts) (book : List Event) (cluster : Cluster) → Bridged head book cluster
+  arrives : (j : ℕ) (carried : InFlightFacts) (cluster : Cluster) → IsOwned head cluster
       → In 0 cluster → in_flight cluster.facts.flight j ≡ Some carried
       → delivery_of cluster.facts.cuts cluster.facts.processes carried.message ≡ deliveries.Open
-      → Leave head member book cluster (arrival_events_at cluster j carried carried.message.to)
-      → Goes head member (In 0) book cluster (arrival_events_at cluster j carried carried.message.to)
-  arrives j carried book cluster good within flies free leave =
+      → Leave head member cluster (arrival_events_at cluster j carried carried.message.to)
+      → Goes head member (In 0) cluster (arrival_events_at cluster j carried carried.message.to)
+  arrives j carried cluster good within flies free leave =
       let phase = within.1 in
-      let goes = comes-by head few member declared_is 0 within.0 book cluster good phase j carried flies
+      let goes = comes-by head few member declared_is 0 within.0 cluster good phase j carried flies
       (rests phase.seen phase.stage phase.ranked j) carried.message.to refl free leave in
       record { good = goes.good; within = (within.0, goes.within); serves = goes.serves }
 
-  delivers-by : (j : ℕ) (carried : InFlightFacts) (book : List Event) (cluster : Cluster) → Bridged head book cluster
+  delivers-by : (j : ℕ) (carried : InFlightFacts) (cluster : Cluster) → IsOwned head cluster
       → In 0 cluster → in_flight cluster.facts.flight j ≡ Some carried → (delivery : Delivery)
       → delivery_of cluster.facts.cuts cluster.facts.processes carried.message ≡ delivery
-      → Leave head member book cluster (deliver_events_by cluster j carried delivery)
-      → Goes head member (In 0) book cluster (deliver_events_by cluster j carried delivery)
-  delivers-by j carried book cluster good within flies deliveries.Open is leave =
-      arrives j carried book cluster good within flies is leave
-  delivers-by j carried book cluster good within flies deliveries.Cut is leave =
-      keeps-note head few member 0 (notes.Undeliverable j) book cluster good within leave
-  delivers-by j carried book cluster good within flies deliveries.Suspended is leave =
-      keeps-note head few member 0 (notes.Undeliverable j) book cluster good within leave
-  delivers-by j carried book cluster good within flies deliveries.Gone is leave =
-      keeps-loss head few member 0 j book cluster good within leave
+      → Leave head member cluster (deliver_events_by cluster j carried delivery)
+      → Goes head member (In 0) cluster (deliver_events_by cluster j carried delivery)
+  delivers-by j carried cluster good within flies deliveries.Open is leave =
+      arrives j carried cluster good within flies is leave
+  delivers-by j carried cluster good within flies deliveries.Cut is leave =
+      keeps-note head few member 0 (notes.Undeliverable j) cluster good within leave
+  delivers-by j carried cluster good within flies deliveries.Suspended is leave =
+      keeps-note head few member 0 (notes.Undeliverable j) cluster good within leave
+  delivers-by j carried cluster good within flies deliveries.Gone is leave =
+      keeps-loss head few member 0 j cluster good within leave
 
-  delivers : (j : ℕ) (book : List Event) (cluster : Cluster) → Bridged head book cluster → In 0 cluster
+  delivers : (j : ℕ) (cluster : Cluster) → IsOwned head cluster → In 0 cluster
       → (found : Option InFlightFacts) → in_flight cluster.facts.flight j ≡ found
-      → Leave head member book cluster (deliver_events cluster j found)
-      → Goes head member (In 0) book cluster (deliver_events cluster j found)
-  delivers j book cluster good within None is leave =
-      keeps-note head few member 0 (notes.NoMessage j) book cluster good within leave
-  delivers j book cluster good within (Some carried) is leave = delivers-by j carried book cluster good within is
+      → Leave head member cluster (deliver_events cluster j found)
+      → Goes head member (In 0) cluster (deliver_events cluster j found)
+  delivers j cluster good within None is leave =
+      keeps-note head few member 0 (notes.NoMessage j) cluster good within leave
+  delivers j cluster good within (Some carried) is leave = delivers-by j carried cluster good within is
       (delivery_of cluster.facts.cuts cluster.facts.processes carried.message) refl leave
 
   loses : (j : ℕ) (found : Option InFlightFacts) → Kept (λ cluster. lose_events cluster j found)
-  loses j None book cluster good within leave =
-      keeps-note head few member 0 (notes.NoMessage j) book cluster good within leave
-  loses j (Some carried) book cluster good within leave =
-      keeps-loss head few member 0 j book cluster good within leave
+  loses j None cluster good within leave =
+      keeps-note head few member 0 (notes.NoMessage j) cluster good within leave
+  loses j (Some carried) cluster good within leave =
+      keeps-loss head few member 0 j cluster good within leave
 
   -- ---- an agent is woken by a line
-  turns-own : (book : List Event) (cluster : Cluster) → Bridged head book cluster → (seen : Seen)
+  turns-own : (cluster : Cluster) → IsOwned head cluster → (seen : Seen)
       → Stands member seen cluster → (stage : Stage member seen) → rank_of member seen stage ≤ 0
       → OnlyMail member seen stage cluster.facts.flight → OlderMail member seen stage cluster.facts.flight
-      → Leave head member book cluster (wake_events_of cluster member)
-      → Goes head member (In 0) book cluster (wake_events_of cluster member)
-  turns-own book cluster good seen stands (IsDue waits due) less only older leave = absurd (seven less)
+      → Leave head member cluster (wake_events_of cluster member)
+      → Goes head member (In 0) cluster (wake_events_of cluster member)
+  turns-own cluster good seen stands (IsDue waits due) less only older leave = absurd (seven less)
     where
       seven : 7 ≤ 0 → ⊥
       seven e = omega (arith, e)
-  turns-own book cluster good seen stands (Turns number carried turn mail) less only older leave =
+  turns-own cluster good seen stands (Turns number carried turn mail) less only older leave =
       absurd (rests seen (Turns number carried turn mail) less number refl)
-  turns-own book cluster good seen stands (Sleeps waits later past) less only older leave =
-      let here = standing-of head book cluster member seen good stands in
+  turns-own cluster good seen stands (Sleeps waits later past) less only older leave =
+      let here = standing-of head cluster member seen good stands in
       let o : Outcome = here.o in
       let after : Cluster = cluster_over cluster (wake_events_of cluster member) in
       let none : o.knows.waited ≡ None = ap (λ (k : Knowledge). k.waited) here.knows ∙ waits in
@@ -167,7 +165,7 @@ module _ (head : HeadText) (few : length (names_of head) ≤ MOST_MEMBERS) (memb
       ∙ ap (nat_le seen.agent.knows.next_turn.0) stands.clock_is
       ∙ early-turn head few member seen.clock seen.agent.knows.next_turn.0 later in
       let rest = sleeps-on member cluster seen.process o stands.process_is here.stands here.leads none early in
-      let then = (kept-wake head book cluster member declared_is good).behind leave.meets in
+      let then = wake-owned head few cluster member declared_is good in
       let same : (i : ℕ) → in_flight after.facts.flight i ≡ in_flight cluster.facts.flight i =
       λ i. ap (λ (f : Flight). in_flight f i) rest.silent.flight in
       let leaves : Leaves member cluster after = record {
@@ -189,7 +187,7 @@ module _ (head : HeadText) (few : length (names_of head) ≤ MOST_MEMBERS) (memb
         good = then;
         within = (
           0,
-          phase-left head (book ++ wake_events_of cluster member) member 0 0 cluster after (record {
+          phase-left head member 0 0 cluster after (record {
             seen = seen;
             stands = stands;
             stage = Sleeps waits later past;
@@ -212,41 +210,41 @@ module _ (head : HeadText) (few : length (names_of head) ≤ MOST_MEMBERS) (memb
       }
 
   turns-by : (m : Member) → IsDeclared head m → Kept (λ cluster. wake_events_of cluster m)
-  turns-by m is book cluster good within leave = by (N == m.id.number) refl
+  turns-by m is cluster good within leave = by (N == m.id.number) refl
     where
-      by : (here : Bool) → (N == m.id.number) ≡ here → Goes head member (In 0) book cluster (wake_events_of cluster m)
-      by false apart = wakes-other head few member 0 m (ne-from N m.id.number apart) is book cluster good within leave
+      by : (here : Bool) → (N == m.id.number) ≡ here → Goes head member (In 0) cluster (wake_events_of cluster m)
+      by false apart = wakes-other head few member 0 m (ne-from N m.id.number apart) is cluster good within leave
       by true at =
           let phase = within.1 in
-          subst (λ (x : Member). Leave head member book cluster (wake_events_of cluster x) →
-          Goes head member (In 0) book cluster (wake_events_of cluster x))
+          subst (λ (x : Member). Leave head member cluster (wake_events_of cluster x) →
+          Goes head member (In 0) cluster (wake_events_of cluster x))
           (sym (same-as-member head few member declared_is m is (eq-from N m.id.number at)))
-          (turns-own book cluster good phase.seen phase.stands phase.stage phase.ranked phase.only phase.older) leave
+          (turns-own cluster good phase.seen phase.stands phase.stage phase.ranked phase.only phase.older) leave
 
   turns : (m : Member) → IsDeclared head m → Kept (λ cluster. turn_events cluster m)
-  turns m is book cluster good within leave =
-      goes-for_some (slice_get cluster.facts.processes m.id.number) (turn_events_if cluster m) book cluster good within
-      (λ process found. goes-if (may_act process) (wake_events_of cluster m) [] book cluster
-      (λ acts. turns-by m is book cluster good within)
-      (λ idle left. goes-none head member (In 0) book cluster good within)) leave
+  turns m is cluster good within leave =
+      goes-for_some (slice_get cluster.facts.processes m.id.number) (turn_events_if cluster m) cluster good within
+      (λ process found. goes-if (may_act process) (wake_events_of cluster m) [] cluster
+      (λ acts. turns-by m is cluster good within)
+      (λ idle left. goes-none head member (In 0) cluster good within)) leave
 
   -- ---- requests: a reply is told, and what operates is forbidden
   answers : (m : Member) (o : Outcome) (answer : Answered) → Kept (λ cluster. answered_events cluster m o answer)
-  answers m o (Acts asked) book cluster good within leave = absurd leave.alone.0
-  answers m o (Replies reply) book cluster good within leave =
-      keeps-note head few member 0 (notes.Answered m reply.status reply.json reply.body) book cluster good within leave
+  answers m o (Acts asked) cluster good within leave = absurd leave.0
+  answers m o (Replies reply) cluster good within leave =
+      keeps-note head few member 0 (notes.Answered m reply.status reply.json reply.body) cluster good within leave
 
   requests : (asker : Asker) (request : RequestText) (m : Member)
       → Kept (λ cluster. request_events cluster asker request m)
-  requests asker request m book cluster good within leave =
-      goes-for_some (slice_get cluster.facts.processes m.id.number) (request_events_if cluster asker request m) book
+  requests asker request m cluster good within leave =
+      goes-for_some (slice_get cluster.facts.processes m.id.number) (request_events_if cluster asker request m)
       cluster good within
       (λ process found. goes-if (may_act process)
       (for_some (standing_of cluster m) (request_events_of cluster request m))
-      (event_of cluster (kinds.Note (silence asker m))) book cluster
-      (λ acts left. goes-for_some (standing_of cluster m) (request_events_of cluster request m) book cluster good within
-      (λ o stands. answers m o (answer_at (moment_of cluster) o request) book cluster good within) left)
-      (λ idle left. keeps-note head few member 0 (silence asker m) book cluster good within left)) leave
+      (event_of cluster (kinds.Note (silence asker m))) cluster
+      (λ acts left. goes-for_some (standing_of cluster m) (request_events_of cluster request m) cluster good within
+      (λ o stands. answers m o (answer_at (moment_of cluster) o request) cluster good within) left)
+      (λ idle left. keeps-note head few member 0 (silence asker m) cluster good within left)) leave
 
   visits : (visit : Visit) (m : Member) → Kept (λ cluster. visit_events cluster visit m)
   visits (visit_kinds.Request request) m = requests askers.Connection (request_text request) m
@@ -255,9 +253,9 @@ module _ (head : HeadText) (few : length (names_of head) ≤ MOST_MEMBERS) (memb
   visits visit_kinds.Failure m = keeps-note head few member 0 notes.ConnectionFailed
 
   asks : (id : MemberId) (asked : RequestText) → Kept (λ cluster. asking_events cluster id asked)
-  asks id asked book cluster good within leave =
-      goes-for_some (declared cluster id) (request_events cluster askers.Line asked) book cluster good within
-      (λ m is. requests askers.Line asked m book cluster good within) leave
+  asks id asked cluster good within leave =
+      goes-for_some (declared cluster id) (request_events cluster askers.Line asked) cluster good within
+      (λ m is. requests askers.Line asked m cluster good within) leave
 
   tells : (told : CtlTold) → Kept (λ cluster. ctl_events cluster told)
   tells (Prints lines) = keeps-each head member (In 0) ctl_line_events
@@ -265,44 +263,41 @@ module _ (head : HeadText) (few : length (names_of head) ≤ MOST_MEMBERS) (memb
   tells (Asks id asked) = asks id asked
 
   -- ---- agents that start, promotions by hand, and the other commands
-  starts : (m : Member) → (book : List Event) (cluster : Cluster) (id : MemberId) → declared cluster id ≡ Some m
-      → Bridged head book cluster → In 0 cluster → Leave head member book cluster (agent_start_events cluster m)
-      → Goes head member (In 0) book cluster (agent_start_events cluster m)
-  starts m book cluster id found good within leave =
+  starts : (m : Member) → Kept (λ cluster. agent_start_events cluster m)
+  starts m cluster good within leave =
       let phase = within.1 in
-      goes-beside head few member 0 book cluster (agent_start_events cluster m) good within leave
-      (subst (λ (o : Option Member). IsKept head book cluster (for_some o (agent_start_events cluster))) found
-      (kept-restarts head few book cluster id good))
+      goes-beside head few member 0 cluster (agent_start_events cluster m) good within leave
+      (started-owned head cluster (Some m) good)
       (starts-elsewhere N cluster m phase.seen.process phase.stands.process_is
       (and-first phase.seen.process.running (not phase.seen.process.suspended) phase.stands.acts))
       (λ last low. starts-beside N last cluster m)
 
   command : (line : Command) → Kept (λ cluster. command_events cluster line)
-  command (commands.Turn id) book cluster good within leave =
-      goes-for_some (declared cluster id) (turn_events cluster) book cluster good within
-      (λ m is. turns m (declared-now head few cluster good.matched.members id m is) book cluster good within) leave
-  command (commands.Deliver number) book cluster good within leave =
-      delivers number book cluster good within (in_flight cluster.facts.flight number) refl leave
-  command (commands.Lose number) book cluster good within leave =
-      loses number (in_flight cluster.facts.flight number) book cluster good within leave
-  command (commands.StartAgent id) book cluster good within leave =
-      goes-for_some (declared cluster id) (agent_start_events cluster) book cluster good within
-      (λ m is. starts m book cluster id is good within) leave
-  command (commands.Promote id) book cluster good within leave =
-      goes-for_some (declared cluster id) (promote_events cluster) book cluster good within
-      (λ m is left. goes-beside head few member 0 book cluster (promote_events cluster m) good within left
-      (kept-promote head book cluster m good) (promotes-elsewhere N cluster m within.1.stands.primary)
+  command (commands.Turn id) cluster good within leave =
+      goes-for_some (declared cluster id) (turn_events cluster) cluster good within
+      (λ m is. turns m (declared-now head few cluster good.members id m is) cluster good within) leave
+  command (commands.Deliver number) cluster good within leave =
+      delivers number cluster good within (in_flight cluster.facts.flight number) refl leave
+  command (commands.Lose number) cluster good within leave =
+      loses number (in_flight cluster.facts.flight number) cluster good within leave
+  command (commands.StartAgent id) cluster good within leave =
+      goes-for_some (declared cluster id) (agent_start_events cluster) cluster good within
+      (λ m is. starts m cluster good within) leave
+  command (commands.Promote id) cluster good within leave =
+      goes-for_some (declared cluster id) (promote_events cluster) cluster good within
+      (λ m is left. goes-beside head few member 0 cluster (promote_events cluster m) good within left
+      (promoted-owned head cluster m good) (promotes-elsewhere N cluster m within.1.stands.primary)
       (λ last low. promotes-beside N last cluster m)) leave
-  command (commands.Rest id request) book cluster good within leave =
-      asks id (asked_in_words request) book cluster good within leave
-  command (commands.Ctl said) book cluster good within leave =
-      tells (ctl_told_at cluster said) book cluster good within leave
-  command (commands.Stream id most) book cluster good within leave =
-      goes-for_some (declared cluster id) (receive_events_at_most cluster most) book cluster good within
-      (λ m is. keeps-receive head few member 0 most m book cluster good within) leave
-  command line book cluster good within leave =
-      goes-beside head few member 0 book cluster (events_of cluster (kinds_of (command_kind cluster line))) good within
-      leave (kept-command-kind head few book cluster line good) (command-elsewhere N cluster line leave.alone)
+  command (commands.Rest id request) cluster good within leave =
+      asks id (asked_in_words request) cluster good within leave
+  command (commands.Ctl said) cluster good within leave =
+      tells (ctl_told_at cluster said) cluster good within leave
+  command (commands.Stream id most) cluster good within leave =
+      goes-for_some (declared cluster id) (receive_events_at_most cluster most) cluster good within
+      (λ m is. keeps-receive head few member 0 most m cluster good within) leave
+  command line cluster good within leave =
+      goes-beside head few member 0 cluster (events_of cluster (kinds_of (command_kind cluster line))) good within
+      leave (commanded-owned head cluster line good) (command-elsewhere N cluster line leave)
       (λ last low. command-beside N last cluster line)
 
   -- ---- each step, and each run
@@ -312,13 +307,13 @@ module _ (head : HeadText) (few : length (names_of head) ≤ MOST_MEMBERS) (memb
       (keeps-ticks head few member declared_is) (keeps-scheduled head few member declared_is)
   step steps.Tick keeps = absurd keeps
   step (steps.Command line) keeps = command line
-  step (steps.Connection id visit) keeps = λ book cluster good within leave.
-      goes-for_some (declared cluster id) (visit_events cluster visit) book cluster good within
-      (λ m is. visits visit m book cluster good within) leave
+  step (steps.Connection id visit) keeps = λ cluster good within leave.
+      goes-for_some (declared cluster id) (visit_events cluster visit) cluster good within
+      (λ m is. visits visit m cluster good within) leave
 
   acknowledges : Kept (λ cluster. each acknowledge_events cluster cluster.facts.members)
-  acknowledges book cluster good within leave =
-      keeps-each head member (In 0) acknowledge_events (keeps-acknowledges head few member 0) cluster.facts.members book
+  acknowledges cluster good within leave =
+      keeps-each head member (In 0) acknowledge_events (keeps-acknowledges head few member 0) cluster.facts.members
       cluster good within leave
 
   next : (one : Step) → KeepsSchedule one → Kept (λ cluster. next_events cluster one)
@@ -327,7 +322,7 @@ module _ (head : HeadText) (few : length (names_of head) ≤ MOST_MEMBERS) (memb
       (λ later. each acknowledge_events later later.facts.members) (step one keeps) acknowledges
 
   pub run : (list : List Step) → KeepSchedule list → Kept (λ cluster. run_events cluster list)
-  run [] keep book cluster good within leave = goes-none head member (In 0) book cluster good within
-  run (one ∷ more) keep book cluster good within leave =
+  run [] keep cluster good within leave = goes-none head member (In 0) cluster good within
+  run (one ∷ more) keep cluster good within leave =
       keeps-then head member (In 0) (In 0) (In 0) (λ c. next_events c one) (λ later. run_events later more)
-      (next one keep.0) (run more keep.1) book cluster good within leave
+      (next one keep.0) (run more keep.1) cluster good within leave

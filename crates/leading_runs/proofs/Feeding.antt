@@ -18,7 +18,6 @@ use Rattle.leader_key.specs.Watchdog.{is_armable, timeout_of}
 use Rattle.member_options.specs.Options.{margin_span}
 use Rattle.cluster_view.specs.Snapshots.{SnapshotFacts, settings_in}
 use Rattle.script_model.specs.Script.{HeadText}
-use Rattle.event_book.specs.declared.event.Event.{Event}
 use Rattle.event_book.specs.declared.event.EventKind.TheVariants as kinds
 use Rattle.event_book.specs.declared.event.MessageEvent.TheVariants.{Delivered}
 use Rattle.event_book.specs.declared.link.LinkEnd.TheVariants as ends
@@ -54,7 +53,7 @@ use Rattle.cluster_model.specs.Messages.{answer_message, decision_body, hear_eve
 use Rattle.cluster_model.specs.State.{Cluster}
 use Rattle.cluster_model.proofs.Places.{eq-self}
 use Rattle.lease_model.proofs.Tools.{none-some}
-use Rattle.lease_parts.specs.Bridged.{Bridged}
+use Rattle.lease_owners.specs.Kept.{IsOwned}
 use Rattle.leading_law.specs.Leading.{HasSynced, IsRenewed, Requires, Stays, StepsOnce, Writes, WritesSync}
 use Rattle.leading_law.specs.OwnInputs.{HasRoom, HasSettled, LeadsOnAt, Rests, Syncs as AsksSync, SyncsAtMost, deadline_fed}
 use Rattle.leading_law.proofs.Inputs.{leads-on-at, settles-granted, settles-refused}
@@ -102,8 +101,8 @@ fed-processes member said cluster None = refl
 fed-processes member said cluster (Some until) = refl
 
 -- ---- its renewal is granted
-module _ (head : HeadText) (book : List Event) (member : Member) (cluster : Cluster) (seen : Seen) (number : ℕ)
-    (carried : InFlightFacts) (turn : InTurn seen) (good : Bridged head book cluster)
+module _ (head : HeadText) (member : Member) (cluster : Cluster) (seen : Seen) (number : ℕ)
+    (carried : InFlightFacts) (turn : InTurn seen) (good : IsOwned head cluster)
     (stands : Stands member seen cluster) (flies : in_flight cluster.facts.flight number ≡ Some carried)
     (asks : turn.waited.question ≡ Renewing) (sent : turn.waited.sent ≡ record { 0 = seen.clock })
     (span : turn.waited.ttl ≡ lease_span (settings_seen seen)) (none : seen.agent.knows.turn_failover ≡ None)
@@ -116,7 +115,7 @@ module _ (head : HeadText) (book : List Event) (member : Member) (cluster : Clus
     (alone : IsAlone member seen seen.agent.knows.sequence (without_message cluster.facts.flight number))
     (left : LeaveAlone member.id.number cluster (hear_events cluster number carried member)) where
   abbrev Here : StandsLeading member seen.agent seen.options cluster
-  Here = standing head book cluster member seen good stands
+  Here = standing head cluster member seen good stands
 
   abbrev O : Outcome
   O = Here.o
@@ -136,7 +135,7 @@ module _ (head : HeadText) (book : List Event) (member : Member) (cluster : Clus
   hears : HearsRenewal member turn.waited.sequence seen.key.revision turn.waited O.knows cluster carried
   hears = hears-renewal member seen.process.incarnation turn.waited.sequence request seen.key.revision txn turn.waited
       O.knows cluster carried is grant_is (ap (λ (k : Knowledge). k.waited) Here.knows ∙ turn.waits) asks refl
-      (ap (λ (k : Knowledge). k.who.me.number) Here.knows ∙ (knows-itself head book cluster member seen good stands).me)
+      (ap (λ (k : Knowledge). k.who.me.number) Here.knows ∙ (knows-itself head cluster member seen good stands).me)
 
   abbrev Heard_it : Heard
   Heard_it = heards.Granted turn.waited.sequence hears.grant Snapshot
@@ -349,14 +348,14 @@ not-lease (txns.Sync (sync_txns.SetSync revision sync standbys quorum)) writes =
 not-lease (txns.Sync (sync_txns.DropSync revision sync)) writes = refl
 not-lease _ writes = absurd writes
 
-module _ (head : HeadText) (book : List Event) (member : Member) (cluster : Cluster) (seen : Seen) (number : ℕ)
-    (carried : InFlightFacts) (turn : InTurn seen) (good : Bridged head book cluster)
+module _ (head : HeadText) (member : Member) (cluster : Cluster) (seen : Seen) (number : ℕ)
+    (carried : InFlightFacts) (turn : InTurn seen) (good : IsOwned head cluster)
     (stands : Stands member seen cluster) (flies : in_flight cluster.facts.flight number ≡ Some carried)
     (to : carried.message.to ≡ ends.Member member) (settling : Settling)
     (asks : turn.waited.question ≡ Syncing settling) (past : LastsOn seen)
     (alone : IsAlone member seen seen.agent.knows.sequence (without_message cluster.facts.flight number)) where
   abbrev HereS : StandsLeading member seen.agent seen.options cluster
-  HereS = standing head book cluster member seen good stands
+  HereS = standing head cluster member seen good stands
 
   abbrev S : Outcome
   S = HereS.o
@@ -437,7 +436,7 @@ module _ (head : HeadText) (book : List Event) (member : Member) (cluster : Clus
       ap (λ (b : Bool). not b && (grant.by.number == S.knows.who.me.number)) leased
       ∙ ap (λ (n : ℕ). grant.by.number == n)
       (ap (λ (k : Knowledge). k.who.me.number) HereS.knows
-      ∙ (knows-itself head book cluster member seen good stands).me)
+      ∙ (knows-itself head cluster member seen good stands).me)
       ∙ ap (λ (m : MemberId). m.number == member.id.number) by ∙ eq-self member.id.number in
       record {
         phase = settled-phase (settings_in S.knows.settings snapshot)

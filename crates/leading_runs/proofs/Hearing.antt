@@ -1,11 +1,10 @@
 -- What a leader hears beside what it waits for: it answers other members, and drops the rest.
-use Rattle.std.proofs.Common.{ℕ, ◌≡◌, ◌≢◌, ◌+◌, ◌≤◌, ◌<◌, ◌==◌, ◌&&◌, ◌||◌, not, Bool, true, false, cond, List, Option, Some, None, option_map, slice_get, refl, sym, ap, subst, ◌∙◌, inl, inr, arith}
+use Rattle.std.proofs.Common.{ℕ, ◌≡◌, ◌≢◌, ◌+◌, ◌≤◌, ◌<◌, ◌==◌, ◌&&◌, ◌||◌, not, Bool, true, false, cond, Option, Some, None, option_map, slice_get, refl, sym, ap, subst, ◌∙◌, inl, inr, arith}
 use Rattle.std.proofs.lemmas.Bool.Decides.{nat_tests}
 use Rattle.std.specs.Prelude.{◌⊎◌}
 use Rattle.pat_base.specs.declared.member_id.MemberId.{MemberId}
 use Rattle.lease_store.specs.declared.granted.Granted.{Granted}
 use Rattle.script_model.specs.Script.{HeadText}
-use Rattle.event_book.specs.declared.event.Event.{Event}
 use Rattle.event_book.specs.declared.event.EventKind.TheVariants as kinds
 use Rattle.event_book.specs.declared.event.MessageEvent.TheVariants.{Delivered}
 use Rattle.event_book.specs.declared.link.LinkEnd.{LinkEnd}
@@ -38,15 +37,16 @@ use Rattle.cluster_model.specs.Messages.{hear_events, heard_message, input_event
 use Rattle.cluster_model.specs.State.{Cluster}
 use Rattle.lease_model.proofs.Tools.{ne-from, put-there}
 use Rattle.lease_book.proofs.Entries.{in-without}
-use Rattle.lease_parts.specs.Bridged.{Bridged}
+use Rattle.lease_owners.specs.Kept.{IsOwned}
 use Rattle.lease_parts.specs.Waiting.{IsAddressed}
 use Rattle.leading_law.specs.Leading.{AnswersAlone, AnswersNumber, AwaitsNoPeer, IsPeerAnswer}
-use Rattle.leading_law.specs.OwnInputs.{AnswersOnly, AsksNothing, IsGuardedSo, IsUntouched, SleepsOn, StandsSo}
-use Rattle.leading_law.proofs.Inputs.{bridged-ask, bridged-failsafe, drops-it, drops-peers}
+use Rattle.leading_law.specs.OwnInputs.{AnswersOnly, AsksNothing, IsGuardedSo, IsUntouched, NumbersRise, SleepsOn, StandsSo}
+use Rattle.leading_law.proofs.Inputs.{drops-it, drops-peers, numbered-ask, numbered-failsafe}
 use Rattle.leading_law.proofs.Dropping.{drops, drops-peer}
 use Rattle.leading_law.proofs.Turns.{answers-asked, refuses}
 use Rattle.leading_parts.specs.Aside.{ServesOn}
-use Rattle.leading_parts.specs.Holding.{AsksRenewalOf, IsMemberOf}
+use Rattle.lease_owners.specs.Asking.{AsksFor}
+use Rattle.leading_parts.specs.Holding.{IsMemberOf}
 use Rattle.leading_parts.proofs.Answering.{without-there}
 use Rattle.leading_runs.specs.Joining.{StandsLeading}
 use Rattle.leading_runs.specs.Steady.{IsOfRun}
@@ -135,25 +135,25 @@ no-own n run incarnation (ends.Member by) (ends.Member other) apart member own =
 no-own n run incarnation ends.Store (ends.Member other) apart member own = member refl
 no-own n run incarnation ends.Store ends.Store apart member own = own
 
-peer-renewal : (revision : ℕ) (by other : Member) (body : Body) → IsAddressed (ends.Member by) (ends.Member other) body
-    → AsksRenewalOf revision body → ⊥
-peer-renewal revision by other (bodies.Request txn) addressed asks = addressed
-peer-renewal revision by other _ addressed asks = asks
+peer-asks : (revision : ℕ) (by other : Member) (body : Body) → IsAddressed (ends.Member by) (ends.Member other) body
+    → AsksFor revision body → ⊥
+peer-asks revision by other (bodies.Request txn) addressed asks = addressed
+peer-asks revision by other _ addressed asks = asks
 
-no-renewal : (n revision : ℕ) (from to : LinkEnd) (body : Body) → IsAddressed from to body → (to ≡ ends.Store → ⊥)
-    → IsMemberOf n from → AsksRenewalOf revision body → ⊥
-no-renewal n revision (ends.Member by) ends.Store body addressed apart same asks = apart refl
-no-renewal n revision (ends.Member by) (ends.Member other) body addressed apart same asks =
-    peer-renewal revision by other body addressed asks
-no-renewal n revision ends.Store to body addressed apart same asks = same
+none-asked : (n revision : ℕ) (from to : LinkEnd) (body : Body) → IsAddressed from to body → (to ≡ ends.Store → ⊥)
+    → IsMemberOf n from → AsksFor revision body → ⊥
+none-asked n revision (ends.Member by) ends.Store body addressed apart same asks = apart refl
+none-asked n revision (ends.Member by) (ends.Member other) body addressed apart same asks =
+    peer-asks revision by other body addressed asks
+none-asked n revision ends.Store to body addressed apart same asks = same
 
-module _ (head : HeadText) (book later : List Event) (member : Member) (rank mailed : ℕ) (cluster : Cluster)
-    (phase : Phase member rank mailed cluster) (good : Bridged head book cluster) (number : ℕ)
+module _ (head : HeadText) (member : Member) (rank mailed : ℕ) (cluster : Cluster)
+    (phase : Phase member rank mailed cluster) (good : IsOwned head cluster) (number : ℕ)
     (carried : InFlightFacts) (flies : in_flight cluster.facts.flight number ≡ Some carried)
     (to : carried.message.to ≡ ends.Member member)
     (free : delivery_of cluster.facts.cuts cluster.facts.processes carried.message ≡ deliveries.Open)
     (other : IsMail member phase.seen phase.stage number → ⊥)
-    (then : Bridged head later (cluster_over cluster (hear_events cluster number carried member))) where
+    (then : IsOwned head (cluster_over cluster (hear_events cluster number carried member))) where
   abbrev seen : Seen
   seen = phase.seen
 
@@ -161,7 +161,7 @@ module _ (head : HeadText) (book later : List Event) (member : Member) (rank mai
   stands = phase.stands
 
   abbrev Here : StandsLeading member seen.agent seen.options cluster
-  Here = standing head book cluster member seen good stands
+  Here = standing head cluster member seen good stands
 
   abbrev O : Outcome
   O = Here.o
@@ -171,6 +171,9 @@ module _ (head : HeadText) (book later : List Event) (member : Member) (rank mai
 
   abbrev After : Cluster
   After = cluster_over cluster (hear_events cluster number carried member)
+
+  rises : NumbersRise cluster
+  rises = record { order = good.facts.order; flown = good.facts.flown }
 
   -- what it did, with how far its turn has come
   pub record Hears : Type 0 where
@@ -209,21 +212,21 @@ module _ (head : HeadText) (book later : List Event) (member : Member) (rank mai
   still-flying (IsDue waits due) apart flying kept = tt
   still-flying (Turns mail one turn is) apart flying kept =
       let away : mail ≢ number = λ same. apart (sym same) in
-      kept mail away (good.matched.flight.flown mail one flying)
-      ∙ in-without 0 cluster.facts.flight number mail good.matched.flight.order
+      kept mail away (good.facts.flown mail one flying)
+      ∙ in-without 0 cluster.facts.flight number mail good.facts.order
       ∙ put-there (in_flight cluster.facts.flight) number None mail away ∙ flying
 
   was-flying : (i : ℕ) (one : InFlightFacts) → in_flight Arrived.facts.flight i ≡ Some one
       → in_flight cluster.facts.flight i ≡ Some one
   was-flying i one found =
-      (without-there cluster.facts.flight number good.matched.flight.order i one found).1
+      (without-there cluster.facts.flight number good.facts.order i one found).1
 
   -- it dropped it
   dropped-it : SleepsOn member O Arrived After → Phase member rank mailed After
   dropped-it sleeps =
       let same : (i : ℕ) → in_flight After.facts.flight i ≡ in_flight Arrived.facts.flight i =
       λ i. ap (λ (f : Flight). in_flight f i) sleeps.silent.flight in
-      phase-left head later member rank mailed cluster After phase then
+      phase-left head member rank mailed cluster After phase then
       (stays-so sleeps.agent sleeps.untouched sleeps.guards)
       (still-flying phase.stage other phase.flying (λ i apart low. same i))
       (λ i one found. inl (was-flying i one (sym (same i) ∙ found)))
@@ -237,8 +240,8 @@ module _ (head : HeadText) (book later : List Event) (member : Member) (rank mai
       → (one.message.to ≡ ends.Store → ⊥) → (one.message.from ≡ ends.Store → ⊥)
       → IsHarmless member seen (limit_of member seen phase.stage) one.message
   new-harmless one i found apart from = record {
-    unasked = no-renewal member.id.number seen.key.revision one.message.from one.message.to one.message.body
-        (then.matched.waiting.carried i one found).addressed apart;
+    unasked = none-asked member.id.number seen.key.revision one.message.from one.message.to one.message.body
+        (then.facts.sent i one found).0.addressed apart;
     older = λ own. absurd (no-own member.id.number seen.process.incarnation one.message.incarnation one.message.from
         one.message.to apart from own);
   }
@@ -259,7 +262,7 @@ module _ (head : HeadText) (book later : List Event) (member : Member) (rank mai
 
   answered-it : AnswersOnly member O Arrived After → Phase member rank mailed After
   answered-it answers =
-      phase-left head later member rank mailed cluster After phase then
+      phase-left head member rank mailed cluster After phase then
       (stays-so answers.agent answers.untouched answers.guards)
       (still-flying phase.stage other phase.flying
       (λ i apart low. answers.silent.others i (apart-next i cluster.facts.sent low)))
@@ -338,7 +341,7 @@ module _ (head : HeadText) (book later : List Event) (member : Member) (rank mai
       drops-answer (heards.ReadAnswered carried.message.sequence (snapshot_in cluster carried))
       (ap (heard_in cluster carried) says) from (ap is_answer says) refl
   from-store (bodies.Granted request leased) says from addressed =
-      let grant = good.matched.flight.grants number carried flies in
+      let grant = (good.facts.sent number carried flies).0.grant in
       let one : Granted = record { revision = grant.0; by = member.id; leased = leased } in
       drops-answer (heards.Granted carried.message.sequence one (snapshot_in cluster carried))
       (ap (heard_in cluster carried) says
@@ -361,7 +364,7 @@ module _ (head : HeadText) (book later : List Event) (member : Member) (rank mai
       ∙ ap (λ (end : LinkEnd). option_map (λ (id : MemberId). let one : Heard =
       heards.Asked id carried.message.incarnation carried.message.sequence in one) (member_at_end end)) from in
       record {
-        phase_is = answered-it (bridged-ask head book member cluster seen.process O number carried good
+        phase_is = answered-it (numbered-ask member cluster seen.process O number carried rises
             stands.process_is Here.stands Here.leads flies to by.id carried.message.incarnation
             carried.message.sequence told);
         serves = serves-answer heard told (answers-asked (moment_of cluster) (points_of cluster member) by.id
@@ -377,7 +380,7 @@ module _ (head : HeadText) (book later : List Event) (member : Member) (rank mai
       heards.FailsafeAsked id carried.message.incarnation carried.message.sequence ttl in one) (member_at_end end))
       from in
       record {
-        phase_is = answered-it (bridged-failsafe head book member cluster seen.process O number carried good
+        phase_is = answered-it (numbered-failsafe member cluster seen.process O number carried rises
             stands.process_is Here.stands Here.leads flies to by.id carried.message.incarnation
             carried.message.sequence ttl told);
         serves = serves-answer heard told (refuses (moment_of cluster) (points_of cluster member) by.id
@@ -399,4 +402,4 @@ module _ (head : HeadText) (book later : List Event) (member : Member) (rank mai
   pub hears-beside : Hears
   hears-beside = by-sender carried.message.from refl
       (subst (λ (end : LinkEnd). IsAddressed carried.message.from end carried.message.body) to
-      (good.matched.waiting.carried number carried flies).addressed)
+      (good.facts.sent number carried flies).0.addressed)

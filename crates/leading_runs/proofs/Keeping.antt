@@ -25,13 +25,14 @@ use Rattle.cluster_model.specs.Inputs.{agent_at}
 use Rattle.cluster_model.specs.Messages.{answer_message, decision_body}
 use Rattle.cluster_model.specs.State.{Cluster}
 use Rattle.lease_model.specs.Stores.{leader_key_of}
-use Rattle.lease_parts.specs.Bridged.{Bridged}
+use Rattle.lease_owners.specs.Kept.{IsOwned}
 use Rattle.run_promise.proofs.Members.{members-over}
 use Rattle.leading_parts.specs.Alone.{IsWithStore, LeaveAlone}
 use Rattle.leading_parts.specs.Aside.{IsBeside, IsOther, LeavesMail}
 use Rattle.leading_parts.specs.Elsewhere.{AreElsewhere}
-use Rattle.leading_parts.specs.Holding.{AsksRenewalOf, HasKey, IsMemberOf, LeavesKey, LeavesSettings}
-use Rattle.leading_parts.proofs.Askers.{asks-renewal}
+use Rattle.lease_owners.specs.Asking.{AsksFor}
+use Rattle.leading_parts.specs.Holding.{HasKey, IsMemberOf, IsUnasked, LeavesKey, LeavesSettings}
+use Rattle.leading_parts.proofs.Askers.{asks-own}
 use Rattle.leading_parts.proofs.Aside.{leaves-over}
 use Rattle.leading_parts.proofs.Frames.{same-over}
 use Rattle.leading_runs.specs.Steady.{IsOfRun, IsUndisturbed, SetsConfig}
@@ -55,7 +56,7 @@ pub undisturbed-left : (member : Member) (seen : Seen) (before after : Cluster) 
 undisturbed-left member seen before after leaves was = record {
   sets = subst (SetsConfig (settings_seen seen)) (sym leaves.config) was.sets;
   unpaused = was.unpaused;
-  failover = leaves.failover was.failover;
+  unasked = leaves.unasked was.unasked;
 }
 
 pub stands-left : (member : Member) (seen : Seen) (before after : Cluster) → Leaves member before after
@@ -85,7 +86,7 @@ options-over cluster (event ∷ events) = options-over (cluster_after cluster ev
 pub settings-same : (before after : Cluster) → after.facts.keys ≡ before.facts.keys → LeavesSettings before after
 settings-same before after same = record {
   config = ap (λ (k : Keys). find key_cmp keys.Config k.pairs) same;
-  failover = λ none. ap (λ (k : Keys). find key_cmp keys.Failover k.pairs) same ∙ none;
+  unasked = subst (λ (k : Keys). IsUnasked k.pairs) (sym same);
 }
 
 pub leader-same : (before after : Cluster) → after.facts.keys ≡ before.facts.keys → LeavesKey before after
@@ -150,9 +151,9 @@ flying-left member seen (Turns number carried turn mail_is) before after mail fl
     mail carried flying (mail-with member seen turn.waited carried mail_is)
 
 -- ---- messages that are new
--- a message isn't the member's renewal, and is an older one of its run, if it is one
+-- a message doesn't ask for the member's key, and is an older one of its run, if it is one
 pub record IsHarmless (member : Member) (seen : Seen) (limit : ℕ) (message : Message) : Type 0 where
-  pub unasked : IsMemberOf member.id.number message.from → AsksRenewalOf seen.key.revision message.body → ⊥
+  pub unasked : IsMemberOf member.id.number message.from → AsksFor seen.key.revision message.body → ⊥
   pub older : IsOwn member seen message → message.sequence < limit
 
 other-member : (n : ℕ) (end : LinkEnd) → IsOther n end → IsMemberOf n end → ⊥
@@ -179,11 +180,11 @@ AddsHarmless member seen stage before after = (i : ℕ) (carried : InFlightFacts
     → (in_flight before.facts.flight i ≡ Some carried)
     ⊎ IsHarmless member seen (limit_of member seen stage) carried.message
 
-module _ (head : HeadText) (book : List Event) (member : Member) (seen : Seen) (stage : Stage member seen)
-    (before after : Cluster) (good : Bridged head book after) (has : HasKey seen.key after)
+module _ (head : HeadText) (member : Member) (seen : Seen) (stage : Stage member seen)
+    (before after : Cluster) (good : IsOwned head after) (has : HasKey seen.key after)
     (holder : seen.key.holder ≡ member.id.number) (adds : AddsHarmless member seen stage before after) where
   only-by : OnlyMail member seen stage before.facts.flight → (i : ℕ) (carried : InFlightFacts)
-      → in_flight after.facts.flight i ≡ Some carried → AsksRenewalOf seen.key.revision carried.message.body
+      → in_flight after.facts.flight i ≡ Some carried → AsksFor seen.key.revision carried.message.body
       → (in_flight before.facts.flight i ≡ Some carried)
       ⊎ IsHarmless member seen (limit_of member seen stage) carried.message
       → IsMail member seen stage i
@@ -191,7 +192,7 @@ module _ (head : HeadText) (book : List Event) (member : Member) (seen : Seen) (
   only-by only i carried found asks (inr new) =
       absurd (new.unasked
       (subst (λ (n : ℕ). IsMemberOf n carried.message.from) holder
-      (asks-renewal head book after seen.key i carried good has found asks))
+      (asks-own head after good i carried found seen.key has asks))
       asks)
 
   pub only-left : OnlyMail member seen stage before.facts.flight → OnlyMail member seen stage after.facts.flight
@@ -209,12 +210,12 @@ module _ (head : HeadText) (book : List Event) (member : Member) (seen : Seen) (
   older-left older i carried found other own = older-by older i carried other own (adds i carried found)
 
 -- ---- a part that leaves all that, and adds what is harmless, leaves how far the turn has come
-pub phase-left : (head : HeadText) (book : List Event) (member : Member) (rank number : ℕ)
-    (before after : Cluster) (phase : Phase member rank number before) → Bridged head book after
+pub phase-left : (head : HeadText) (member : Member) (rank number : ℕ)
+    (before after : Cluster) (phase : Phase member rank number before) → IsOwned head after
     → Leaves member before after
     → IsFlying member phase.seen phase.stage after.facts.flight
     → AddsHarmless member phase.seen phase.stage before after → Phase member rank number after
-phase-left head book member rank number before after phase good leaves flying adds =
+phase-left head member rank number before after phase good leaves flying adds =
     let stands = stands-left member phase.seen before after leaves phase.stands in
     record {
       seen = phase.seen;
@@ -223,9 +224,9 @@ phase-left head book member rank number before after phase good leaves flying ad
       numbered = phase.numbered;
       ranked = phase.ranked;
       flying = flying;
-      only = only-left head book member phase.seen phase.stage before after good stands.key_is stands.holder adds
+      only = only-left head member phase.seen phase.stage before after good stands.key_is stands.holder adds
           phase.only;
-      older = older-left head book member phase.seen phase.stage before after good stands.key_is stands.holder adds
+      older = older-left head member phase.seen phase.stage before after good stands.key_is stands.holder adds
           phase.older;
     }
 
@@ -242,28 +243,28 @@ adds-beside member seen stage before after fresh i carried found = by (fresh i c
     by (inr other) = inr (other-harmless member seen (limit_of member seen stage) carried.message other)
 
 -- the number that it waits for was sent
-pub mail-sent : (head : HeadText) (book : List Event) (member : Member) (seen : Seen) (stage : Stage member seen)
-    (cluster : Cluster) → Bridged head book cluster → IsFlying member seen stage cluster.facts.flight
+pub mail-sent : (head : HeadText) (member : Member) (seen : Seen) (stage : Stage member seen)
+    (cluster : Cluster) → IsOwned head cluster → IsFlying member seen stage cluster.facts.flight
     → number_of member seen stage ≤ cluster.facts.sent
-mail-sent head book member seen (Sleeps waits later past) cluster good flying = omega arith
-mail-sent head book member seen (IsDue waits due) cluster good flying = omega arith
-mail-sent head book member seen (Turns number carried turn mail) cluster good flying =
-    good.matched.flight.flown number carried flying
+mail-sent head member seen (Sleeps waits later past) cluster good flying = omega arith
+mail-sent head member seen (IsDue waits due) cluster good flying = omega arith
+mail-sent head member seen (Turns number carried turn mail) cluster good flying =
+    good.facts.flown number carried flying
 
 -- events elsewhere and beside
-module _ (head : HeadText) (book later : List Event) (member : Member) (rank number : ℕ) (cluster : Cluster)
-    (events : List Event) (good : Bridged head book cluster)
-    (then : Bridged head later (cluster_over cluster events))
+module _ (head : HeadText) (member : Member) (rank number : ℕ) (cluster : Cluster)
+    (events : List Event) (good : IsOwned head cluster)
+    (then : IsOwned head (cluster_over cluster events))
     (alone : LeaveAlone member.id.number cluster events) where
   pub phase-beside : Phase member rank number cluster → AreElsewhere member.id.number cluster events
       → ((last : ℕ) → last ≤ cluster.facts.sent → AllAre (IsBeside member.id.number last) events)
       → Phase member rank number (cluster_over cluster events)
   phase-beside phase elsewhere beside =
       let last : ℕ = number_of member phase.seen phase.stage in
-      let low = mail-sent head book member phase.seen phase.stage cluster good phase.flying in
+      let low = mail-sent head member phase.seen phase.stage cluster good phase.flying in
       let left : LeavesMail member.id.number last cluster (cluster_over cluster events) =
-      leaves-over member.id.number last cluster events (beside last low) alone good.matched.flight.order low in
-      phase-left head later member rank number cluster (cluster_over cluster events) phase then
+      leaves-over member.id.number last cluster events (beside last low) alone good.facts.order low in
+      phase-left head member rank number cluster (cluster_over cluster events) phase then
       (leaves-elsewhere member cluster events elsewhere left.clock
       (leader-same cluster (cluster_over cluster events) left.keys)
       (settings-same cluster (cluster_over cluster events) left.keys))

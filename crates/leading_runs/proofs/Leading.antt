@@ -1,13 +1,16 @@
 -- A steady leader leads on, and its server accepts writes throughout.
-use Rattle.std.proofs.Common.{Bool, List, None, Option, Some, [], ap, arith, false, option_map, refl, slice_get, subst, suc, sym, true, ℕ, ◌++◌, ◌+◌, ◌<◌, ◌∙◌, ◌∷◌, ◌≡◌, ◌≤◌}
+use Rattle.std.proofs.Common.{Bool, List, None, Option, Some, [], ap, arith, false, length, option_map, replicate, refl, slice_get, subst, suc, sym, true, zero, ℕ, ◌++◌, ◌+◌, ◌<◌, ◌∙◌, ◌∷◌, ◌≡◌, ◌≤◌}
+use Rattle.std.proofs.lemmas.Option.{slice_get_within}
 use Rattle.cluster_model.proofs.Lists.{all-front}
-use Rattle.cluster_model.specs.Cluster.{cluster_over}
-use Rattle.cluster_model.specs.Next.{next_events, run_events}
+use Rattle.cluster_model.specs.Cluster.{cluster_after, cluster_over}
+use Rattle.cluster_model.specs.Next.{run_events}
 use Rattle.cluster_model.specs.Starting.{cluster_of}
 use Rattle.cluster_model.specs.State.{Cluster}
 use Rattle.cluster_model.specs.declared.step.Step.{Step}
 use Rattle.event_book.specs.Kinds.{AllAre}
-use Rattle.event_book.specs.Writers.{AcceptsWrites, writes_after, writes_now, writes_over}
+use Rattle.event_book.specs.Writers.{AcceptsWrites, writes_after, writes_in, writes_now, writes_over}
+use Rattle.event_book.specs.Facts.{Facts, facts_over}
+use Rattle.event_book.proofs.Told.{count-told, writes-same, writes-told}
 use Rattle.event_book.specs.declared.event.Event.{Event}
 use Rattle.event_book.specs.declared.event.EventKind.TheVariants as kinds
 use Rattle.event_book.specs.declared.event.EventKind.{EventKind}
@@ -16,27 +19,21 @@ use Rattle.event_book.specs.declared.event.WatchdogEvent.TheVariants as watchdog
 use Rattle.event_book.specs.declared.member.Member.{Member}
 use Rattle.leading_parts.specs.Alone.{LeaveAlone}
 use Rattle.leading_parts.specs.Aside.{ServesOn}
-use Rattle.leading_parts.specs.Ticked.{FiresPast}
+use Rattle.leading_parts.specs.Ticked.{FiresPast, IsPrimary}
 use Rattle.leading_runs.proofs.Stages.{Decides, Grants, IsDue, Mail, OlderMail, OnlyMail, Reads, Renews, Seen, Shows, Sleeps, Stage, Stands, Syncs, Turns, mail_rank, next_seen, rank_of}
 use Rattle.leading_runs.proofs.Commands.{run}
 use Rattle.leading_runs.proofs.Walking.{Goes, Within}
 use Rattle.leading_runs.specs.Lasting.{LeadOn, LeadsOnOver}
 use Rattle.leading_runs.specs.Schedule.{KeepSchedule}
 use Rattle.leading_runs.specs.Steady.{IsSteady}
-use Rattle.lease_book.proofs.Machines.{writes-in}
 use Rattle.lease_model.proofs.Tools.{none-some, put-all, put-there, some-is}
-use Rattle.lease_law.proofs.Runs.{assoc}
-use Rattle.lease_parts.proofs.Composing.{composable}
-use Rattle.lease_parts.proofs.First.{bridged-first}
-use Rattle.lease_parts.specs.Bridged.{Bridged}
-use Rattle.lease_parts.specs.Kept.{MeetsPremises}
-use Rattle.lease_runs.proofs.Steps.{keeps-run}
+use Rattle.lease_owners.specs.Kept.{IsOwned}
+use Rattle.lease_owners.proofs.EveryRun.{owned-behind}
 use Rattle.pat_base.specs.ServerState.{writes}
 use Rattle.pat_base.specs.declared.server_state.State.TheVariants as states
-use Rattle.pg_model.specs.Facts.{ServerFacts}
+use Rattle.pg_model.specs.Facts.{ServerFacts, fresh}
 use Rattle.run_promise.proofs.Members.{few-names}
-use Rattle.run_promise.proofs.Upholding.{over-append}
-use Rattle.script_model.specs.Script.{HeadText, IsHead}
+use Rattle.script_model.specs.Script.{HeadText, IsHead, names_of}
 
 -- ---- a steady leader's turn is over, and whose is over is steady
 pub asleep : (head : HeadText) (member : Member) (cluster : Cluster) → IsSteady member cluster
@@ -158,18 +155,36 @@ over-both : (writes : ℕ → Bool) (xs ys : List Event)
 over-both writes [] ys = refl
 over-both writes (x ∷ xs) ys = over-both (writes_after writes x.kind) xs ys
 
-run-both : (cluster : Cluster) (before later : List Step)
-    → run_events cluster (before ++ later)
-    ≡ run_events cluster before ++ run_events (cluster_over cluster (run_events cluster before)) later
-run-both cluster [] later = refl
-run-both cluster (one ∷ before) later =
-    let first : List Event = next_events cluster one in
-    let after : Cluster = cluster_over cluster first in
-    ap (λ (l : List Event). first ++ l) (run-both after before later)
-    ∙ sym (assoc first (run_events after before)
-    (run_events (cluster_over after (run_events after before)) later))
-    ∙ ap (λ (c : Cluster). (first ++ run_events after before) ++ run_events c later)
-    (sym (over-append cluster first (run_events after before)))
+-- ---- the book has a server accept writes as its state says
+none-write : (base count n : ℕ) → writes_in (replicate count (fresh base)) n ≡ false
+none-write base zero n = refl
+none-write base (suc count) zero = refl
+none-write base (suc count) (suc n) = none-write base count n
+
+facts-left : (cluster : Cluster) (events : List Event)
+    → (cluster_over cluster events).facts ≡ facts_over cluster.facts events
+facts-left cluster [] = refl
+facts-left cluster (event ∷ events) = facts-left (cluster_after cluster event.kind) events
+
+primary-writes : (found : Option ServerFacts)
+    → option_map (λ (s : ServerFacts). s.state) found ≡ Some states.Primary
+    → (s : ServerFacts) × ((found ≡ Some s) × (writes_now found ≡ true))
+primary-writes None e = absurd (none-some states.Primary e)
+primary-writes (Some s) e = (s, (refl, ap writes (some-is s.state states.Primary e)))
+
+primary-accepts : (head : HeadText) (book : List Event) (n : ℕ) → IsPrimary n (cluster_over (cluster_of head) book)
+    → AcceptsWrites book n
+primary-accepts head book n primary =
+    let start : Facts = (cluster_of head).facts in
+    let known : List ServerFacts = (cluster_over (cluster_of head) book).facts.servers in
+    let same : known ≡ (facts_over start book).servers =
+    ap (λ (f : Facts). f.servers) (facts-left (cluster_of head) book) in
+    let found = primary-writes (slice_get known n) primary in
+    let small : n < length start.servers =
+    subst (λ (count : ℕ). n < count) (ap (λ (l : List ServerFacts). length l) same ∙ count-told start book)
+    (slice_get_within known n found.0 found.1.0) in
+    sym (writes-same (writes_in start.servers) (λ m. false) book n (none-write head.base (length (names_of head)) n))
+    ∙ sym (writes-told start book n small) ∙ ap (λ (l : List ServerFacts). writes_in l n) (sym same) ∙ found.1.1
 
 module _ (head : HeadText) (is : IsHead head) (before later : List Step) (member : Member)
     (keep : KeepSchedule later) where
@@ -182,36 +197,22 @@ module _ (head : HeadText) (is : IsHead head) (before later : List Step) (member
   abbrev Later : List Event
   Later = run_events Start later
 
-  module _ (steady : IsSteady member Start) (alone : LeaveAlone member.id.number Start Later)
-      (met : MeetsPremises head (run_events (cluster_of head) (before ++ later))) where
-    met-so : MeetsPremises head (First ++ Later)
-    met-so = subst (MeetsPremises head) (run-both (cluster_of head) before later) met
+  module _ (steady : IsSteady member Start) (alone : LeaveAlone member.id.number Start Later) where
+    owned : IsOwned head Start
+    owned = owned-behind head (few-names head is) before
 
-    bridged : Bridged head First Start
-    bridged = (keeps-run head (few-names head is) before [] (cluster_of head)
-        (bridged-first head (few-names head is) met.hands_off.unpaused)).behind
-        ((composable head).front First Later met-so)
-
-    goes : Goes head member (Within head member 0) First Start Later
+    goes : Goes head member (Within head member 0) Start Later
     goes = run head (few-names head is) member
-        (sym (ap (λ (ms : List Member). slice_get ms member.id.number) bridged.matched.members) ∙ steady.declared)
-        later keep First
-        Start bridged (asleep head member Start steady) (record { meets = met-so; alone = alone })
+        (sym (ap (λ (ms : List Member). slice_get ms member.id.number) owned.members) ∙ steady.declared)
+        later keep Start owned (asleep head member Start steady) alone
 
     stays-steady : IsSteady member (cluster_over Start Later)
     stays-steady =
         let phase = goes.within.1 in
         awake member (cluster_over Start Later) phase.seen phase.stands phase.stage phase.ranked phase.only phase.older
 
-    primary-writes : (found : Option ServerFacts)
-        → option_map (λ (s : ServerFacts). s.state) found ≡ Some states.Primary → writes_now found ≡ true
-    primary-writes None e = absurd (none-some states.Primary e)
-    primary-writes (Some s) e = ap writes (some-is s.state states.Primary e)
-
     began-writing : writes_over (λ n. false) First member.id.number ≡ true
-    began-writing = sym (ap (λ (w : ℕ → Bool). w member.id.number) (writes-in First))
-        ∙ bridged.matched.machines.writes member.id.number
-        ∙ primary-writes (slice_get Start.facts.servers member.id.number) steady.primary
+    began-writing = primary-accepts head First member.id.number steady.primary
 
     writes-throughout : (front rest : List Event) → front ++ rest ≡ Later
         → AcceptsWrites (First ++ front) member.id.number
@@ -227,5 +228,5 @@ module _ (head : HeadText) (is : IsHead head) (before later : List Step) (member
 
 -- so it is of a run, wherever that is cut
 pub leads-on : (head : HeadText) → IsHead head → (steps : List Step) → LeadOn head steps
-leads-on head is steps before later rest member cut keep steady alone met =
-    leads-on-over head is before later member keep steady alone met
+leads-on head is steps before later rest member cut keep steady alone =
+    leads-on-over head is before later member keep steady alone

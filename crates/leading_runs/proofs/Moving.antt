@@ -1,5 +1,5 @@
 -- What a steady leader waits for comes: its turn goes on.
-use Rattle.std.proofs.Common.{Bool, List, Some, ap, arith, cond, false, length, not, refl, subst, suc, sym, true, ℕ, ◌&&◌, ◌++◌, ◌+◌, ◌<◌, ◌==◌, ◌||◌, ◌∙◌, ◌≡◌, ◌≤◌}
+use Rattle.std.proofs.Common.{Bool, List, Some, ap, arith, cond, false, length, not, refl, subst, suc, sym, true, ℕ, ◌&&◌, ◌+◌, ◌<◌, ◌==◌, ◌||◌, ◌∙◌, ◌≡◌, ◌≤◌}
 use Rattle.cluster_model.proofs.Places.{eq-self}
 use Rattle.cluster_model.specs.Cluster.{cluster_over}
 use Rattle.cluster_model.specs.Deliveries.{delivery_of, delivery_to, delivery_to_agent, is_answer, is_stale, link_of_message}
@@ -20,7 +20,7 @@ use Rattle.leading_parts.proofs.Aside.{serves-elsewhere}
 use Rattle.leading_parts.proofs.Others.{arrival-elsewhere}
 use Rattle.leading_parts.specs.Alone.{IsWithStore, LeaveAlone}
 use Rattle.leading_parts.specs.Aside.{ServesOn}
-use Rattle.leading_parts.specs.Holding.{AsksRenewalOf}
+use Rattle.lease_owners.specs.Asking.{AsksFor}
 use Rattle.leading_runs.proofs.Asking.{turn-decides, turn-grants, turn-shows}
 use Rattle.leading_runs.proofs.Feeding.{feeds-serving, turn-feeds, turn-settles}
 use Rattle.leading_runs.proofs.Joins.{hears-key}
@@ -29,9 +29,9 @@ use Rattle.leading_runs.proofs.Standing.{IsAlone, arrived-alone}
 use Rattle.leading_runs.proofs.Turning.{renews-serving, turn-renews}
 use Rattle.leading_runs.proofs.Waking.{raised}
 use Rattle.leading_runs.proofs.Walking.{Goes, Leave, Within}
-use Rattle.lease_inputs.proofs.EveryInput.{inputs-keep}
-use Rattle.lease_parts.proofs.StoreArrivals.{kept-store-arrival}
-use Rattle.lease_parts.specs.Bridged.{Bridged}
+use Rattle.lease_owners.proofs.Arrivals.{arrival-owned}
+use Rattle.lease_owners.proofs.EveryRun.{hears-owned}
+use Rattle.lease_owners.specs.Kept.{IsOwned}
 use Rattle.pat_base.specs.declared.member_id.TheConstants.{MOST_MEMBERS}
 use Rattle.run_promise.specs.Members.{IsDeclared}
 use Rattle.script_model.specs.Script.{HeadText, names_of}
@@ -89,20 +89,20 @@ module _ (head : HeadText) (few : length (names_of head) ≤ MOST_MEMBERS) (memb
       unstale false = refl
 
   -- ---- what it waits for comes: its turn goes on
-  module _ (rank : ℕ) (book : List Event) (cluster : Cluster) (good : Bridged head book cluster) (seen : Seen)
+  module _ (rank : ℕ) (cluster : Cluster) (good : IsOwned head cluster) (seen : Seen)
       (stands : Stands member seen cluster) (number : ℕ) (carried : InFlightFacts) (turn : InTurn seen)
       (flies : in_flight cluster.facts.flight number ≡ Some carried)
       (only : (i : ℕ) (one : InFlightFacts) → in_flight cluster.facts.flight i ≡ Some one →
-      AsksRenewalOf seen.key.revision one.message.body → i ≡ number)
+      AsksFor seen.key.revision one.message.body → i ≡ number)
       (older : (i : ℕ) (one : InFlightFacts) → in_flight cluster.facts.flight i ≡ Some one → (i ≡ number → ⊥) →
       IsOwn member seen one.message → one.message.sequence < seen.agent.knows.sequence)
-      (leave : Leave head member book cluster
+      (leave : Leave head member cluster
       (message_events_by cluster number carried
       (delivery_of cluster.facts.cuts cluster.facts.processes carried.message)))
       (with : IsWithStore N carried.message.from carried.message.to) where
     uncut : is_cut cluster.facts.cuts (link_of_message carried.message) ≡ false
     uncut = uncut-by cluster number carried (is_cut cluster.facts.cuts (link_of_message carried.message))
-        (delivery_to cluster.facts.processes carried.message carried.message.to) flies with leave.alone
+        (delivery_to cluster.facts.processes carried.message carried.message.to) flies with leave
 
     abbrev Events : List Event
     Events = message_events_by cluster number carried
@@ -117,18 +117,18 @@ module _ (head : HeadText) (few : length (names_of head) ≤ MOST_MEMBERS) (memb
         ∙ ap (arrival_events_at cluster number carried) to
 
     goes-store : (to : carried.message.to ≡ ends.Store) (next now : ℕ) → next ≤ rank
-        → (Bridged head (book ++ arrival_events_at cluster number carried ends.Store)
+        → (IsOwned head
         (cluster_over cluster (arrival_events_at cluster number carried ends.Store)) →
         LeaveAlone N cluster (arrival_events_at cluster number carried ends.Store) →
         Phase member next now (cluster_over cluster (arrival_events_at cluster number carried ends.Store)))
-        → Goes head member (In rank) book cluster Events
+        → Goes head member (In rank) cluster Events
     goes-store to next now less phase =
         let same = to-store-is to in
-        let left = subst (Leave head member book cluster) same leave in
-        let then = (kept-store-arrival head book cluster number carried good flies to).behind left.meets in
-        subst (Goes head member (In rank) book cluster) (sym same) (record {
+        let left = subst (Leave head member cluster) same leave in
+        let then = arrival-owned head cluster number carried good flies to in
+        subst (Goes head member (In rank) cluster) (sym same) (record {
           good = then;
-          within = (now, raised head few member declared next rank now _ less (phase then left.alone));
+          within = (now, raised head few member declared next rank now _ less (phase then left));
           serves = serves-elsewhere N cluster (arrival_events_at cluster number carried ends.Store)
               (arrival-elsewhere N cluster number carried flies to);
         })
@@ -149,39 +149,39 @@ module _ (head : HeadText) (few : length (names_of head) ≤ MOST_MEMBERS) (memb
         → (LeaveAlone N cluster (hear_events cluster number carried member) →
         ((now : ℕ) × Phase member next now (cluster_over cluster (hear_events cluster number carried member)))
         × AllAre (ServesOn N) (hear_events cluster number carried member))
-        → Goes head member (In rank) book cluster Events
+        → Goes head member (In rank) cluster Events
     goes-heard to run next less phase =
         let is = to-it-is to run in
-        let left = subst (Leave head member book cluster) is.1 leave in
-        let result = phase left.alone in
-        subst (Goes head member (In rank) book cluster) (sym is.1) (record {
-          good = ((inputs-keep head).hears book cluster number carried member good flies to is.0).behind left.meets;
+        let left = subst (Leave head member cluster) is.1 leave in
+        let result = phase left in
+        subst (Goes head member (In rank) cluster) (sym is.1) (record {
+          good = hears-owned head few cluster number carried member good flies to;
           within = (result.0.0, raised head few member declared next rank result.0.0 _ less result.0.1);
           serves = result.1;
         })
 
     alone-arrived : IsAlone member seen seen.agent.knows.sequence (without_message cluster.facts.flight number)
     alone-arrived =
-        arrived-alone member seen seen.agent.knows.sequence number cluster good.matched.flight.order only older
+        arrived-alone member seen seen.agent.knows.sequence number cluster good.facts.order only older
 
     pub moves : (mail : Mail member seen turn.waited carried)
         → mail_rank member seen turn.waited carried mail ≤ suc rank
-        → Goes head member (In rank) book cluster Events
+        → Goes head member (In rank) cluster Events
     moves (Reads asks last is) less =
         let to = ap (λ (m : Message). m.to) is in
         goes-store to 5 (cluster.facts.sent + 1) (omega (arith, less))
-        (λ then left. turn-shows head book (book ++ arrival_events_at cluster number carried ends.Store) member cluster
+        (λ then left. turn-shows head member cluster
         seen number carried good stands flies to left only older then turn asks last is)
     moves (Renews asks sent span none info status row listed is) less =
         let to = ap (λ (m : Message). m.to) is in
         goes-store to 3 (cluster.facts.sent + 1) (omega (arith, less))
-        (λ then left. turn-grants head book (book ++ arrival_events_at cluster number carried ends.Store) member cluster
+        (λ then left. turn-grants head member cluster
         seen number carried good stands flies to left only older then turn asks sent span none info status row listed
         is)
     moves (Syncs settling asks past txn writes is) less =
         let to = ap (λ (m : Message). m.to) is in
         goes-store to 1 (cluster.facts.sent + 1) (omega (arith, less))
-        (λ then left. turn-decides head book (book ++ arrival_events_at cluster number carried ends.Store) member
+        (λ then left. turn-decides head member
         cluster seen number carried good stands flies to left only older then turn settling asks past txn writes is)
     moves (Shows asks last is shows sets failover) less =
         let hears = hears-key member seen.process.incarnation turn.waited.sequence seen.key cluster carried is shows
@@ -189,23 +189,23 @@ module _ (head : HeadText) (few : length (names_of head) ≤ MOST_MEMBERS) (memb
         goes-heard hears.to (ap (λ (m : Message). m.incarnation) is) 4 (omega (arith, less)) (λ left. (
           (
             cluster.facts.sent + 1,
-            turn-renews head book member cluster seen number carried turn good stands flies asks
+            turn-renews head member cluster seen number carried turn good stands flies asks
                 last is hears sets failover alone-arrived left,
           ),
-          renews-serving head book member cluster seen number carried turn good stands flies asks last is hears sets
+          renews-serving head member cluster seen number carried turn good stands flies asks last is hears sets
               failover alone-arrived left,
         ))
     moves (Grants asks sent span none txn request is grant sets lasts) less =
         goes-heard (ap (λ (m : Message). m.to) is) (ap (λ (m : Message). m.incarnation) is) 2 (omega (arith, less))
         (λ left. (
-          turn-feeds head book member cluster seen number carried turn good stands flies asks sent span none txn request
+          turn-feeds head member cluster seen number carried turn good stands flies asks sent span none txn request
               is grant sets lasts alone-arrived left,
-          feeds-serving head book member cluster seen number carried turn good stands flies asks sent span none txn
+          feeds-serving head member cluster seen number carried turn good stands flies asks sent span none txn
               request is grant sets lasts alone-arrived left,
         ))
     moves (Decides settling asks past txn writes request decision is granted grant sets) less =
         let to = ap (λ (m : Message). m.to) is in
-        let settled = turn-settles head book member cluster seen number carried turn good stands flies to settling asks
+        let settled = turn-settles head member cluster seen number carried turn good stands flies to settling asks
         past alone-arrived txn writes request decision is granted grant sets in
         goes-heard to (ap (λ (m : Message). m.incarnation) is) 0 (omega (arith, less))
         (λ left. ((0, settled.phase), settled.serves))

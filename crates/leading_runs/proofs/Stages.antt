@@ -32,7 +32,8 @@ use Rattle.cluster_model.specs.Messages.{agent_message, answer_message, decision
 use Rattle.cluster_model.specs.State.{Cluster}
 use Rattle.lease_model.specs.Leases.{LeaderKey}
 use Rattle.leading_law.specs.Leading.{WritesSync}
-use Rattle.leading_parts.specs.Holding.{AsksRenewalOf, HasKey, ShowsKey}
+use Rattle.lease_owners.specs.Asking.{AsksFor}
+use Rattle.leading_parts.specs.Holding.{HasKey, ShowsKey}
 use Rattle.leading_parts.specs.Ticked.{FiresPast, IsPrimary}
 use Rattle.leading_runs.specs.Steady.{IsOfRun, IsUndisturbed, SetsConfig, TurnsInTime}
 
@@ -171,10 +172,10 @@ module _ (member : Member) (seen : Seen) where
   limit_of (IsDue waits due) = seen.agent.knows.sequence + 1
   limit_of (Turns number carried turn mail) = seen.agent.knows.sequence
 
-  -- who asks for the renewal of its key is what it waits for
+  -- who asks for its key is what it waits for
   abbrev pub OnlyMail : Stage member seen → Flight → Type 0
   OnlyMail stage flight = (i : ℕ) (carried : InFlightFacts) → in_flight flight i ≡ Some carried
-      → AsksRenewalOf seen.key.revision carried.message.body → IsMail stage i
+      → AsksFor seen.key.revision carried.message.body → IsMail stage i
 
   -- a message of its run
   abbrev pub IsOwn : Message → Type 0

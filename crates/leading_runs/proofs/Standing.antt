@@ -13,7 +13,6 @@ use Rattle.lease_store.specs.KeyOrder.{key_cmp}
 use Rattle.cluster_view.specs.Snapshots.{settings_by, settings_of_entry}
 use Rattle.pg_model.specs.Facts.{ServerFacts}
 use Rattle.script_model.specs.Script.{HeadText}
-use Rattle.event_book.specs.declared.event.Event.{Event}
 use Rattle.event_book.specs.declared.event.EventKind.TheVariants as kinds
 use Rattle.event_book.specs.declared.event.MessageEvent.TheVariants.{Delivered}
 use Rattle.event_book.specs.declared.member.Member.{Member}
@@ -26,10 +25,10 @@ use Rattle.cluster_model.proofs.Places.{there}
 use Rattle.lease_model.proofs.Tools.{eq-from, ne-from, none-some, some-is}
 use Rattle.lease_model.specs.Stores.{leader_key_of}
 use Rattle.lease_book.specs.Flights.{Rises}
-use Rattle.lease_parts.specs.Bridged.{Bridged, KnowsItself}
-use Rattle.lease_parts.specs.Declaring.{declared_of}
+use Rattle.lease_owners.specs.Kept.{IsOwned, KnowsItsRun}
 use Rattle.leading_law.specs.OwnInputs.{IsUntouched, SendsOne, StandsSo}
-use Rattle.leading_parts.specs.Holding.{AsksRenewalOf, NoneRenews}
+use Rattle.lease_owners.specs.Asking.{AsksFor}
+use Rattle.leading_parts.specs.Holding.{NoneAsks}
 use Rattle.leading_parts.proofs.Answering.{without-there}
 use Rattle.leading_runs.specs.Joining.{StandsLeading}
 use Rattle.leading_runs.specs.Steady.{IsUndisturbed, SetsConfig, TurnsInTime}
@@ -43,12 +42,12 @@ server-of : (found : Option ServerFacts) → option_map (λ (s : ServerFacts). s
 server-of None e = absurd (none-some states.Primary e)
 server-of (Some s) e = (s, (refl, some-is s.state states.Primary e))
 
-pub standing : (head : HeadText) (book : List Event) (cluster : Cluster) (member : Member) (seen : Seen)
-    → Bridged head book cluster → Stands member seen cluster
+pub standing : (head : HeadText) (cluster : Cluster) (member : Member) (seen : Seen)
+    → IsOwned head cluster → Stands member seen cluster
     → StandsLeading member seen.agent seen.options cluster
-standing head book cluster member seen good stands =
+standing head cluster member seen good stands =
     let n : ℕ = member.id.number in
-    let sized = good.matched.sized in
+    let sized = good.sized in
     let within = slice_get_within cluster.facts.processes n seen.process stands.process_is in
     let server = server-of (slice_get cluster.facts.servers n) stands.primary in
     let deadline = there cluster.facts.deadlines n
@@ -63,14 +62,13 @@ agent-found : (found : Option (Option AgentFacts)) (agent : AgentFacts)
 agent-found None agent e = absurd (none-some agent e)
 agent-found (Some found) agent e = ap Some e
 
--- what its agent knows of itself
-pub knows-itself : (head : HeadText) (book : List Event) (cluster : Cluster) (member : Member) (seen : Seen)
-    → Bridged head book cluster → Stands member seen cluster
-    → KnowsItself (declared_of head).failsafe member.id.number
-    (slice_get cluster.facts.processes member.id.number) seen.agent
-knows-itself head book cluster member seen good stands =
-    good.matched.agents member.id.number seen.agent
-    (agent-found (slice_get cluster.agents member.id.number) seen.agent stands.agent_is)
+-- what its agent knows of its run
+pub knows-itself : (head : HeadText) (cluster : Cluster) (member : Member) (seen : Seen)
+    → IsOwned head cluster → Stands member seen cluster
+    → KnowsItsRun member.id.number (slice_get cluster.facts.processes member.id.number) seen.agent
+knows-itself head cluster member seen good stands =
+    (good.agents member.id.number seen.agent
+    (agent-found (slice_get cluster.agents member.id.number) seen.agent stands.agent_is)).0
 
 -- ---- behind an input of its own
 leader-role : (role : RoleFacts) → is_leader role ≡ true → (revision : ℕ) × (role ≡ Leader revision)
@@ -123,7 +121,7 @@ not-before clock retry more = grind (arith, nat_tests, more)
 
 -- ---- what is in flight before its own question
 pub record IsAlone (member : Member) (seen : Seen) (limit : ℕ) (flight : Flight) : Type 0 where
-  pub none : NoneRenews seen.key.revision flight
+  pub none : NoneAsks seen.key.revision flight
   pub older : (i : ℕ) (carried : InFlightFacts) → in_flight flight i ≡ Some carried
       → IsOwn member seen carried.message → carried.message.sequence < limit
 
@@ -173,7 +171,7 @@ untouched-before n number cluster after same = record {
 pub arrived-alone : (member : Member) (seen : Seen) (limit number : ℕ) (cluster : Cluster)
     → Rises 0 cluster.facts.flight
     → ((i : ℕ) (carried : InFlightFacts) → in_flight cluster.facts.flight i ≡ Some carried →
-    AsksRenewalOf seen.key.revision carried.message.body → i ≡ number)
+    AsksFor seen.key.revision carried.message.body → i ≡ number)
     → ((i : ℕ) (carried : InFlightFacts) → in_flight cluster.facts.flight i ≡ Some carried → (i ≡ number → ⊥) →
     IsOwn member seen carried.message → carried.message.sequence < limit)
     → IsAlone member seen limit (cluster_after cluster (kinds.Message (Delivered number))).facts.flight

@@ -1,11 +1,11 @@
 -- What happens elsewhere and beside a steady leader, and its own wake.
-use Rattle.std.proofs.Common.{Bool, List, None, Option, Some, [], ap, arith, cond, false, length, nat_le, refl, slice_get, subst, sym, true, ℕ, ◌&&◌, ◌++◌, ◌<◌, ◌||◌, ◌∙◌, ◌≡◌, ◌≢◌, ◌≤◌}
+use Rattle.std.proofs.Common.{Bool, List, None, Option, Some, [], ap, arith, cond, false, length, nat_le, refl, slice_get, subst, sym, true, ℕ, ◌&&◌, ◌<◌, ◌||◌, ◌∙◌, ◌≡◌, ◌≢◌, ◌≤◌}
 use Rattle.agent_model.specs.Agents.{AgentFacts, Leader, Outcome, RoleFacts}
 use Rattle.agent_model.specs.Wake.{finds_ended, has_turn, is_overdue}
 use Rattle.agent_model.specs.declared.heard.Heard.TheVariants.{Wake}
 use Rattle.agent_model.specs.declared.knowledge.PendingQuestion.{PendingQuestion}
 use Rattle.agent_model.specs.declared.machine.Machine.{Machine}
-use Rattle.cluster_model.specs.Cluster.{cluster_after}
+use Rattle.cluster_model.specs.Cluster.{cluster_after, cluster_over}
 use Rattle.cluster_model.specs.Inputs.{has_work, is_to_wake, may_act, moment_of, outcome_of, standing_of, standing}
 use Rattle.cluster_model.specs.Machines.{machine_of}
 use Rattle.cluster_model.specs.Messages.{no_message, wake_events_if, wake_events_of}
@@ -30,12 +30,8 @@ use Rattle.leading_runs.proofs.Keeping.{phase-beside}
 use Rattle.leading_runs.proofs.Stages.{IsDue, Seen, Sleeps, Stage, Stands, Turns, rank_of}
 use Rattle.leading_runs.proofs.Standing.{standing as standing-of}
 use Rattle.leading_runs.proofs.Walking.{Goes, Keeps, Leave, Within, goes-none}
-use Rattle.lease_inputs.proofs.EveryInput.{kept-wake}
-use Rattle.lease_parts.proofs.Ending.{kept-loss}
-use Rattle.lease_parts.proofs.Quiet.{kept-quiet}
-use Rattle.lease_parts.proofs.Streams.{keeps-acknowledge, keeps-receive-at-most}
-use Rattle.lease_parts.specs.Bridged.{Bridged}
-use Rattle.lease_parts.specs.Kept.{IsKept}
+use Rattle.lease_owners.specs.Kept.{IsOwned}
+use Rattle.lease_owners.proofs.EveryRun.{acknowledged-owned, lost-owned, noted-owned, received-owned, stand-numbered, wake-owned}
 use Rattle.pat_base.specs.declared.member_id.TheConstants.{MOST_MEMBERS}
 use Rattle.run_promise.specs.Members.{IsDeclared}
 use Rattle.script_model.specs.Script.{HeadText, names_of}
@@ -47,77 +43,74 @@ module _ (head : HeadText) (few : length (names_of head) ≤ MOST_MEMBERS) (memb
   N = member.id.number
 
   -- ---- what happens elsewhere and beside
-  pub goes-beside : (rank : ℕ) (book : List Event) (cluster : Cluster) (events : List Event)
-      → Bridged head book cluster → Within head member rank cluster → Leave head member book cluster events
-      → IsKept head book cluster events → AreElsewhere N cluster events
+  pub goes-beside : (rank : ℕ) (cluster : Cluster) (events : List Event)
+      → IsOwned head cluster → Within head member rank cluster → Leave head member cluster events
+      → IsOwned head (cluster_over cluster events) → AreElsewhere N cluster events
       → ((last : ℕ) → last ≤ cluster.facts.sent → AllAre (IsBeside N last) events)
-      → Goes head member (Within head member rank) book cluster events
-  goes-beside rank book cluster events good within leave kept elsewhere beside =
-      let then = kept.behind leave.meets in
-      record {
-        good = then;
-        within = (
-          within.0,
-          phase-beside head book (book ++ events) member rank within.0 cluster events good then leave.alone within.1
-              elsewhere beside,
-        );
-        serves = serves-elsewhere N cluster events elsewhere;
-      }
+      → Goes head member (Within head member rank) cluster events
+  goes-beside rank cluster events good within leave then elsewhere beside = record {
+    good = then;
+    within = (
+      within.0,
+      phase-beside head member rank within.0 cluster events good then leave within.1 elsewhere beside,
+    );
+    serves = serves-elsewhere N cluster events elsewhere;
+  }
 
   pub keeps-receive : (rank most : ℕ) (m : Member)
       → Keeps head member (Within head member rank) (Within head member rank)
       (λ cluster. receive_events_at_most cluster most m)
-  keeps-receive rank most m book cluster good within leave =
-      goes-beside rank book cluster (receive_events_at_most cluster most m) good within leave
-      (keeps-receive-at-most head most m book cluster good) (receives-elsewhere N cluster most m)
+  keeps-receive rank most m cluster good within leave =
+      goes-beside rank cluster (receive_events_at_most cluster most m) good within leave
+      (received-owned head cluster most m good) (receives-elsewhere N cluster most m)
       (λ last low. receives-beside N last cluster most m)
 
   pub keeps-acknowledges : (rank : ℕ) (m : Member)
       → Keeps head member (Within head member rank) (Within head member rank) (λ cluster. acknowledge_events cluster m)
-  keeps-acknowledges rank m book cluster good within leave =
-      goes-beside rank book cluster (acknowledge_events cluster m) good within leave
-      (keeps-acknowledge head m book cluster good) (acknowledges-elsewhere N cluster m)
+  keeps-acknowledges rank m cluster good within leave =
+      goes-beside rank cluster (acknowledge_events cluster m) good within leave
+      (acknowledged-owned head cluster m good) (acknowledges-elsewhere N cluster m)
       (λ last low. acknowledges-beside N last cluster m)
 
-  keeps-frozen : (rank : ℕ) (m : Member) (found : Option Bool) (book : List Event) (cluster : Cluster)
-      → Bridged head book cluster → Within head member rank cluster
-      → Leave head member book cluster
+  keeps-frozen : (rank : ℕ) (m : Member) (found : Option Bool) (cluster : Cluster)
+      → IsOwned head cluster → Within head member rank cluster
+      → Leave head member cluster
       (for_some found (λ frozen. cond frozen [] (receive_events_at_most cluster all_entries m)))
-      → Goes head member (Within head member rank) book cluster
+      → Goes head member (Within head member rank) cluster
       (for_some found (λ frozen. cond frozen [] (receive_events_at_most cluster all_entries m)))
-  keeps-frozen rank m None book cluster good within leave =
-      goes-none head member (Within head member rank) book cluster good within
-  keeps-frozen rank m (Some true) book cluster good within leave =
-      goes-none head member (Within head member rank) book cluster good within
-  keeps-frozen rank m (Some false) book cluster good within leave =
-      keeps-receive rank all_entries m book cluster good within leave
+  keeps-frozen rank m None cluster good within leave =
+      goes-none head member (Within head member rank) cluster good within
+  keeps-frozen rank m (Some true) cluster good within leave =
+      goes-none head member (Within head member rank) cluster good within
+  keeps-frozen rank m (Some false) cluster good within leave =
+      keeps-receive rank all_entries m cluster good within leave
 
   pub keeps-receives : (rank : ℕ) (m : Member)
       → Keeps head member (Within head member rank) (Within head member rank) (λ cluster. receive_events_of cluster m)
-  keeps-receives rank m book cluster good within leave =
-      keeps-frozen rank m (slice_get cluster.facts.frozen m.id.number) book cluster good within leave
+  keeps-receives rank m cluster good within leave =
+      keeps-frozen rank m (slice_get cluster.facts.frozen m.id.number) cluster good within leave
 
   pub keeps-note : (rank : ℕ) (note : Note)
       → Keeps head member (Within head member rank) (Within head member rank)
       (λ cluster. event_of cluster (kinds.Note note))
-  keeps-note rank note book cluster good within leave =
-      goes-beside rank book cluster (event_of cluster (kinds.Note note)) good within leave
-      (kept-quiet head book cluster (kinds.Note note) tt good) (tt, tt) (λ last low. (tt, tt))
+  keeps-note rank note cluster good within leave =
+      goes-beside rank cluster (event_of cluster (kinds.Note note)) good within leave
+      (noted-owned head cluster note good) (tt, tt) (λ last low. (tt, tt))
 
   pub keeps-loss : (rank number : ℕ)
       → Keeps head member (Within head member rank) (Within head member rank)
       (λ cluster. event_of cluster (kinds.Message (Lost number)))
-  keeps-loss rank number book cluster good within leave =
-      goes-beside rank book cluster (event_of cluster (kinds.Message (Lost number))) good within leave
-      (kept-loss head book cluster number good) (tt, tt) (λ last low. (tt, tt))
+  keeps-loss rank number cluster good within leave =
+      goes-beside rank cluster (event_of cluster (kinds.Message (Lost number))) good within leave
+      (lost-owned head cluster number good) (tt, tt) (λ last low. (tt, tt))
 
   -- ---- another member's agent is woken
   pub wakes-other : (rank : ℕ) (m : Member) → N ≢ m.id.number → IsDeclared head m
       → Keeps head member (Within head member rank) (Within head member rank) (λ cluster. wake_events_of cluster m)
-  wakes-other rank m other declared book cluster good within leave =
-      let numbered : AreNumbered cluster = good.matched.failsafe.numbered in
-      goes-beside rank book cluster (wake_events_of cluster m) good within leave
-      (kept-wake head book cluster m declared good) (wake-elsewhere N m other cluster numbered)
+  wakes-other rank m other declared cluster good within leave =
+      let numbered : AreNumbered cluster = stand-numbered head few cluster good in
+      goes-beside rank cluster (wake_events_of cluster m) good within leave
+      (wake-owned head few cluster m declared good) (wake-elsewhere N m other cluster numbered)
       (λ last low. (
         tt,
         input-beside N last m other no_message (outcome_of cluster m Wake)
@@ -172,24 +165,24 @@ module _ (head : HeadText) (few : length (names_of head) ≤ MOST_MEMBERS) (memb
       turn.waits)
       (machine_of cluster member)
 
-  pub wake-rests : (rank : ℕ) (book : List Event) (cluster : Cluster) (process : AgentProcess)
-      → Bridged head book cluster
+  pub wake-rests : (rank : ℕ) (cluster : Cluster) (process : AgentProcess)
+      → IsOwned head cluster
       → Within head member rank cluster → has_work (moment_of cluster) (standing_of cluster member) ≡ false
-      → Leave head member book cluster (wake_events_if cluster member process)
-      → Goes head member (Within head member rank) book cluster (wake_events_if cluster member process)
-  wake-rests rank book cluster process good within none leave =
+      → Leave head member cluster (wake_events_if cluster member process)
+      → Goes head member (Within head member rank) cluster (wake_events_if cluster member process)
+  wake-rests rank cluster process good within none leave =
       let nothing : wake_events_if cluster member process ≡ [] =
       ap (λ (b : Bool). cond b (wake_events_of cluster member) [])
       (second-false (may_act process) (has_work (moment_of cluster) (standing_of cluster member)) none) in
-      subst (Goes head member (Within head member rank) book cluster) (sym nothing)
-      (goes-none head member (Within head member rank) book cluster good within)
+      subst (Goes head member (Within head member rank) cluster) (sym nothing)
+      (goes-none head member (Within head member rank) cluster good within)
 
-  pub due-has-work : (seen : Seen) (cluster : Cluster) (book : List Event) → Bridged head book cluster
+  pub due-has-work : (seen : Seen) (cluster : Cluster) → IsOwned head cluster
       → (stands : Stands member seen cluster) → seen.agent.knows.waited ≡ None
       → seen.clock ≡ seen.agent.knows.next_turn.0
       → is_to_wake (moment_of cluster) seen.process (standing_of cluster member) ≡ true
-  due-has-work seen cluster book good stands waits due =
-      let here = standing-of head book cluster member seen good stands in
+  due-has-work seen cluster good stands waits due =
+      let here = standing-of head cluster member seen good stands in
       let o : Outcome = here.o in
       ap (λ (b : Bool). b && has_work (moment_of cluster) (standing_of cluster member)) stands.acts
       ∙ ap (has_work (moment_of cluster)) here.stands

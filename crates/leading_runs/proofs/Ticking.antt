@@ -1,5 +1,5 @@
 -- A tick finds a steady leader asleep, and the rounds behind it end its turn.
-use Rattle.std.proofs.Common.{Bool, List, None, Option, Some, [], ap, arith, false, inl, inr, length, nat_le, option_and_then, refl, slice_get, subst, suc, sym, true, ℕ, ◌++◌, ◌+◌, ◌<◌, ◌∙◌, ◌∷◌, ◌≡◌, ◌≤◌}
+use Rattle.std.proofs.Common.{Bool, List, None, Option, Some, [], ap, arith, false, inl, inr, length, nat_le, option_and_then, refl, slice_get, subst, suc, sym, true, ℕ, ◌+◌, ◌<◌, ◌∙◌, ◌∷◌, ◌≡◌, ◌≤◌}
 use Rattle.agent_model.specs.Agents.{AgentFacts}
 use Rattle.cluster_model.specs.Cluster.{cluster_over}
 use Rattle.cluster_model.specs.Limits.{most_rounds}
@@ -12,13 +12,14 @@ use Rattle.event_book.specs.Kinds.{AllAre}
 use Rattle.event_book.specs.declared.event.Event.{Event}
 use Rattle.event_book.specs.declared.member.Member.{Member}
 use Rattle.leading_parts.proofs.Aside.{aside-beside, leaves-over, serves-elsewhere}
-use Rattle.leading_parts.proofs.Askers.{asks-renewal}
+use Rattle.leading_parts.proofs.Askers.{asks-own}
 use Rattle.leading_parts.proofs.Entry.{tick-leaves as key-ticks}
 use Rattle.leading_parts.proofs.Settings.{settings-ticked}
 use Rattle.leading_parts.proofs.Ticked.{Rest, Ticked, rest-elsewhere, tick-leaves}
 use Rattle.leading_parts.specs.Aside.{IsBeside, IsOther, LeavesMail}
 use Rattle.leading_parts.specs.Elsewhere.{AreElsewhere, StandsSame}
-use Rattle.leading_parts.specs.Holding.{AsksRenewalOf, IsMemberOf, LeavesKey, LeavesSettings}
+use Rattle.lease_owners.specs.Asking.{AsksFor}
+use Rattle.leading_parts.specs.Holding.{IsMemberOf, LeavesKey, LeavesSettings}
 use Rattle.leading_parts.specs.Ticked.{FiresPast}
 use Rattle.leading_runs.proofs.Keeping.{options-over, other-harmless, settings-same, undisturbed-left}
 use Rattle.leading_runs.proofs.Rounds.{round}
@@ -28,8 +29,9 @@ use Rattle.leading_runs.proofs.Walking.{Goes, Keeps, Leave, Within, keeps-each, 
 use Rattle.lease_model.specs.Showing.{IsLocal}
 use Rattle.lease_model.proofs.Tools.{gt-from, le-from}
 use Rattle.lease_model.specs.Stores.{leader_key_of}
-use Rattle.lease_parts.proofs.Ticks.{IsBeside as IsBesideTick, keeps-tick, rest-beside}
-use Rattle.lease_parts.specs.Bridged.{Bridged}
+use Rattle.lease_parts.proofs.Ticks.{IsBeside as IsBesideTick, rest-beside}
+use Rattle.lease_owners.proofs.EveryRun.{tick-owned}
+use Rattle.lease_owners.specs.Kept.{IsOwned}
 use Rattle.lease_store.specs.KeyOrder.{key_cmp}
 use Rattle.lease_store.specs.Keys.{Keys}
 use Rattle.pat_base.specs.declared.member_id.TheConstants.{MOST_MEMBERS}
@@ -72,22 +74,22 @@ module _ (head : HeadText) (few : length (names_of head) ≤ MOST_MEMBERS) (memb
     rest-besides last events all.1,
   )
 
-  module _ (book : List Event) (cluster : Cluster) (good : Bridged head book cluster) (seen : Seen)
+  module _ (cluster : Cluster) (good : IsOwned head cluster) (seen : Seen)
       (stands : Stands member seen cluster) (waits : seen.agent.knows.waited ≡ None)
       (still : seen.clock < next_seen seen) (past : LastsOn seen)
       (none : (i : ℕ) (one : InFlightFacts) → in_flight cluster.facts.flight i ≡ Some one →
-      AsksRenewalOf seen.key.revision one.message.body → ⊥)
+      AsksFor seen.key.revision one.message.body → ⊥)
       (older : (i : ℕ) (one : InFlightFacts) → in_flight cluster.facts.flight i ≡ Some one →
       IsOwn member seen one.message → one.message.sequence < seen.agent.knows.sequence + 1)
-      (leave : Leave head member book cluster (tick_events cluster)) where
+      (leave : Leave head member cluster (tick_events cluster)) where
     abbrev Tick_first : Cluster
     Tick_first = Ticked N cluster
 
     abbrev After : Cluster
     After = cluster_over cluster (tick_events cluster)
 
-    then : Bridged head (book ++ tick_events cluster) After
-    then = (keeps-tick head few book cluster good).behind leave.meets
+    then : IsOwned head After
+    then = tick-owned head cluster good
 
     now-next : cluster.facts.clock + 1 ≤ next_seen seen
     now-next = omega (arith, still, stands.clock_is)
@@ -102,7 +104,7 @@ module _ (head : HeadText) (few : length (names_of head) ≤ MOST_MEMBERS) (memb
     left : LeavesMail N 0 Tick_first After
     left = leaves-over N 0 Tick_first (Rest N cluster)
         (rest-besides 0 (Rest N cluster) (rest-beside (λ n. Unit {0}) cluster (λ n lives. tt)))
-        leave.alone.1 good.matched.flight.order (omega arith)
+        leave.1 good.facts.order (omega arith)
 
     same : StandsSame N cluster After
     same = tick-leaves N cluster outlasts stands.primary
@@ -112,15 +114,15 @@ module _ (head : HeadText) (few : length (names_of head) ≤ MOST_MEMBERS) (memb
 
     leader-left : LeavesKey cluster After
     leader-left = ap (λ (k : Keys). find key_cmp keys.Leader k.pairs) left.keys
-        ∙ key-ticks head book cluster seen.key good stands.key_is key-lasts
+        ∙ key-ticks head cluster seen.key good stands.key_is key-lasts
 
     settings-left-so : LeavesSettings cluster After
     settings-left-so =
-        let ticked = settings-ticked head book cluster good in
+        let ticked = settings-ticked head cluster good in
         let rest = settings-same Tick_first After left.keys in
         record {
           config = rest.config ∙ ticked.config;
-          failover = λ absent. rest.failover (ticked.failover absent);
+          unasked = λ absent. rest.unasked (ticked.unasked absent);
         }
 
     stands-later : Stands member (later seen) After
@@ -144,14 +146,14 @@ module _ (head : HeadText) (few : length (names_of head) ≤ MOST_MEMBERS) (memb
     }
 
     tick-only : (i : ℕ) (one : InFlightFacts) → in_flight After.facts.flight i ≡ Some one
-        → AsksRenewalOf seen.key.revision one.message.body → ⊥
+        → AsksFor seen.key.revision one.message.body → ⊥
     tick-only i one found asks = by (left.fresh i one found)
       where
         by : (in_flight cluster.facts.flight i ≡ Some one) ⊎ IsOther N one.message.from → ⊥
         by (inl was) = none i one was asks
         by (inr other) = (other-harmless member seen 0 one.message other).unasked
             (subst (λ (n : ℕ). IsMemberOf n one.message.from) stands.holder
-            (asks-renewal head (book ++ tick_events cluster) After seen.key i one then stands-later.key_is found asks))
+            (asks-own head After then i one found seen.key stands-later.key_is asks))
             asks
 
     tick-older : (i : ℕ) (one : InFlightFacts) → in_flight After.facts.flight i ≡ Some one
@@ -191,7 +193,7 @@ module _ (head : HeadText) (few : length (names_of head) ≤ MOST_MEMBERS) (memb
       },
     )
 
-    goes-tick : Goes head member (In 7) book cluster (tick_events cluster)
+    goes-tick : Goes head member (In 7) cluster (tick_events cluster)
     goes-tick = record {
       good = then;
       within = ticked (sooner seen.clock (next_seen seen) still (nat_le (next_seen seen) (seen.clock + 1)) refl);
@@ -202,17 +204,17 @@ module _ (head : HeadText) (few : length (names_of head) ≤ MOST_MEMBERS) (memb
   no-rank : (n : ℕ) → suc n ≤ 0 → ⊥
   no-rank n e = omega (arith, e)
 
-  tick-by : (book : List Event) (cluster : Cluster) (good : Bridged head book cluster) (seen : Seen)
+  tick-by : (cluster : Cluster) (good : IsOwned head cluster) (seen : Seen)
       (stands : Stands member seen cluster) (stage : Stage member seen) → rank_of member seen stage ≤ 0
       → OnlyMail member seen stage cluster.facts.flight → OlderMail member seen stage cluster.facts.flight
-      → Leave head member book cluster (tick_events cluster)
-      → Goes head member (In 7) book cluster (tick_events cluster)
-  tick-by book cluster good seen stands (Sleeps waits still past) less only older leave =
-      goes-tick book cluster good seen stands waits still past only
+      → Leave head member cluster (tick_events cluster)
+      → Goes head member (In 7) cluster (tick_events cluster)
+  tick-by cluster good seen stands (Sleeps waits still past) less only older leave =
+      goes-tick cluster good seen stands waits still past only
       (λ i one found own. older i one found (λ no. no) own)
       leave
-  tick-by book cluster good seen stands (IsDue waits due) less only older leave = absurd (no-rank 6 less)
-  tick-by book cluster good seen stands (Turns number carried turn mail) less only older leave =
+  tick-by cluster good seen stands (IsDue waits due) less only older leave = absurd (no-rank 6 less)
+  tick-by cluster good seen stands (Turns number carried turn mail) less only older leave =
       absurd (by mail less)
     where
       by : (mail : Mail member seen turn.waited carried) → mail_rank member seen turn.waited carried mail ≤ 0 → ⊥
@@ -224,15 +226,15 @@ module _ (head : HeadText) (few : length (names_of head) ≤ MOST_MEMBERS) (memb
       by (Decides settling asks past txn writes request decision is granted grant sets) e = no-rank 0 e
 
   pub keeps-ticks : Keeps head member (In 0) (In 7) tick_events
-  keeps-ticks book cluster good within leave =
+  keeps-ticks cluster good within leave =
       let phase = within.1 in
-      tick-by book cluster good phase.seen phase.stands phase.stage phase.ranked phase.only phase.older leave
+      tick-by cluster good phase.seen phase.stands phase.stage phase.ranked phase.only phase.older leave
 
   -- ---- a tick of the default schedule
   keeps-receiving : Keeps head member (In 7) (In 7) (λ cluster. each receive_events_of cluster cluster.facts.members)
-  keeps-receiving book cluster good within leave =
+  keeps-receiving cluster good within leave =
       keeps-each head member (In 7) receive_events_of
-      (keeps-receives head few member 7) cluster.facts.members book cluster
+      (keeps-receives head few member 7) cluster.facts.members cluster
       good within leave
 
   pub keeps-scheduled : Keeps head member (In 7) (In 0) scheduled_events

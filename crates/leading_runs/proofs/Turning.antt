@@ -12,7 +12,6 @@ use Rattle.lease_store.specs.KeyOrder.{key_cmp}
 use Rattle.cluster_view.specs.KeyValues.{failover_by}
 use Rattle.cluster_view.specs.Snapshots.{SnapshotFacts, value_by}
 use Rattle.script_model.specs.Script.{HeadText}
-use Rattle.event_book.specs.declared.event.Event.{Event}
 use Rattle.event_book.specs.declared.event.EventKind.TheVariants as kinds
 use Rattle.event_book.specs.declared.event.AgentEvent.TheVariants as agents
 use Rattle.event_book.specs.declared.event.MessageEvent.TheVariants.{Delivered}
@@ -45,7 +44,7 @@ use Rattle.cluster_model.specs.Machines.{points_of}
 use Rattle.cluster_model.specs.Messages.{answer_message, hear_events, heard_message, input_events, no_message, wake_events_of}
 use Rattle.cluster_model.specs.State.{Cluster}
 use Rattle.cluster_model.proofs.Places.{eq-self}
-use Rattle.lease_parts.specs.Bridged.{Bridged}
+use Rattle.lease_owners.specs.Kept.{IsOwned}
 use Rattle.leading_law.specs.Leading.{AreTold, AsksRenewal, BeginsTurn}
 use Rattle.leading_law.specs.OwnInputs.{GoesOn, HasRoom, TakesTurn}
 use Rattle.leading_law.proofs.Inputs.{goes-on, takes-turn}
@@ -103,13 +102,13 @@ told-room member said cluster later heard o process sequence body before stands 
     stands outs alone))
 
 -- ---- its turn is due: it asks to read
-module _ (head : HeadText) (book : List Event) (member : Member) (cluster : Cluster) (seen : Seen)
-    (good : Bridged head book cluster) (stands : Stands member seen cluster)
+module _ (head : HeadText) (member : Member) (cluster : Cluster) (seen : Seen)
+    (good : IsOwned head cluster) (stands : Stands member seen cluster)
     (waits : seen.agent.knows.waited ≡ None) (due : seen.clock ≡ next_seen seen)
     (alone : IsAlone member seen (seen.agent.knows.sequence + 1) cluster.facts.flight)
     (left : LeaveAlone member.id.number cluster (wake_events_of cluster member)) where
   abbrev Here : StandsLeading member seen.agent seen.options cluster
-  Here = standing head book cluster member seen good stands
+  Here = standing head cluster member seen good stands
 
   abbrev O : Outcome
   O = Here.o
@@ -199,8 +198,8 @@ module _ (head : HeadText) (book : List Event) (member : Member) (cluster : Clus
   }
 
 -- ---- what it read comes: it asks for the renewal
-module _ (head : HeadText) (book : List Event) (member : Member) (cluster : Cluster) (seen : Seen) (number : ℕ)
-    (carried : InFlightFacts) (turn : InTurn seen) (good : Bridged head book cluster)
+module _ (head : HeadText) (member : Member) (cluster : Cluster) (seen : Seen) (number : ℕ)
+    (carried : InFlightFacts) (turn : InTurn seen) (good : IsOwned head cluster)
     (stands : Stands member seen cluster) (flies : in_flight cluster.facts.flight number ≡ Some carried)
     (asks : turn.waited.question ≡ Reading) (last : seen.agent.knows.last_turn ≡ Some (record { 0 = seen.clock }))
     (is : carried.message ≡ answer_message (Asked member seen turn.waited.sequence bodies.Read) bodies.Snapshot)
@@ -210,7 +209,7 @@ module _ (head : HeadText) (book : List Event) (member : Member) (cluster : Clus
     (alone : IsAlone member seen seen.agent.knows.sequence (without_message cluster.facts.flight number))
     (left : LeaveAlone member.id.number cluster (hear_events cluster number carried member)) where
   abbrev HereR : StandsLeading member seen.agent seen.options cluster
-  HereR = standing head book cluster member seen good stands
+  HereR = standing head cluster member seen good stands
 
   abbrev R : Outcome
   R = HereR.o
@@ -235,7 +234,7 @@ module _ (head : HeadText) (book : List Event) (member : Member) (cluster : Clus
 
   is-mine : hears.leader.holder.number == R.knows.who.me.number ≡ true
   is-mine = ap (λ (k : Knowledge). hears.leader.holder.number == k.who.me.number) HereR.knows
-      ∙ ap (λ (n : ℕ). hears.leader.holder.number == n) (knows-itself head book cluster member seen good stands).me
+      ∙ ap (λ (n : ℕ). hears.leader.holder.number == n) (knows-itself head cluster member seen good stands).me
       ∙ hears.mine
 
   asked : AsksRenewal (moment_of cluster) Snapshot hears.leader.revision R

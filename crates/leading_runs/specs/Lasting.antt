@@ -9,7 +9,6 @@ use Rattle.cluster_model.specs.Cluster.{cluster_over}
 use Rattle.cluster_model.specs.Next.{run_events}
 use Rattle.cluster_model.specs.Starting.{cluster_of}
 use Rattle.cluster_model.specs.State.{Cluster}
-use Rattle.lease_parts.specs.Kept.{MeetsPremises}
 use Rattle.leading_parts.specs.Alone.{LeaveAlone}
 use Rattle.leading_runs.specs.Schedule.{KeepSchedule}
 use Rattle.leading_runs.specs.Steady.{IsSteady}
@@ -28,10 +27,10 @@ pub record LeadsOnOver (head : HeadText) (before later : List Step) (member : Me
   pub writes : (front rest : List Event) → front ++ rest ≡ events_behind head before later
       → AcceptsWrites (run_events (cluster_of head) before ++ front) member.id.number
 
--- wherever a run of these steps is cut: who is a steady leader behind the first of them is one over those
--- that follow, up to where these leave it alone and the premises of one writer are met
+-- wherever a run of these steps is cut: who is a steady leader behind the first
+-- of them is one over those that follow, up to where these leave it alone
 abbrev pub LeadOn : HeadText → List Step → Type 0
 LeadOn head steps = (before later rest : List Step) (member : Member) → (before ++ later) ++ rest ≡ steps
     → KeepSchedule later → IsSteady member (cluster_behind head before)
     → LeaveAlone member.id.number (cluster_behind head before) (events_behind head before later)
-    → MeetsPremises head (run_events (cluster_of head) (before ++ later)) → LeadsOnOver head before later member
+    → LeadsOnOver head before later member

@@ -21,7 +21,7 @@ use Rattle.agent_model.specs.Agents.{AgentFacts, Leader}
 use Rattle.cluster_model.specs.Inputs.{agent_at, may_act}
 use Rattle.cluster_model.specs.State.{Cluster}
 use Rattle.lease_model.specs.Leases.{LeaderKey}
-use Rattle.leading_parts.specs.Holding.{HasKey, NoneRenews}
+use Rattle.leading_parts.specs.Holding.{HasKey, IsUnasked, NoneAsks}
 use Rattle.leading_parts.specs.Ticked.{FiresPast, IsPrimary}
 
 -- the agent of a member runs, leads, and waits for nothing; no operator
@@ -53,11 +53,11 @@ pub record SetsConfig (config : Config) (found : Option KeyEntry) : Type 0 where
   pub value : entry.value ≡ values.Config settings
   pub config_is : settings.config ≡ config
 
--- the key store holds this configuration, which doesn't pause, and no failover key
+-- the key store holds this configuration, which doesn't pause, and nothing that operators ask for
 pub record IsUndisturbed (config : Config) (cluster : Cluster) : Type 0 where
   pub sets : SetsConfig config (find key_cmp keys.Config cluster.facts.keys.pairs)
   pub unpaused : config.pause ≡ false
-  pub failover : find key_cmp keys.Failover cluster.facts.keys.pairs ≡ None
+  pub unasked : IsUnasked cluster.facts.keys.pairs
 
 -- its watchdog is on and its device works, and turns come sooner than
 -- the watchdog fires, and than a lease ends, by these settings
@@ -88,7 +88,7 @@ pub record IsSteady (member : Member) (cluster : Cluster) : Type 0 where
   pub leads : IsLeading member cluster
   pub primary : IsPrimary member.id.number cluster
   pub key : HasKeyPast leads.agent.knows.next_turn.0 member cluster
-  pub alone : NoneRenews key.key.revision cluster.facts.flight
+  pub alone : NoneAsks key.key.revision cluster.facts.flight
   pub counted : AreCounted member.id.number leads.process.incarnation leads.agent.knows.sequence cluster.facts.flight
   pub guard : FiresPast leads.agent.knows.next_turn.0 (slice_get cluster.facts.deadlines member.id.number)
   pub settings : IsUndisturbed leads.agent.knows.settings cluster

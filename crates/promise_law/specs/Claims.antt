@@ -23,7 +23,7 @@ pub record KeepsPromises (played : Played) : Type 0 where
   pub one_primary : WhereMet played.head (run_of played) (FindsOne played.head)
   -- A healthy primary is never demoted for another's fault: wherever the run is cut, who is a steady leader there
   -- is one over what follows, and its server accepts writes, as long as nothing happens to its own machine and
-  -- to its messages with the key store, no operator asks for a change, and the premises are met.
+  -- to its messages with the key store, and no operator asks for a change. It needs none of the premises.
   pub leads_on : LeadOn played.head played.steps
   -- With synchronous mode on from the beginning each server that accepts writes has each commit that a
   -- client was told of, at each moment of the run up to which the premises are met and the mode stays on.

@@ -1,4 +1,4 @@
-use Rattle.leading_law.proofs.Inputs.{bridged-ask, bridged-failsafe, drops-it, drops-peers, goes-on, leads-on-at, settles-granted, settles-refused, sleeps-on, takes-turn, waits-on}
+use Rattle.leading_law.proofs.Inputs.{drops-it, drops-peers, goes-on, leads-on-at, numbered-ask, numbered-failsafe, settles-granted, settles-refused, sleeps-on, takes-turn, waits-on}
 use Rattle.leading_law.proofs.laws.a_leaders_inputs_in_the_cluster.Goals as goal
 
 pub returns : goal.returns
@@ -12,8 +12,8 @@ returns c = record {
   peers = drops-peers;
   syncs = settles-granted;
   unsynced = settles-refused;
-  answers = λ head book member cluster process o number carried good found stands leads flies to.
-      bridged-ask head book member cluster process o number carried good found stands leads flies to;
-  refuses = λ head book member cluster process o number carried good found stands leads flies to.
-      bridged-failsafe head book member cluster process o number carried good found stands leads flies to;
+  answers = λ member cluster process o number carried numbers found stands leads flies to.
+      numbered-ask member cluster process o number carried numbers found stands leads flies to;
+  refuses = λ member cluster process o number carried numbers found stands leads flies to.
+      numbered-failsafe member cluster process o number carried numbers found stands leads flies to;
 }

@@ -1,0 +1,13 @@
+pub mod Asking
+pub mod Entry
+pub mod Revisions
+pub mod Flights
+pub mod Agents
+pub mod Stills
+pub mod Parts
+pub mod ToStore
+pub mod Arrivals
+pub mod Inputs
+pub mod Hearing
+pub mod First
+pub mod EveryRun
